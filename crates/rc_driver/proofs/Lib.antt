@@ -1,0 +1,13 @@
+mod CutLoop
+mod Cuts
+mod EmptyLines
+mod FormLoops
+mod HeadlineLaws
+mod Numerals
+mod OneForm
+mod PerformLaws
+mod RunLaws
+mod StepsMean
+mod TextsRead
+mod ToldLaws
+mod Written

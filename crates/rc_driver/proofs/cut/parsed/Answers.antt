@@ -1,0 +1,17 @@
+use Rattle.std.proofs.Common.{◌≡◌, ◌≤◌, ◌∙◌, ℕ, List, arith, ap, sym, subst}
+use Rattle.std.specs.Fmt.{decimal}
+use Rattle.std.specs.Result.{result_ok}
+use Rattle.std.specs.Str.{IsUtf8}
+use Rattle.std.proofs.lemmas.Fmt.{parse-decimal, IsAscii-decimal}
+use Rattle.std.proofs.lemmas.Str.{IsUtf8-from_ascii}
+use Rattle.rc_driver.proofs.cut.parsed.Goals as goal
+
+is_text : (bytes : List ℕ) (n : ℕ) → n ≤ 2147483647 → bytes ≡ decimal n → IsUtf8 bytes
+is_text bytes n small is = subst IsUtf8 (sym is) (IsUtf8-from_ascii (decimal n) (IsAscii-decimal n (omega arith)))
+
+pub returns-in_default : goal.returns-in_default
+returns-in_default c = λ n small is. absurd (c.in_default.ensures.cases.0 (is_text c.args.bytes.now n small is))
+
+pub returns : goal.returns
+returns c = λ n small is.
+    c.ok.ensures.value ∙ ap result_ok (parse-decimal 32 n c.in-Ok.text.now c.parse.result (omega arith) (omega arith) (c.in-Ok.ensures.cases.0 ∙ is) c.parse.ensures.value.0)
