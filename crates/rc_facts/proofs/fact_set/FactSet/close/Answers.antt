@@ -1,0 +1,18 @@
+use Rattle.std.proofs.Common.{◌∙◌, ap, length, sym}
+use Rattle.std.proofs.lemmas.List.{with_items_is}
+use Rattle.rc_facts.specs.Inside.{fields}
+use Rattle.rc_facts.proofs.SetLaws.{Turns, derived}
+use Rattle.rc_facts.proofs.fact_set.FactSet.close.Goals as goal
+
+pub returns-clause-facts : goal.returns-clause-facts
+returns-clause-facts c =
+    let s = c.self.inside in
+    let now = c.close_rows.new in
+    let turns : Turns (fields s.within.items s.above.items s.traditional s.present) (fields now.within now.above now.traditional now.present) c.args.self.now = record {
+      is = c.self.view_is;
+      sound = c.self.invariant;
+      same_within = c.close_rows.auto.within ∙ ap length c.deref_mut.ensures.value;
+      same_above = c.close_rows.auto.above ∙ ap length c.deref_mut-2.ensures.value;
+    } in
+    rw (with_items_is s.within now.within (turns.same_within ∙ sym s.within.ok.0), with_items_is s.above now.above (turns.same_above ∙ sym s.above.ok.0))
+    (derived turns c.close_rows.ensures.sound (rw (c.deref_mut.ensures.value, c.deref_mut-2.ensures.value) at c.close_rows.ensures.facts))

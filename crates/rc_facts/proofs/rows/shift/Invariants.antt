@@ -1,0 +1,8 @@
+use Rattle.std.proofs.Common.{◌&&◌, ◌==◌, not}
+use Rattle.rc_facts.specs.Rows.{links}
+use Rattle.rc_facts.specs.Facts.{replaced}
+use Rattle.rc_facts.proofs.RowLoops.{Written}
+use Rattle.rc_facts.proofs.rows.shift.Given as goal
+
+abbrev pub invariant-loop-row : goal.invariant-loop-row
+invariant-loop-row l = Written l.initial.rows l.rows l.row-index (λ x y. links l.initial.rows x (replaced l.to l.from y) && not (y == l.from))

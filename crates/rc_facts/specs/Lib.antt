@@ -1,0 +1,4 @@
+pub mod Derivable
+pub mod Facts
+pub mod Inside
+pub mod Rows

@@ -1,0 +1,15 @@
+//! Facts about the regions that variables name, sets of them, and what follows from a set.
+#![tactic(auto)]
+
+mod closing;
+mod fact;
+mod fact_set;
+mod row;
+mod rows;
+mod spread;
+
+pub use fact::Fact;
+pub use fact_set::FactSet;
+
+#[cfg(test)]
+mod tests;

@@ -1,0 +1,4 @@
+pub mod BigLiteral
+pub mod CellLaws
+pub mod PageMemory
+pub mod Walks

@@ -1,0 +1,65 @@
+// Spare pages.
+ghost use Rattle.std.specs.Prelude.{◌≡◌, ◌+◌, ◌-◌, ◌<◌, IfOk};
+
+use crate::page::Page;
+use rc_base::NoMemory;
+use std::alloc::Global;
+use std::marker::Model;
+
+/// Keeps pages that were given back, up to its number of places, so that lists can use them again.
+/// Contracts see the places and how many of them have a page.
+#[derive(Drop)]
+pub struct Bank {
+    pages: Vec<Page>,
+    places: u32,
+}
+
+impl Model for Bank {
+    ghost use Rattle.std.specs.Prelude.{◌≤◌, length, vec_capacity};
+    ghost use Rattle.rc_pages.specs.Cells.{BankState};
+
+    ghost Value = { BankState };
+
+    ghost view = { λ b. record { places = b.places; kept = length b.pages.items } };
+
+    ghost invariant = { λ b. (length b.pages.items ≤ b.places) × (b.places ≤ vec_capacity b.pages) };
+}
+
+impl Bank {
+    /// A bank without a page, with so many places.
+    pub fn new(alloc: Global, places: u32) -> Result<Bank, NoMemory>
+        ensures { IfOk result (λ bank. bank ≡ record { places = places; kept = 0 }) }
+    {
+        match Vec::with_capacity(alloc, places as usize) {
+            Ok(pages) => Ok(Bank { pages, places }),
+            Err(_) => Err(NoMemory),
+        }
+    }
+
+    pub(crate) fn kept(&self) -> usize
+        ensures { result ≡ self.now.kept }
+    {
+        self.pages.len()
+    }
+
+    /// Takes a page out. What it holds is not known.
+    pub(crate) fn take(&mut self) -> Page
+        requires { 0 < self.old.kept }
+        ensures { self.new ≡ record self.old { kept = self.old.kept - 1 } }
+    {
+        self.pages.pop().unwrap()
+    }
+
+    pub(crate) fn free_places(&self) -> usize
+        ensures { self.now.kept + result ≡ self.now.places }
+    {
+        self.places as usize - self.pages.len()
+    }
+
+    pub(crate) fn keep(&mut self, page: Page)
+        requires { self.old.kept < self.old.places }
+        ensures { self.new ≡ record self.old { kept = self.old.kept + 1 } }
+    {
+        self.pages.push(page).unwrap();
+    }
+}

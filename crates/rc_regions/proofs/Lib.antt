@@ -1,0 +1,9 @@
+pub mod Ancestors
+pub mod Changed
+pub mod Climbing
+pub mod Counted
+pub mod PutIn
+pub mod Sounds
+pub mod Stored
+pub mod TakenOut
+pub mod Writes

@@ -1,0 +1,16 @@
+use Rattle.std.proofs.Common.{◌≡◌, ◌≤◌, ◌+◌, ◌*◌, ◌^◌, count_ones}
+use Rattle.rc_regions.specs.Ascents.{ancestor}
+use Rattle.rc_regions.specs.Columns.{slots_of}
+use Rattle.rc_regions.specs.Slots.{IsLive}
+use Rattle.rc_regions.proofs.ascent.climb.Given as goal
+
+abbrev pub invariant-loop-rest : goal.invariant-loop-rest
+invariant-loop-rest g l = record {
+  live : IsLive (slots_of l.records) l.slot;
+  way : ancestor (slots_of l.records) (l.rest * 2 ^ l.power) l.slot ≡ ancestor (slots_of l.records) l.distance l.from;
+  low : l.rest * 2 ^ l.power ≤ l.distance;
+  cost : l.steps + count_ones l.rest ≡ l.fn.steps + count_ones l.distance;
+}
+
+abbrev pub decreases-loop-rest : goal.decreases-loop-rest
+decreases-loop-rest g l = l.rest

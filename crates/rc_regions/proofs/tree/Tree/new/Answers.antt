@@ -1,0 +1,17 @@
+use Rattle.std.proofs.Common.{◌≡◌, ℕ, zero, suc, [], ◌∷◌, None, Option, get_or, refl, sym, subst}
+use Rattle.rc_regions.specs.Columns.{columns, no_links}
+use Rattle.rc_regions.specs.Sound.{IsSound}
+use Rattle.rc_regions.proofs.Climbing.{get_or-zeros}
+use Rattle.rc_regions.proofs.Sounds.{IsSound-root, IsTree-sound}
+use Rattle.rc_regions.proofs.tree.Tree.new.Goals as goal
+
+none_else : (s : ℕ) → get_or {A = Option ℕ} (None ∷ []) s None ≡ None
+none_else zero = refl
+none_else (suc s) = refl
+
+pub invariant_of-result : goal.invariant_of-result
+unfolding no_links
+invariant_of-result c = subst (λ items. IsSound (columns items None)) (sym (rw c.new-records.ensures.items at c.in-Ok.ensures.items)) (IsSound-root _ refl refl none_else none_else none_else refl (get_or-zeros 32))
+
+pub returns-in-Ok-clause-tree : goal.returns-in-Ok-clause-tree
+returns-in-Ok-clause-tree c = IsTree-sound (columns c.push.new.self.items None) (invariant_of-result c)

@@ -1,0 +1,29 @@
+-- What holds of the records of a tree at every moment, and where a slot is about to be used.
+use Rattle.std.specs.Prelude.{◌≡◌, ◌<◌, ◌≤◌, ◌+◌, ◌^◌, ℕ, length}
+use Rattle.rc_regions.specs.declared.record.Slot.TheVariants.{Free}
+use Rattle.rc_regions.specs.Above.{IsRooted}
+use Rattle.rc_regions.specs.Ascents.{AreDepths, AreLinks}
+use Rattle.rc_regions.specs.Columns.{Columns}
+use Rattle.rc_regions.specs.Lists.{AllLinked, AllLinkedBut}
+use Rattle.rc_regions.specs.Slots.{live_slots, slot_at}
+
+pub record IsSound (c : Columns) : Type 0 where
+  pub linked : AllLinked c
+  pub rooted : IsRooted c.slots
+  pub depths : AreDepths c.slots c.depth
+  pub links : AreLinks c.slots c.links
+  -- so that a number of 32 bits names each slot
+  pub few : length c.slots ≤ 2 ^ 32
+
+-- a slot was free, and now stands in no list; it has a new record only where no slot was free
+pub record IsTaken (old new : Columns) (s : ℕ) : Type 0 where
+  pub was_free : slot_at old.slots s ≡ Free
+  pub made : s < length new.slots
+  pub loose : AllLinkedBut s new
+  pub slots : (t : ℕ) → slot_at new.slots t ≡ slot_at old.slots t
+  pub depth : new.depth ≡ old.depth
+  pub links : new.links ≡ old.links
+  pub live : live_slots new.slots ≡ live_slots old.slots
+  pub few : length new.slots ≤ 2 ^ 32
+  pub used_again : live_slots old.slots < length old.slots → length new.slots ≡ length old.slots
+  pub grown : live_slots old.slots ≡ length old.slots → length new.slots ≡ length old.slots + 1

@@ -1,0 +1,11 @@
+//! The tree of live regions, by slots that are used again.
+#![tactic(auto)]
+
+mod ascent;
+mod record;
+mod table;
+#[cfg(test)]
+mod tests;
+mod tree;
+
+pub use tree::Tree;

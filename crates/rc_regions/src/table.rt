@@ -1,0 +1,140 @@
+// The records of all slots, and the lists in which the slots stand.
+ghost use Rattle.std.specs.Prelude.{◌≡◌, ◌<◌, ◌≤◌, ℕ, Some, length, IfOk, OnErr};
+ghost use Rattle.rc_regions.specs.declared.record.Slot.TheVariants.{Free, Child};
+ghost use Rattle.rc_regions.specs.Above.{IsRooted};
+ghost use Rattle.rc_regions.specs.Columns.{ascended, columns_of};
+ghost use Rattle.rc_regions.specs.Slots.{live_slots};
+ghost use Rattle.rc_regions.specs.Sound.{IsSound, IsTaken};
+ghost use Rattle.rc_regions.specs.Lists.{AllLinked, first_of, linked, placed, spot, unlinked, with_first, with_follower, with_previous};
+
+use crate::record::{BLANK, LINKS, Record, Slot};
+use rc_base::NoMemory;
+
+/// Each slot but the root's stands in one list: the children of its parent, or the free slots. So a
+/// list has the name of what stands at its slots.
+#[derive(Drop)]
+pub(crate) struct Table {
+    pub records: Vec<Record>,
+    pub first_free: Option<u32>,
+}
+
+impl Table {
+    /// The first slot of a list.
+    fn first_of(&self, list: Slot) -> Option<u32>
+        requires { (parent : ℕ) → list ≡ Child parent → parent < length (columns_of self.now).slots }
+        ensures { result ≡ first_of (columns_of self.now) list }
+    {
+        match list {
+            Slot::Free => self.first_free,
+            Slot::Root => None,
+            Slot::Child(parent) => self.records[parent as usize].first_child,
+        }
+    }
+
+    /// Another slot comes first in a list.
+    fn set_first(&mut self, list: Slot, first: Option<u32>)
+        requires { (parent : ℕ) → list ≡ Child parent → parent < length (columns_of self.old).slots }
+        ensures { columns_of self.new ≡ with_first (columns_of self.old) list first }
+    {
+        match list {
+            Slot::Free => self.first_free = first,
+            Slot::Root => {}
+            Slot::Child(parent) => self.records[parent as usize].first_child = first,
+        }
+    }
+
+    /// Another slot comes behind one, or first in the list where that is none.
+    fn set_follower(&mut self, list: Slot, before: Option<u32>, follower: Option<u32>)
+        requires parent { (parent : ℕ) → list ≡ Child parent → parent < length (columns_of self.old).slots }
+        requires before { (slot : ℕ) → before ≡ Some slot → slot < length (columns_of self.old).slots }
+        ensures { columns_of self.new ≡ with_follower (columns_of self.old) (spot list before) follower }
+    {
+        match before {
+            Some(before) => self.records[before as usize].next = follower,
+            None => self.set_first(list, follower),
+        }
+    }
+
+    /// Another slot comes before one, if that is one.
+    fn set_previous(&mut self, slot: Option<u32>, previous: Option<u32>)
+        requires { (s : ℕ) → slot ≡ Some s → s < length (columns_of self.old).slots }
+        ensures { columns_of self.new ≡ with_previous (columns_of self.old) slot previous }
+    {
+        if let Some(slot) = slot {
+            self.records[slot as usize].previous = previous;
+        }
+    }
+
+    /// The slot's own part of its coming first in a list, before the slot `next`.
+    fn place(&mut self, slot: u32, list: Slot, next: Option<u32>)
+        requires { slot < length (columns_of self.old).slots }
+        ensures { columns_of self.new ≡ placed (columns_of self.old) slot list next }
+    {
+        let record = &mut self.records[slot as usize];
+        record.slot = list;
+        record.previous = None;
+        record.next = next;
+    }
+
+    /// Keeps how deep a slot is, and its links.
+    pub(crate) fn set_ascent(&mut self, slot: u32, depth: u32, links: [u32; LINKS])
+        requires { slot < length (columns_of self.old).slots }
+        ensures { columns_of self.new ≡ ascended (columns_of self.old) slot depth links }
+    {
+        let record = &mut self.records[slot as usize];
+        record.depth = depth;
+        record.links = links;
+    }
+
+    /// Takes a slot out of its list.
+    pub(crate) fn unlink(&mut self, slot: u32)
+        requires made { slot < length (columns_of self.old).slots }
+        requires linked { AllLinked (columns_of self.old) }
+        requires rooted { IsRooted (columns_of self.old).slots }
+        ensures { columns_of self.new ≡ unlinked (columns_of self.old) slot }
+    {
+        let Record {
+            slot: list,
+            previous,
+            next,
+            ..
+        } = self.records[slot as usize];
+        self.set_follower(list, previous, next);
+        self.set_previous(next, previous);
+    }
+
+    /// Puts a slot that stands in no list at the head of one.
+    pub(crate) fn link(&mut self, slot: u32, list: Slot)
+        requires made { slot < length (columns_of self.old).slots }
+        requires parent { (parent : ℕ) → list ≡ Child parent → parent < length (columns_of self.old).slots }
+        requires first { (first : ℕ) → first_of (columns_of self.old) list ≡ Some first → first < length (columns_of self.old).slots }
+        ensures { columns_of self.new ≡ linked (columns_of self.old) slot list }
+    {
+        let next = self.first_of(list);
+        self.set_previous(next, Some(slot));
+        self.place(slot, list, next);
+        self.set_first(list, Some(slot));
+    }
+
+    /// A free slot that stands in no list. It has a new record only where no slot was free.
+    pub(crate) fn take_slot(&mut self) -> Result<u32, NoMemory>
+        requires sound { IsSound (columns_of self.old) }
+        requires room { live_slots (columns_of self.old).slots ≤ 4294967295 }
+        ensures ok { IfOk result (λ slot. IsTaken (columns_of self.old) (columns_of self.new) slot) }
+        ensures err { OnErr result (columns_of self.new ≡ columns_of self.old) }
+    {
+        match self.first_free {
+            Some(slot) => {
+                self.unlink(slot);
+                Ok(slot)
+            }
+            None => {
+                let slot = self.records.len() as u32;
+                match self.records.push(BLANK) {
+                    Ok(()) => Ok(slot),
+                    Err(_) => Err(NoMemory),
+                }
+            }
+        }
+    }
+}

@@ -1,0 +1,6 @@
+//! Names and their numbers.
+#![tactic(auto)]
+
+mod names;
+
+pub use names::Names;
