@@ -45,6 +45,7 @@ impl Buffer {
         }
     }
 
+    /// The bytes that it took, in their order.
     pub fn taken(&self) -> &[u8]
         ensures { result.now ≡ self.now.taken }
     {

@@ -9,6 +9,7 @@ use crate::{Failed, Sink};
 pub struct Discard;
 
 impl Discard {
+    /// It takes no memory.
     pub fn new() -> Discard
         ensures tells_nothing { IsFalse (⟦<Discard as Sink>⟧.state result).tells }
     {

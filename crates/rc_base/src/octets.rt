@@ -23,6 +23,7 @@ impl Octets {
         Octets { bytes }
     }
 
+    /// The bytes, in their order.
     pub fn as_slice(&self) -> &[u8]
         ensures { result.now ≡ self.now }
     {

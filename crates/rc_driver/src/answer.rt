@@ -40,6 +40,7 @@ pub enum Fault {
     /// The error stream failed.
     #[error("error stream fault")]
     ErrFault,
+    /// There was no memory.
     #[error("no memory")]
     Memory,
 }

@@ -21,6 +21,7 @@ pub struct Folder<R: Files + Drop> {
 }
 
 impl<R: Files + Drop> Folder<R> {
+    /// The files of this system, with no fault counted.
     pub fn new(system: R) -> Folder<R>
         ensures { ⟦<Folder<R> as Shelf>⟧.state result ≡ untold_shelf 0 }
     {

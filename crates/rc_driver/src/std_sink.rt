@@ -27,6 +27,7 @@ pub struct StdSink<W: Write + Drop> {
 }
 
 impl<W: Write + Drop> StdSink<W> {
+    /// A sink that wrote nothing yet, with no fault counted.
     pub fn new(writer: W) -> StdSink<W>
         ensures { ⟦<StdSink<W> as Sink>⟧.state result ≡ untold_sink 0 }
     {

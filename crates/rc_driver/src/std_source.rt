@@ -25,6 +25,7 @@ pub struct StdSource<R: Read + Drop> {
 }
 
 impl<R: Read + Drop> StdSource<R> {
+    /// A source that read nothing yet, with no fault counted.
     pub fn new(reader: R) -> StdSource<R>
         ensures { ⟦<StdSource<R> as Source>⟧.state result ≡ untold_source false 0 }
     {

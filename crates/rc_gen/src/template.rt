@@ -3,10 +3,10 @@ ghost use Rattle.std.specs.Prelude.{◌≡◌};
 
 /// What stands for the holes of a template: `@I`, `@A` and `@W`, in this order.
 #[derive(Clone, Copy)]
-pub struct Numbers {
-    pub index: u64,
-    pub amount: u64,
-    pub weight: u64,
+pub(crate) struct Numbers {
+    pub(crate) index: u64,
+    pub(crate) amount: u64,
+    pub(crate) weight: u64,
 }
 
 impl Numbers {
@@ -14,7 +14,7 @@ impl Numbers {
     ghost use Rattle.rc_gen.specs.Template.{number_at};
 
     /// Those of one function of the program made from `n`.
-    pub fn of(n: u64, index: u32) -> Numbers
+    pub(crate) fn of(n: u64, index: u32) -> Numbers
         ensures { result ≡ numbers_of n index }
     {
         let index = u64::from(index);
@@ -26,7 +26,7 @@ impl Numbers {
     }
 
     /// The number that stands for `@` and this letter.
-    pub fn at(&self, letter: u8) -> u64
+    pub(crate) fn at(&self, letter: u8) -> u64
         ensures { result ≡ number_at self.now letter }
     {
         match letter {

@@ -11,7 +11,7 @@ use std::marker::Model;
 /// A text, which contracts see as its bytes. Where memory is refused it may have taken a part of
 /// what was to be appended.
 #[derive(Drop)]
-pub struct Text {
+pub(crate) struct Text {
     bytes: Vec<u8>,
 }
 
@@ -24,7 +24,7 @@ impl Model for Text {
 }
 
 impl Text {
-    pub fn new(alloc: Global) -> Text
+    pub(crate) fn new(alloc: Global) -> Text
         ensures { result ≡ [] }
     {
         Text {
@@ -32,14 +32,14 @@ impl Text {
         }
     }
 
-    pub fn into_bytes(self) -> Vec<u8>
+    pub(crate) fn into_bytes(self) -> Vec<u8>
         ensures { result.items ≡ self }
     {
         self.bytes
     }
 
     /// Appends the lines, each with its line feed.
-    pub fn lines(&mut self, lines: &[&[u8]]) -> Result<(), NoMemory>
+    pub(crate) fn lines(&mut self, lines: &[&[u8]]) -> Result<(), NoMemory>
         ensures { OnOk result (self.new ≡ self.old ++ text_of (map (λ line. line.now) lines.now)) }
     {
         for line in lines {
@@ -49,7 +49,7 @@ impl Text {
     }
 
     /// Appends a line with its line feed.
-    pub fn line(&mut self, line: &[u8]) -> Result<(), NoMemory>
+    pub(crate) fn line(&mut self, line: &[u8]) -> Result<(), NoMemory>
         ensures { OnOk result (self.new ≡ self.old ++ line_of line.now) }
     {
         self.append(line)?;
@@ -57,7 +57,7 @@ impl Text {
     }
 
     /// Appends a line made from a template, with its line feed.
-    pub fn filled_line(&mut self, template: &[u8], numbers: &Numbers) -> Result<(), NoMemory>
+    pub(crate) fn filled_line(&mut self, template: &[u8], numbers: &Numbers) -> Result<(), NoMemory>
         ensures { OnOk result (self.new ≡ self.old ++ line_of (filled numbers.now template.now)) }
     {
         self.fill(template, numbers)?;

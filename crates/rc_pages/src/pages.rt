@@ -107,6 +107,7 @@ impl Pages {
         }
     }
 
+    /// How many cells it has.
     pub fn len(&self) -> u64
         ensures { result ≡ length self.now }
     {
@@ -139,6 +140,7 @@ impl Pages {
         self.pages[(at / CELLS) as usize].read((at % CELLS) as usize)
     }
 
+    /// Writes the cell at a place. No cell is read.
     pub fn set(&mut self, at: u64, value: u128)
         requires { at < length self.old }
         ensures { self.new ≡ slice_set self.old at value }
