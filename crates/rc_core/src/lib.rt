@@ -1,3 +1,19 @@
-//! What programs mean. It stands in `specs/`: `Behaviour` says what a run is, and `Straight` what
-//! straight-line programs do.
+//! What programs are and what they mean. The types of a program stand here, and its meaning in
+//! `specs/`, to be read in the order of `specs/Lib.antt`: `Types` and `Programs` say what a program
+//! is, `Layout` to `Meaning` what it means, `Store` what a heap has to keep of that, and `Typing` to
+//! `WellTyped` when its parts fit together. `Straight` says what straight-line programs do.
 #![tactic(auto)]
+
+pub mod cells;
+pub mod examples;
+pub mod expr;
+pub mod laws;
+pub mod layout;
+pub mod liveness;
+pub mod operators;
+pub mod parts;
+pub mod program;
+pub mod stmt;
+#[cfg(test)]
+mod tests;
+pub mod ty;

@@ -1,0 +1,11 @@
+mod Paths
+pub mod Computed
+pub mod ShapeRows
+pub mod LayoutLaws
+pub mod CellLoops
+pub mod Unwrapping
+pub mod Nested
+mod Follows
+mod Grows
+mod SourceFollows
+mod RunLaws

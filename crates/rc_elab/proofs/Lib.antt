@@ -1,0 +1,5 @@
+pub mod Totals
+pub mod Greatest
+pub mod FieldSums
+pub mod Functions
+pub mod Smallest

@@ -1,0 +1,6 @@
+pub mod Runs
+pub mod Values
+pub mod Escapes
+pub mod Bodies
+pub mod Places
+pub mod Lexed

@@ -1,0 +1,15 @@
+pub mod Tokens
+pub mod WordShapes
+pub mod Spellings
+pub mod Bytes
+pub mod Numerals
+pub mod Literals
+pub mod Words
+pub mod Look
+pub mod Tree
+pub mod Shape
+pub mod Grammar
+pub mod Place
+pub mod Todo
+pub mod Reading
+pub mod Steps
