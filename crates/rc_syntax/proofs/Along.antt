@@ -1,5 +1,5 @@
 -- What the grammar begins or derives, the reader reads: the parts of a production, one after the other.
-use Rattle.std.proofs.Common.{ℕ, ◌≡◌, ◌≤◌, ◌+◌, ◌-◌, List, [], ◌∷◌, ◌++◌, length, length-append, Option, Some, None, Bool, true, false, refl, ap, sym, ◌∙◌, subst, arith}
+use Rattle.std.proofs.Common.{ℕ, ◌≡◌, ◌≤◌, ◌+◌, List, [], ◌∷◌, ◌++◌, length, length-append, Option, Some, None, Bool, true, false, refl, ap, sym, ◌∙◌, subst, arith}
 use Rattle.rc_syntax.specs.declared.tree.Spot.{Spot}
 use Rattle.rc_syntax.specs.declared.tree.BinaryOp.{BinaryOp}
 use Rattle.rc_syntax.specs.declared.tree.Name as names
@@ -7,10 +7,10 @@ use Rattle.rc_syntax.specs.declared.word.Mark as marks
 use Rattle.rc_syntax.specs.declared.word.Mark.TheVariants as m
 use Rattle.rc_syntax.specs.declared.tree.StepOp.{StepOp}
 use Rattle.rc_syntax.specs.Tokens as w
-use Rattle.rc_syntax.specs.Tokens.{Word, mark}
+use Rattle.rc_syntax.specs.Tokens.{Word, mark, key}
 use Rattle.rc_syntax.specs.Tree as t
 use Rattle.rc_syntax.specs.Grammar as g
-use Rattle.rc_syntax.specs.Grammar.{Symbol, TreeOf, Placed, Part, word, node, done, adds, reach, level_of, mark_of, ends_open}
+use Rattle.rc_syntax.specs.Grammar.{Symbol, TreeOf, Placed, Part, word, node, Rule, BeginAt, Derives, itself, by, DeriveAll, done, then, Begins, inside, BeginAll, a_word, here, later, adds, reach, level_of, mark_of, ends_open}
 use Rattle.rc_syntax.specs.Todo.{Todo, stop, build, try, enter, peek, begin, resume, Deeper, only, within, refuses}
 use Rattle.rc_syntax.specs.Reading.{first, tail, is_else}
 use Rattle.rc_syntax.specs.Steps.{Stack, frame, State, about, amid, first_of, place, offer, give, closed, step, fed, feed, whole, finish, opened, depth, reach_of}

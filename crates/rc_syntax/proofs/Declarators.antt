@@ -1,5 +1,5 @@
 -- How declarators of fields and globals are read: first stars and a name, wherever these are read, and then the rest.
-use Rattle.std.proofs.Common.{ℕ, ◌≡◌, ◌+◌, ◌-◌, List, [], ◌∷◌, ◌++◌, append_assoc, length, length-append, Option, Some, None, Bool, true, false, refl, ap, sym, ◌∙◌, subst, arith, ◌⊎◌, inl, inr}
+use Rattle.std.proofs.Common.{ℕ, ◌≡◌, ◌+◌, List, [], ◌∷◌, ◌++◌, append_assoc, length, length-append, Option, Some, None, Bool, true, false, refl, ap, sym, ◌∙◌, subst, arith, ◌⊎◌, inl, inr}
 use Rattle.rc_syntax.specs.declared.word.Mark.TheVariants as m
 use Rattle.rc_syntax.specs.declared.tree.Spot.{Spot}
 use Rattle.rc_syntax.specs.declared.tree.Name as names
@@ -12,8 +12,9 @@ use Rattle.rc_syntax.specs.Grammar as g
 use Rattle.rc_syntax.specs.Grammar.{Symbol, TreeOf, Placed, Part, word, node, BeginAt, adds, reach, FieldDeclarator, GlobalDeclarator, LocalDeclarator}
 use Rattle.rc_syntax.specs.Todo.{Todo, stop, build, try, enter, peek, begin, resume, read, sees, when, is_stop}
 use Rattle.rc_syntax.specs.Reading as r
+use Rattle.rc_syntax.specs.Reading.{first, tail}
 use Rattle.rc_syntax.specs.Steps as reader
-use Rattle.rc_syntax.specs.Steps.{Stack, frame, State, about, amid, taken, place, step, fed, feed, opened, depth, reach_of}
+use Rattle.rc_syntax.specs.Steps.{Stack, frame, State, about, amid, taken, place, step, fed, feed, finish, opened, depth, reached, reach_of}
 use Rattle.rc_syntax.proofs.Sound.{Since, since_on, outer, reached_outer}
 use Rattle.rc_syntax.proofs.Fronts.{is}
 use Rattle.rc_syntax.proofs.Along.{ends, Separates, comma, close, semicolon, a_name, AfterBase, a_star, a_type, AfterField, equal, separates_fields, Acts, Leads, Any, Follows, Past, Meets, MeetsOn, MeetAll, Along, along, leads_at, on, by_word, same_first, acts_past, begun_on, StartsAt, StartAll, s_name, s_here, s_later, Sinks, starts_along, sinks_on, sinks_more}

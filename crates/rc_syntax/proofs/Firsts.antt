@@ -1,5 +1,5 @@
 -- What is left of each symbol is right: declarators, statements and items, and all of them together.
-use Rattle.std.proofs.Common.{ℕ, ◌≡◌, ◌+◌, ◌-◌, List, [], ◌∷◌, ◌++◌, append_assoc, append-nil, length, map, Option, Some, None, Bool, true, false, refl, ap, sym, ◌∙◌, subst, arith}
+use Rattle.std.proofs.Common.{ℕ, ◌≡◌, List, [], ◌∷◌, ◌++◌, append_assoc, append-nil, length, map, Option, Some, None, Bool, true, false, refl, ap, sym, ◌∙◌, subst, arith}
 use Rattle.rc_syntax.specs.declared.word.Key.TheVariants.{Break, Continue, Deletes, Do, Eof, For, If, Null, Return, Struct, Void, While}
 use Rattle.rc_syntax.specs.declared.word.Mark as marks
 use Rattle.rc_syntax.specs.declared.word.Mark.TheVariants as m
@@ -12,13 +12,12 @@ use Rattle.rc_syntax.specs.declared.tree.BinaryOp.{BinaryOp}
 use Rattle.rc_syntax.specs.declared.tree.BinaryOp.TheVariants as ops
 use Rattle.rc_syntax.specs.declared.tree.StepOp.{StepOp}
 use Rattle.rc_syntax.specs.declared.tree.StepOp.TheVariants.{Increment, Decrement}
-use Rattle.rc_syntax.specs.declared.tree.Constant as constants
 use Rattle.rc_syntax.specs.declared.tree.Constant.TheVariants as k
 use Rattle.rc_syntax.specs.Tokens as w
 use Rattle.rc_syntax.specs.Tokens.{Word, key, mark}
 use Rattle.rc_syntax.specs.Tree as t
 use Rattle.rc_syntax.specs.Grammar as g
-use Rattle.rc_syntax.specs.Grammar.{Symbol, TreeOf, Placed, Part, word, node, Rule, Derives, itself, by, DeriveAll, done, then, inside, a_word, here, reach, typed, field, global, local, joined, stmts_of, FieldDeclarator, GlobalDeclarator, LocalDeclarator, FunctionEnding}
+use Rattle.rc_syntax.specs.Grammar.{Symbol, TreeOf, Placed, Part, word, node, Rule, Derives, itself, by, DeriveAll, done, then, Begins, inside, a_word, here, later, adds, reach, typed, field, global, local, joined, stmts_of, FieldDeclarator, GlobalDeclarator, LocalDeclarator, FunctionEnding}
 use Rattle.rc_syntax.specs.Todo.{Todo, build, enter, Deeper, only, within, is_stop, refuses, when, sees, read, or_else}
 use Rattle.rc_syntax.specs.Reading as r
 use Rattle.rc_syntax.specs.Reading.{first, tail}

@@ -1,13 +1,11 @@
 -- Means to show what is left of a symbol right: the parts of a production that are derived, and what a word adds to them.
-use Rattle.std.proofs.Common.{ℕ, ◌≡◌, ◌+◌, ◌-◌, List, [], ◌∷◌, ◌++◌, append_assoc, append-nil, Option, Bool, true, false, refl, sym, subst}
+use Rattle.std.proofs.Common.{ℕ, ◌≡◌, List, [], ◌∷◌, ◌++◌, append_assoc, append-nil, Option, Bool, true, false, refl, sym, subst}
 use Rattle.rc_syntax.specs.declared.tree.Spot.{Spot}
 use Rattle.rc_syntax.specs.declared.tree.Name as names
 use Rattle.rc_syntax.specs.declared.word.Key.TheVariants.{Int, Void, While, Else}
 use Rattle.rc_syntax.specs.declared.word.Mark.TheVariants as m
 use Rattle.rc_syntax.specs.Tokens as w
 use Rattle.rc_syntax.specs.Tokens.{Word, mark, key}
-use Rattle.rc_syntax.specs.Tree as t
-use Rattle.rc_syntax.specs.Grammar as g
 use Rattle.rc_syntax.specs.Grammar.{Symbol, TreeOf, Placed, Part, word, node, Rule, BeginAt, Derives, by, DeriveAll, done, then, inside, BeginAll, a_word, here, later}
 use Rattle.rc_syntax.specs.Todo.{Todo, stop, Deeper, only, is_stop, when, sees, read, deeper}
 use Rattle.rc_syntax.specs.Reading.{is_open, is_close, is_open_brace, is_close_brace, is_open_bracket, is_close_bracket, is_semicolon, is_comma, is_colon, is_equal, is_int, is_void, is_while, is_else, is_question, name_in, named, number_in, numbered}

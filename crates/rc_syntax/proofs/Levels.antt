@@ -1,5 +1,5 @@
 -- How the levels are read: first a unary, and then what binds as tightly as is asked for.
-use Rattle.std.proofs.Common.{ℕ, zero, suc, ◌≡◌, ◌≤◌, ◌+◌, ◌-◌, nat_le, List, [], ◌∷◌, ◌++◌, append_assoc, append-nil, length, length-append, Some, true, refl, ap, sym, ◌∙◌, subst, arith, ◌⊎◌, inl, inr}
+use Rattle.std.proofs.Common.{ℕ, zero, suc, ◌≡◌, ◌≤◌, ◌+◌, nat_le, List, [], ◌∷◌, ◌++◌, append_assoc, append-nil, length, length-append, Some, true, refl, ap, sym, ◌∙◌, subst, arith, ◌⊎◌, inl, inr}
 use Rattle.std.proofs.lemmas.Bool.Decides.{nat_tests}
 use Rattle.rc_syntax.specs.declared.word.Mark.TheVariants as m
 use Rattle.rc_syntax.specs.declared.tree.Spot.{Spot}
@@ -7,11 +7,12 @@ use Rattle.rc_syntax.specs.declared.tree.BinaryOp.{BinaryOp}
 use Rattle.rc_syntax.specs.Tokens.{Word, mark}
 use Rattle.rc_syntax.specs.Tree as t
 use Rattle.rc_syntax.specs.Grammar as g
-use Rattle.rc_syntax.specs.Grammar.{Symbol, Placed, Part, node, BeginAt, reach, level_of, mark_of}
+use Rattle.rc_syntax.specs.Grammar.{Symbol, TreeOf, Placed, Part, node, BeginAt, Begins, inside, adds, reach, level_of, mark_of}
 use Rattle.rc_syntax.specs.Todo.{build, when}
 use Rattle.rc_syntax.specs.Reading as r
+use Rattle.rc_syntax.specs.Reading.{first, tail}
 use Rattle.rc_syntax.specs.Steps as reader
-use Rattle.rc_syntax.specs.Steps.{Stack, frame, State, about, amid, taken, give, step, feed, opened, depth, reach_of}
+use Rattle.rc_syntax.specs.Steps.{Stack, frame, State, about, amid, taken, place, give, step, feed, finish, opened, depth, reached, reach_of}
 use Rattle.rc_syntax.proofs.Sound.{Since, since_on, outer, reached_outer}
 use Rattle.rc_syntax.proofs.Fronts.{is}
 use Rattle.rc_syntax.proofs.Operands.{op_level}

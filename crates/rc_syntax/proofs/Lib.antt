@@ -22,3 +22,6 @@ pub mod Declarators
 pub mod Lists
 pub mod Items
 pub mod Meets
+pub mod Starts
+pub mod Whole
+pub mod Examples

@@ -19,7 +19,7 @@ use Rattle.rc_syntax.specs.Tokens as w
 use Rattle.rc_syntax.specs.Tokens.{Word, key, mark}
 use Rattle.rc_syntax.specs.Tree as t
 use Rattle.rc_syntax.specs.Grammar as g
-use Rattle.rc_syntax.specs.Grammar.{Symbol, TreeOf, Placed, Part, word, node, Rule, Derives, itself, by, DeriveAll, done, Begins, inside, a_word, here, adds, reach, level_of, mark_of, typed}
+use Rattle.rc_syntax.specs.Grammar.{Symbol, TreeOf, Placed, Part, word, node, Rule, Derives, itself, by, DeriveAll, done, Begins, inside, a_word, here, later, adds, reach, level_of, mark_of, typed}
 use Rattle.rc_syntax.specs.Todo.{Todo, build, enter, only, is_stop, refuses, when, read, sees}
 use Rattle.rc_syntax.specs.Reading.{first, tail, binary_of, is_question, is_open, is_close, is_comma, is_int, noted, star, more_stars, base_in, call, cast_to, cast_in, allocated, array_allocated, parenthesized, prefixed, unary_in, postfix_in, level, otherwise, chosen, beside, operated}
 use Rattle.rc_syntax.proofs.Sound.{Since, Hole, Stands, Left, Goes, Passes, recount, since_on, LevelDone, UnaryDone, next_op, asks, is_postfix}

@@ -1,15 +1,13 @@
 -- How the productions are read: by a word, by a symbol, or by a symbol that goes on with itself.
-use Rattle.std.proofs.Common.{ℕ, ◌≡◌, ◌+◌, ◌-◌, List, [], ◌∷◌, ◌++◌, length, length-append, Option, Some, None, Bool, true, false, refl, ap, sym, ◌∙◌, subst, arith}
+use Rattle.std.proofs.Common.{ℕ, ◌≡◌, ◌+◌, List, [], ◌∷◌, ◌++◌, length, length-append, Option, Some, None, Bool, true, false, refl, ap, sym, ◌∙◌, subst, arith}
 use Rattle.rc_syntax.specs.declared.tree.Spot.{Spot}
-use Rattle.rc_syntax.specs.Tokens as w
 use Rattle.rc_syntax.specs.Tokens.{Word}
-use Rattle.rc_syntax.specs.Tree as t
 use Rattle.rc_syntax.specs.Grammar as g
 use Rattle.rc_syntax.specs.Grammar.{Symbol, TreeOf, Placed, Part, word, node, BeginAt, adds, reach}
 use Rattle.rc_syntax.specs.Todo.{Todo, stop, build, try, enter, peek, begin, resume, Deeper, only, within, is_stop, refuses}
 use Rattle.rc_syntax.specs.Reading.{first}
 use Rattle.rc_syntax.specs.Steps as steps
-use Rattle.rc_syntax.specs.Steps.{Stack, frame, State, about, amid, taken, place, offer, closed, step, feed}
+use Rattle.rc_syntax.specs.Steps.{Stack, frame, State, about, amid, taken, place, offer, give, closed, step, fed, feed, finish, opened, depth, reached, reach_of}
 use Rattle.rc_syntax.proofs.Sound.{Since, since_on, outer, reached_outer}
 use Rattle.rc_syntax.proofs.Fronts.{is}
 use Rattle.rc_syntax.proofs.Along.{AfterPostfix, Frees, Acts, Leads, Any, Follows, Past, Meets, Met, MeetAll, m_word, m_name, m_node, Along, along, leads_at, on, by_word, same_first, begun_by, acts_past, leads_more, StartsAt, Begun, StartAll, s_word, s_name, s_here, s_later_word, s_later_name, s_later, Sinks, starts_along, sinks_more}
@@ -107,7 +105,7 @@ meets_shape {v = v} {s = s} {tree = tree} i b (with_itself {before = before} not
     let many : length xs + length ys ≡ length (xs ++ ys) = sym (length-append xs ys) in
     subst P e (x.0, since_on x.0 xs ys x.1, leads_at (Ends v s (tree x.0)) (about k) (xs ++ ys) x.0 (tree x.0) (length xs + length ys) (length (xs ++ ys)) k many (z.0, on (about k) x.2.0 xs ys (Some z.0) x.2.1 z.1, z.2))
 
-starts_of : {s : Symbol} (ws : List Placed) (d r : ℕ) → ((root : Symbol) (k : Stack root s) → Sinks s 0 k (about k) ws d r) → StartsAt s ws (adds s + d) (reach s (length ws) r)
+pub starts_of : {s : Symbol} (ws : List Placed) (d r : ℕ) → ((root : Symbol) (k : Stack root s) → Sinks s 0 k (about k) ws d r) → StartsAt s ws (adds s + d) (reach s (length ws) r)
 starts_of {s = s} ws d r f root k =
     let x = f root k in
     (x.0, x.1, x.2, x.3 ∙ ap (λ m. outer k m (reach s m r)) (let e : 0 + length ws ≡ length ws = omega arith in e))

@@ -1,5 +1,5 @@
 -- The productions, each with how it is read.
-use Rattle.std.proofs.Common.{ℕ, ◌≡◌, ◌<◌, ◌+◌, nat_le, List, [], ◌∷◌, ◌++◌, map, Option, Some, None, Bool, true, false, refl, ap, sym, ◌∙◌, subst, arith}
+use Rattle.std.proofs.Common.{ℕ, ◌≡◌, ◌<◌, nat_le, List, [], ◌∷◌, ◌++◌, map, Option, Some, None, Bool, true, false, refl, ap, sym, ◌∙◌, subst, arith}
 use Rattle.rc_syntax.specs.declared.word.Key.TheVariants.{Break, Char, Continue, Deletes, Do, Else, Eof, For, If, Int, Null, Ralloc, RarrayAlloc, Region, Return, Struct, Unsigned, Void, While}
 use Rattle.rc_syntax.specs.declared.word.Mark as marks
 use Rattle.rc_syntax.specs.declared.word.Mark.TheVariants as m
@@ -12,18 +12,17 @@ use Rattle.rc_syntax.specs.declared.tree.BinaryOp.{BinaryOp}
 use Rattle.rc_syntax.specs.declared.tree.BinaryOp.TheVariants as ops
 use Rattle.rc_syntax.specs.declared.tree.StepOp.{StepOp}
 use Rattle.rc_syntax.specs.declared.tree.StepOp.TheVariants.{Increment, Decrement}
-use Rattle.rc_syntax.specs.declared.tree.Constant as constants
 use Rattle.rc_syntax.specs.declared.tree.Constant.TheVariants as k
 use Rattle.rc_syntax.specs.Tokens as w
 use Rattle.rc_syntax.specs.Tokens.{Word, mark, key}
 use Rattle.rc_syntax.specs.Tree as t
 use Rattle.rc_syntax.specs.Grammar as g
-use Rattle.rc_syntax.specs.Grammar.{Symbol, Placed, word, node, typed, field, local, ends_open, FieldDeclarator, LocalDeclarator}
+use Rattle.rc_syntax.specs.Grammar.{Symbol, TreeOf, Placed, Part, word, node, Rule, typed, field, local, ends_open, FieldDeclarator, LocalDeclarator, FunctionEnding}
 use Rattle.rc_syntax.specs.Todo.{Todo, build, try, enter, resume, within, is_stop, refuses, when, sees, read}
 use Rattle.rc_syntax.specs.Reading as r
 use Rattle.rc_syntax.specs.Reading.{first, tail}
 use Rattle.rc_syntax.specs.Steps as reader
-use Rattle.rc_syntax.specs.Steps.{Stack, frame, about, place, taken, offer, give, closed, step}
+use Rattle.rc_syntax.specs.Steps.{Stack, frame, State, about, amid, place, taken, offer, give, closed, step}
 use Rattle.std.proofs.lemmas.Bool.Decides.{nat_tests}
 use Rattle.rc_syntax.proofs.Fronts.{is}
 use Rattle.rc_syntax.proofs.Operands.{op_level}

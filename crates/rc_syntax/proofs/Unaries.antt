@@ -5,7 +5,6 @@ use Rattle.rc_syntax.specs.declared.word.Mark as marks
 use Rattle.rc_syntax.specs.declared.word.Mark.TheVariants as m
 use Rattle.rc_syntax.specs.declared.tree.Spot.{Spot}
 use Rattle.rc_syntax.specs.declared.tree.Name as names
-use Rattle.rc_syntax.specs.declared.tree.CastType as casts
 use Rattle.rc_syntax.specs.declared.tree.CastType.TheVariants as c
 use Rattle.rc_syntax.specs.declared.tree.UnaryOp.{UnaryOp}
 use Rattle.rc_syntax.specs.declared.tree.UnaryOp.TheVariants as u
@@ -13,14 +12,13 @@ use Rattle.rc_syntax.specs.declared.tree.BinaryOp.{BinaryOp}
 use Rattle.rc_syntax.specs.declared.tree.BinaryOp.TheVariants as ops
 use Rattle.rc_syntax.specs.declared.tree.StepOp.TheVariants.{Increment, Decrement}
 use Rattle.rc_syntax.specs.Tokens as w
-use Rattle.rc_syntax.specs.Tokens.{Word, mark}
+use Rattle.rc_syntax.specs.Tokens.{Word, mark, key}
 use Rattle.rc_syntax.specs.Tree as t
 use Rattle.rc_syntax.specs.Grammar as g
-use Rattle.rc_syntax.specs.Grammar.{Symbol, word, node}
+use Rattle.rc_syntax.specs.Grammar.{Symbol, TreeOf, Placed, Part, word, node}
 use Rattle.rc_syntax.specs.Todo.{Todo, build, try, is_stop, when, sees, read}
 use Rattle.rc_syntax.specs.Reading as r
-use Rattle.rc_syntax.specs.Reading.{first}
-use Rattle.rc_syntax.specs.Steps as reader
+use Rattle.rc_syntax.specs.Reading.{first, tail}
 use Rattle.rc_syntax.specs.Steps.{Stack, frame, about, amid, place, step}
 use Rattle.rc_syntax.proofs.Fronts.{is}
 use Rattle.rc_syntax.proofs.Along.{comma, close, semicolon, separates, After, operator, question, colon, bracket, ends, AfterUnary, inner, equals, updates, steps, AfterPostfix, unaries, open_bracket, dot, arrow, Along}

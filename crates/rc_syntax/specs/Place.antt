@@ -6,7 +6,6 @@ use Rattle.rc_syntax.specs.declared.fault.ParseFault.TheVariants.{Syntax, Deep, 
 use Rattle.rc_syntax.specs.declared.tree.Expr as declared_expr
 use Rattle.rc_syntax.specs.declared.tree.Tree as declared_tree
 use Rattle.rc_syntax.specs.Tokens.{Token}
-use Rattle.rc_syntax.specs.Tree as t
 use Rattle.rc_syntax.specs.Grammar.{Symbol, Text, TreeOf, node, Placed, placed, Derives, Begins}
 use Rattle.rc_syntax.specs.Shape.{tree_of}
 

@@ -1,7 +1,6 @@
 -- How the reader reads each symbol: what the first word of one leads to, and what the word behind a complete one does.
 use Rattle.std.specs.Prelude.{ℕ, ◌+◌, nat_le, List, [], ◌∷◌, ◌++◌, length, map, Option, Some, None, Bool, true, false}
 use Rattle.rc_syntax.specs.declared.word.Key.TheVariants.{Break, Char, Continue, Deletes, Do, Else, Eof, For, If, Int, Null, ParentPtr, Ralloc, RarrayAlloc, Region, Return, SameRegion, Struct, Traditional, Unsigned, Void, While}
-use Rattle.rc_syntax.specs.declared.word.Mark as marks
 use Rattle.rc_syntax.specs.declared.word.Mark.TheVariants as m
 use Rattle.rc_syntax.specs.declared.tree.Spot.{Spot}
 use Rattle.rc_syntax.specs.declared.tree.Name as names
@@ -17,13 +16,12 @@ use Rattle.rc_syntax.specs.declared.tree.BinaryOp.{BinaryOp}
 use Rattle.rc_syntax.specs.declared.tree.BinaryOp.TheVariants as o
 use Rattle.rc_syntax.specs.declared.tree.StepOp.{StepOp}
 use Rattle.rc_syntax.specs.declared.tree.StepOp.TheVariants.{Increment, Decrement}
-use Rattle.rc_syntax.specs.declared.tree.Constant as constants
 use Rattle.rc_syntax.specs.declared.tree.Constant.TheVariants as k
 use Rattle.rc_syntax.specs.Tokens as w
 use Rattle.rc_syntax.specs.Tokens.{Word, key, mark}
 use Rattle.rc_syntax.specs.Tree as t
 use Rattle.rc_syntax.specs.Grammar as g
-use Rattle.rc_syntax.specs.Grammar.{Symbol, TreeOf, Placed, FieldDeclarator, FunctionEnding, level_of, joined, stmts_of, with_last, typed, field, global, local}
+use Rattle.rc_syntax.specs.Grammar.{Symbol, TreeOf, Placed, FieldDeclarator, GlobalDeclarator, LocalDeclarator, FunctionEnding, level_of, joined, stmts_of, with_last, typed, field, global, local}
 use Rattle.rc_syntax.specs.Todo.{Todo, stop, build, try, enter, peek, begin, resume, Deeper, only, within, when, sees, read, or_else}
 
 -- Words by what they are.

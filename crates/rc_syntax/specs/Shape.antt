@@ -9,7 +9,7 @@ use Rattle.rc_syntax.specs.declared.tree.Local as declared_local
 use Rattle.rc_syntax.specs.declared.tree.ForStart as declared_start
 use Rattle.rc_syntax.specs.declared.tree.ForStart.TheVariants as f
 use Rattle.rc_syntax.specs.declared.tree.Stmt as declared_stmt
-use Rattle.rc_syntax.specs.declared.tree.Stmt.{Local, Block', Empty, Simple, If', While', Do', For', Break, Continue, Return, Row_of-Stmt, end_of-Stmt, more_of-Stmt, None', Some'}
+use Rattle.rc_syntax.specs.declared.tree.Stmt.{Local, Block', Empty, Simple, If', While', Do', For', Break, Continue, Return, Row_of-Stmt, end_of-Stmt, more_of-Stmt, Held-Stmt-If-3, None', Some'}
 use Rattle.rc_syntax.specs.declared.tree.Field as declared_field
 use Rattle.rc_syntax.specs.declared.tree.Param as declared_param
 use Rattle.rc_syntax.specs.declared.tree.Item as declared_item

@@ -1,7 +1,7 @@
 -- A reader of one word at a time, which the grammar is proved equal to.
 use Rattle.std.specs.Prelude.{ℕ, ◌+◌, ◌-◌, nat_lt, ◌||◌, List, [], ◌∷◌, Option, Some, None, Bool, cond}
 use Rattle.rc_syntax.specs.declared.tree.Spot.{Spot}
-use Rattle.rc_syntax.specs.Grammar.{Symbol, TreeOf, Placed, adds, reach}
+use Rattle.rc_syntax.specs.Grammar.{Symbol, Text, TreeOf, Placed, adds, reach}
 use Rattle.rc_syntax.specs.Todo.{Todo, stop, build, try, enter, peek, begin, resume, Deeper, only, within}
 use Rattle.rc_syntax.specs.Reading.{first, tail}
 
@@ -15,6 +15,11 @@ pub data Stack : Symbol → Symbol → Type 0 where
 pub data State : Symbol → Type 0 where
   about : {root s : Symbol} → Stack root s → State root
   amid : {root s : Symbol} → Spot → Todo s → ℕ → Stack root s → State root
+
+-- Before the first word; the words of a text may be none.
+abbrev pub entry : (root : Symbol) → State root
+entry Text = amid (record { place = 0; line = 0 }) (build []) 0 bottom
+entry s = about bottom
 
 abbrev pub first_of : {A : Type 0} → Option A → Option A → Option A
 first_of (Some a) o = Some a

@@ -3,6 +3,7 @@
 #![tactic(auto)]
 
 pub mod fault;
+pub mod laws;
 pub mod tree;
 pub mod word;
 pub mod word_laws;

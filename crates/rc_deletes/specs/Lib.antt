@@ -1,0 +1,15 @@
+pub mod Judged
+pub mod Kinds
+pub mod Scopes
+pub mod Values
+pub mod Operators
+pub mod Calls
+pub mod Expressions
+pub mod Statements
+pub mod Items
+pub mod First
+pub mod Ranges
+pub mod Limits
+pub mod Places
+pub mod Answer
+pub mod Examples

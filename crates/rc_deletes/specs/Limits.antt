@@ -1,0 +1,22 @@
+-- What a tree keeps so that its program fits together: numbers as words have them, some field in every struct, and the limits of
+-- strings.
+use Rattle.std.specs.Prelude.{◌≡◌, ℕ, ◌≤◌, List, [], ◌∷◌, Some, length, slice_get}
+use Rattle.rc_syntax.specs.Tree as t
+use Rattle.rc_deletes.specs.Items.{context_of, at_the_start, behind_items}
+use Rattle.rc_deletes.specs.Ranges.{ItemsInRange}
+
+abbrev pub HasFields : List t.Item → Type 0
+HasFields [] = Unit {0}
+HasFields (t.struct at name fields ∷ is) = (1 ≤ length fields) × HasFields is
+HasFields (t.global at n name count c ∷ is) = HasFields is
+HasFields (t.function at deletes result name params body ∷ is) = HasFields is
+
+-- the string literals of a text, in its order
+abbrev pub strings_of : t.Tree → List (List ℕ)
+strings_of tree = (behind_items (context_of tree.items) at_the_start tree.items).strings
+
+pub record KeepsLimits (tree : t.Tree) : Type 0 where
+  pub numbers : ItemsInRange tree.items
+  pub fields : HasFields tree.items
+  pub number_of_strings : length (strings_of tree) ≤ 16777216
+  pub strings : (k : ℕ) (bytes : List ℕ) → slice_get (strings_of tree) k ≡ Some bytes → length bytes ≤ 1048576

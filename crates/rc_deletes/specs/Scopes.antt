@@ -1,0 +1,56 @@
+-- What names stand for.
+use Rattle.std.specs.Prelude.{ℕ, List, [], ◌∷◌, Option, Some, None, Bool, true, false, map, if◌then◌else◌}
+use Rattle.std.specs.Str.{bytes_eq}
+use Rattle.rc_core.specs.Types.{Ty, int, region}
+use Rattle.rc_core.specs.Programs.{Field, Struct}
+use Rattle.rc_deletes.specs.declared.builtin.Builtin.{Builtin}
+use Rattle.rc_deletes.specs.declared.builtin.Builtin.TheVariants.{NewRegion, NewSubregion, DeleteRegion, RegionOf, Putchar, Getchar}
+
+-- what declarations of a function agree in
+pub record Signature : Type 0 where
+  pub takes : List Ty
+  pub gives : Option Ty
+  pub deletes : Bool
+
+-- a function has a number where the text defines it somewhere
+pub data Meaning : Type 0 where
+  a_local : (number : ℕ) → Ty → Meaning
+  a_global : (number : ℕ) → Ty → (count : Option ℕ) → Meaning
+  a_function : (number : Option ℕ) → Signature → Meaning
+  a_builtin : Builtin → Meaning
+
+-- the innermost names first
+abbrev pub Scope : Type 0
+Scope = List (List ℕ × Meaning)
+
+abbrev pub meaning_in : Scope → List ℕ → Option Meaning
+meaning_in [] name = None
+meaning_in (known ∷ rest) name = if bytes_eq known.0 name then Some known.1 else meaning_in rest name
+
+-- a struct's name and its fields, each with its name
+pub record Shape : Type 0 where
+  pub name : List ℕ
+  pub fields : List (List ℕ × Field)
+
+-- what the whole text defines: its structs, and the names of its functions, each name once
+pub record Context : Type 0 where
+  pub shapes : List Shape
+  pub functions : List (List ℕ)
+
+abbrev pub struct_names : Context → List (List ℕ)
+struct_names context = map (λ s. s.name) context.shapes
+
+abbrev pub fields_in : Shape → Struct
+fields_in s = map (λ f. f.1) s.fields
+
+abbrev pub structs_in : Context → List Struct
+structs_in context = map fields_in context.shapes
+
+-- the signature of a built-in function; `regionof` has none, since it takes pointers of every type
+abbrev pub builtin_signature : Builtin → Option Signature
+builtin_signature NewRegion = Some (record { takes = []; gives = Some region; deletes = false })
+builtin_signature NewSubregion = Some (record { takes = region ∷ []; gives = Some region; deletes = false })
+builtin_signature DeleteRegion = Some (record { takes = region ∷ []; gives = None; deletes = true })
+builtin_signature RegionOf = None
+builtin_signature Putchar = Some (record { takes = int ∷ []; gives = Some int; deletes = false })
+builtin_signature Getchar = Some (record { takes = []; gives = Some int; deletes = false })

@@ -1,0 +1,6 @@
+pub mod Standing
+pub mod Running
+pub mod Values
+pub mod Tests
+pub mod Parts
+pub mod Closing

@@ -1,0 +1,31 @@
+-- What the code's answer to a step says of the step: where it goes on, or that it stops. A fault says nothing.
+use Rattle.std.specs.Prelude.{◌≡◌, Bool, true, false, List, Result, Ok, Err}
+use Rattle.rc_base.specs.declared.ends.RunFault.TheVariants.{Memory}
+use Rattle.rc_core.specs.Programs.{Expr, new_subregion, allocate, putchar}
+use Rattle.rc_core.specs.Heap.{Value}
+use Rattle.rc_core.specs.Runs.{Run, Go, Stopped, Ends, Stale}
+use Rattle.rc_slow.specs.declared.stop.Stop.{Stop as CodeStop}
+use Rattle.rc_slow.specs.declared.stop.Stop.TheVariants.{Ends as CodeEnds, Stale as CodeStale, Cut}
+use Rattle.rc_slow.specs.declared.frames.Control.{Control as CodeControl}
+use Rattle.rc_slow.specs.Kept.{KeptHeap}
+use Rattle.rc_slow.specs.KeptWorld.{KeptWorld, with_heap}
+use Rattle.rc_slow.specs.Frames.{Frame}
+use Rattle.rc_slow.specs.Stepping.{Doing, doing}
+use Rattle.rc_slow.specs.Codes.{control_of}
+
+abbrev pub StopsRun : {A : Type 0} → CodeStop → KeptWorld → Run KeptWorld A → Type 0
+StopsRun (CodeEnds end) w run = run ≡ Stopped (Ends end) w
+StopsRun (CodeStale line) w run = run ≡ Stopped (Stale line) w
+StopsRun (Cut fault) w run = fault ≡ Memory
+
+-- with these frames, locals and this heap
+abbrev pub Comes : Result CodeControl CodeStop → List Frame → List Value → KeptHeap → KeptWorld → Run KeptWorld Doing → Type 0
+Comes (Ok c) fs env heap w run = run ≡ Go (doing (control_of c) fs env) (with_heap w heap)
+Comes (Err stop) fs env heap w run = StopsRun stop w run
+
+-- its first part's value doesn't lead to the heap or outside
+abbrev pub stays_inside : Expr → Bool
+stays_inside (new_subregion line r) = false
+stays_inside (allocate line r ty) = false
+stays_inside (putchar line e) = false
+stays_inside _ = true

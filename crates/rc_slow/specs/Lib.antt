@@ -1,0 +1,14 @@
+pub mod Values
+pub mod Outcomes
+pub mod Kept
+pub mod LiveAt
+pub mod LiveBehind
+pub mod Change
+pub mod KeptWorld
+pub mod Frames
+pub mod Machine
+pub mod Stepping
+pub mod Whole
+pub mod Prefix
+pub mod Codes
+pub mod Coming
