@@ -55,7 +55,9 @@ fn smallest(alloc: Global) -> Result<Parts, AllocError>
 }
 
 /// A function without parameters, with a result.
-fn function(locals: Vec<Ty>, body: Vec<Stmt>) -> Function {
+fn function(locals: Vec<Ty>, body: Vec<Stmt>) -> Function
+    ensures { result.parameters ≡ 0 }
+{
     Function {
         parameters: 0,
         locals,
@@ -67,7 +69,9 @@ fn function(locals: Vec<Ty>, body: Vec<Stmt>) -> Function {
 }
 
 /// So many locals of type `region`, and `return 0;`.
-fn with_regions(alloc: Global, count: u32) -> Result<Function, AllocError> {
+fn with_regions(alloc: Global, count: u32) -> Result<Function, AllocError>
+    ensures { IfOk result (λ f. f.parameters ≡ 0) }
+{
     let mut locals = Vec::new(alloc);
     for _ in 0..count {
         locals.push(Ty::Region)?;
