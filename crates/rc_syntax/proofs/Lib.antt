@@ -8,6 +8,8 @@ pub mod LiteralLaws
 pub mod CommentLaws
 pub mod PieceLaws
 pub mod CutLaws
+pub mod Spelled
+pub mod Printed
 pub mod Rows
 pub mod Sound
 pub mod Fronts
@@ -23,5 +25,11 @@ pub mod Lists
 pub mod Items
 pub mod Meets
 pub mod Starts
+pub mod Replaced
+pub mod PrintedExprs
+pub mod PrintedItems
+pub mod Unplacing
+pub mod PrintableTrees
+pub mod PrintedTrees
 pub mod Whole
 pub mod Examples

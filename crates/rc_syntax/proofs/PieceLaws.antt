@@ -8,7 +8,7 @@ use Rattle.rc_syntax.specs.declared.word.Mark.{Mark}
 use Rattle.rc_syntax.specs.Tokens.{Word, character, string, mark}
 use Rattle.rc_syntax.specs.Spellings.{key_spelling, mark_spelling}
 use Rattle.rc_syntax.specs.Bytes.{is_letter, is_decimal, is_margin, in_name, in_line, Each, begins}
-use Rattle.rc_syntax.specs.Literals.{Writes}
+use Rattle.rc_syntax.specs.Literals.{Writes, WritesAll}
 use Rattle.rc_syntax.specs.Words.{opens_comment, continues_number, Piece, blank, line_comment, block_comment, skipped_line, identifier, keyword, integer_constant, character_constant, string_literal, punctuator}
 use Rattle.rc_syntax.specs.Look.{Class, class_of, blank as blank_class, letter, digit, quote, double_quote, slash, hash, other, Seen, key_named, key_or_name, name_word, number_word, found_word, value_next, closed, body_at, string_of, comment_end, skipped, mark_named, found_mark, mark_at, is_in_margin, include_at, look_as, look}
 use Rattle.rc_syntax.proofs.ByteLaws.{byte_test, and_true, not_true, or_of, each_take, run_fits, each_within, each_exact, run_ends, drop_front, take_front, front_and, front_length, begins_cons, each_of_all, starts_front}
@@ -22,10 +22,10 @@ use Rattle.rc_syntax.proofs.CommentLaws.{comment_found, comment_is, is_margin_of
 some_is : {A : Type 0} {x y : A} → Some x ≡ Some y → x ≡ y
 some_is e = cc
 
-single_quote : IsQuote 39
+pub single_quote : IsQuote 39
 single_quote = record { no_octal = refl; no_hexadecimal = refl; no_escape = refl }
 
-double_quotes : IsQuote 34
+pub double_quotes : IsQuote 34
 double_quotes = record { no_octal = refl; no_hexadecimal = refl; no_escape = refl }
 
 -- a piece of n bytes stands at the front of the text
@@ -294,15 +294,15 @@ pub name_head : (bytes : List ℕ) → is_like_name bytes ≡ true → (first : 
 name_head [] h = absurd (cc)
 name_head (b ∷ bytes) h = let p = and_true (is_letter b) (list_all in_name bytes) h in (b, bytes, refl, p.0, each_of_all in_name bytes p.1)
 
-begins_in : (p : ℕ → Bool) (q : ℕ → Bool) → ((c : ℕ) → q c ≡ false → p c ≡ false) → (t : List ℕ) → begins q t ≡ false → begins p t ≡ false
+pub begins_in : (p : ℕ → Bool) (q : ℕ → Bool) → ((c : ℕ) → q c ≡ false → p c ≡ false) → (t : List ℕ) → begins q t ≡ false → begins p t ≡ false
 begins_in p q f [] h = refl
 begins_in p q f (c ∷ t) h = f c h
 
-or_left : (x y : Bool) → (x || y) ≡ false → x ≡ false
+pub or_left : (x y : Bool) → (x || y) ≡ false → x ≡ false
 or_left true y e = absurd (cc)
 or_left false y e = refl
 
-or_right : (x y : Bool) → (x || y) ≡ false → y ≡ false
+pub or_right : (x y : Bool) → (x || y) ≡ false → y ≡ false
 or_right true y e = absurd (cc)
 or_right false y e = e
 
@@ -325,13 +325,32 @@ include_within before margin text rest h i j k =
     let d : drop (length margin) (margin ++ r) ≡ r = drop_front margin r in
     rw (h, m, d, j, k) refl
 
-digit_look : (before : List ℕ) (first : ℕ) (others rest : List ℕ) (w : Word) → is_decimal first ≡ true → prefix_len in_name (others ++ rest) ≡ length others → begins (λ z. z == 46) rest ≡ false →
+pub digit_look : (before : List ℕ) (first : ℕ) (others rest : List ℕ) (w : Word) → is_decimal first ≡ true → prefix_len in_name (others ++ rest) ≡ length others → begins (λ z. z == 46) rest ≡ false →
     number_word (first ∷ others) ≡ Some w → look before (first ∷ others ++ rest) ≡ Some (suc (length others), Some w)
 digit_look before first others rest w h m dot f =
     let c = class_digit first h in
     let d : drop (length others) (others ++ rest) ≡ rest = drop_front others rest in
     let t : take (length others) (others ++ rest) ≡ others = take_front others rest in
     rw (c, m, d, dot, t, f) refl
+
+pub character_look : (before body rest : List ℕ) (value : ℕ) → WritesAll 39 body (value ∷ []) → look before (39 ∷ ((body ++ 39 ∷ []) ++ rest)) ≡ Some (suc (length (body ++ 39 ∷ [])), Some (character value))
+character_look before body rest value w =
+    let first = w.0 in
+    let b : body ≡ first = w.2 ∙ ap (λ z. first ++ z) w.4 ∙ append-nil first in
+    let P : List ℕ → Type 0 = λ z. Writes 39 first z value in
+    let n : value_next 39 (first ++ 39 ∷ rest) ≡ Some (length first, value) = next_found 39 single_quote first [] rest value (subst P w.4 w.3) in
+    let a : (body ++ 39 ∷ []) ++ rest ≡ first ++ 39 ∷ rest = append_assoc body (39 ∷ []) rest ∙ ap (λ z. z ++ 39 ∷ rest) b in
+    let d : drop (length first) (first ++ 39 ∷ rest) ≡ 39 ∷ rest = drop_front first (39 ∷ rest) in
+    let c : closed 39 (value_next 39 (first ++ 39 ∷ rest)) (first ++ 39 ∷ rest) ≡ Some (suc (suc (length first)), Some (character value)) = rw (n, d) refl in
+    let l : suc (suc (length first)) ≡ suc (length (body ++ 39 ∷ [])) = omega (arith, ap length b, length-append body (39 ∷ [])) in
+    ap (λ z. look before (39 ∷ z)) a ∙ c ∙ ap (λ z. Some (z, Some (character value))) l
+
+pub string_look : (before body rest values : List ℕ) → WritesAll 34 body values → look before (34 ∷ ((body ++ 34 ∷ []) ++ rest)) ≡ Some (suc (length (body ++ 34 ∷ [])), Some (string values))
+string_look before body rest values w =
+    let f = body_found 34 double_quotes values body rest w in
+    let a : (body ++ 34 ∷ []) ++ rest ≡ body ++ 34 ∷ rest = append_assoc body (34 ∷ []) rest in
+    let l : suc (suc (length body)) ≡ suc (length (body ++ 34 ∷ [])) = omega (arith, length-append body (34 ∷ [])) in
+    ap (λ z. look before (34 ∷ z)) a ∙ ap string_of f ∙ ap (λ z. Some (z, Some (string values))) l
 
 pub look_within : (before bytes rest : List ℕ) (seen : Option Word) → Piece before bytes rest seen → Within (look before (bytes ++ rest)) (length bytes) seen
 look_within before bytes rest seen (blank b is h s) =
@@ -367,22 +386,9 @@ look_within before bytes rest seen (integer_constant w number free s) =
     let e = digit_look before x.first x.others rest w x.digit m dot_ends f in
     rw (x.is) (exact (look before (x.first ∷ x.others ++ rest)) (suc (length x.others)) (Some w) seen e s)
 look_within before bytes rest seen (character_constant body value is w s) =
-    let first = w.0 in
-    let b : body ≡ first = w.2 ∙ ap (λ z. first ++ z) w.4 ∙ append-nil first in
-    let P : List ℕ → Type 0 = λ z. Writes 39 first z value in
-    let n : value_next 39 (first ++ 39 ∷ rest) ≡ Some (length first, value) = next_found 39 single_quote first [] rest value (subst P w.4 w.3) in
-    let a : (body ++ 39 ∷ []) ++ rest ≡ first ++ 39 ∷ rest = append_assoc body (39 ∷ []) rest ∙ ap (λ z. z ++ 39 ∷ rest) b in
-    let d : drop (length first) (first ++ 39 ∷ rest) ≡ 39 ∷ rest = drop_front first (39 ∷ rest) in
-    let c : closed 39 (value_next 39 (first ++ 39 ∷ rest)) (first ++ 39 ∷ rest) ≡ Some (suc (suc (length first)), Some (character value)) = rw (n, d) refl in
-    let l : suc (suc (length first)) ≡ suc (length (body ++ 39 ∷ [])) = omega (arith, ap length b, length-append body (39 ∷ [])) in
-    rw is (exact (look before (39 ∷ ((body ++ 39 ∷ []) ++ rest))) (suc (length (body ++ 39 ∷ []))) (Some (character value)) seen
-    (ap (λ z. look before (39 ∷ z)) a ∙ c ∙ ap (λ z. Some (z, Some (character value))) l) s)
+    rw is (exact (look before (39 ∷ ((body ++ 39 ∷ []) ++ rest))) (suc (length (body ++ 39 ∷ []))) (Some (character value)) seen (character_look before body rest value w) s)
 look_within before bytes rest seen (string_literal body values is w s) =
-    let f = body_found 34 double_quotes values body rest w in
-    let a : (body ++ 34 ∷ []) ++ rest ≡ body ++ 34 ∷ rest = append_assoc body (34 ∷ []) rest in
-    let l : suc (suc (length body)) ≡ suc (length (body ++ 34 ∷ [])) = omega (arith, length-append body (34 ∷ [])) in
-    rw is (exact (look before (34 ∷ ((body ++ 34 ∷ []) ++ rest))) (suc (length (body ++ 34 ∷ []))) (Some (string values)) seen
-    (ap (λ z. look before (34 ∷ z)) a ∙ ap string_of f ∙ ap (λ z. Some (z, Some (string values))) l) s)
+    rw is (exact (look before (34 ∷ ((body ++ 34 ∷ []) ++ rest))) (suc (length (body ++ 34 ∷ []))) (Some (string values)) seen (string_look before body rest values w) s)
 look_within before bytes rest seen (punctuator m is free s) =
     let h : opens_comment (mark_spelling m ++ rest) ≡ false = ap (λ z. opens_comment (z ++ rest)) (sym is) ∙ free in
     let e = look_at_mark before rest m h in

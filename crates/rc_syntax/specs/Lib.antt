@@ -5,11 +5,14 @@ pub mod Bytes
 pub mod Numerals
 pub mod Literals
 pub mod Words
+pub mod Printing
 pub mod Look
 pub mod Tree
 pub mod Shape
 pub mod Grammar
 pub mod Place
+pub mod Unplaced
+pub mod TreeWords
 pub mod Todo
 pub mod Reading
 pub mod Steps
