@@ -18,3 +18,11 @@ pub mod WellTypedGlobals
 pub mod WellTypedBodies
 pub mod WellTyped
 pub mod Typings
+pub mod Derived
+pub mod Strings
+pub mod Filled
+pub mod Ordered
+pub mod OrderedExpressions
+pub mod OrderedStatements
+pub mod OrderedItems
+pub mod InOrder

@@ -10,8 +10,8 @@ use Rattle.rc_core.specs.WellTyped.{FieldFits, StructFits, IsVariable, IsWellTyp
 use Rattle.rc_deletes.specs.declared.deletes.DeletesFault.{DeletesFault}
 use Rattle.rc_deletes.specs.Judged.{Judged, Holds, Faulty, with_part}
 use Rattle.rc_deletes.specs.Kinds.{place_of}
-use Rattle.rc_deletes.specs.Scopes.{Context, fields_in, struct_names, Scope, Meaning, a_local, a_global, a_function, a_builtin, meaning_in}
-use Rattle.rc_deletes.specs.Items.{is_among, Definition, names_of, with_structs, struct_definitions, function_names, field_of, shape_of, context_of, at_the_start, behind_items, Made, items, main_name, program_of}
+use Rattle.rc_deletes.specs.Scopes.{Context, fields_in, struct_names, type_names, Scope, Meaning, a_local, a_global, a_function, a_builtin, meaning_in}
+use Rattle.rc_deletes.specs.Items.{is_among, Definition, names_of, with_structs, struct_definitions, other_names, function_names, field_of, shape_of, context_of, at_the_start, behind_items, Made, items, main_name, program_of}
 use Rattle.rc_deletes.specs.Places.{deletes_faults}
 use Rattle.rc_deletes.specs.Answer.{main_fault, main_or, first_place, first_of, IsProgramOf}
 use Rattle.rc_deletes.specs.Limits.{HasFields, KeepsLimits}
@@ -90,28 +90,28 @@ module _ (is : List t.Item) (made : Made) (e : items (context_of is) at_the_star
   last = (behind_items (context_of is) at_the_start is).names
 
   names : struct_names (context_of is) ≡ names_of (struct_definitions is)
-  names = names_same (names_of (struct_definitions is)) (struct_definitions is)
+  names = names_same (names_of (struct_definitions is) ++ other_names is) (struct_definitions is)
 
   structs_from : StructsFrom (context_of is) (struct_definitions is) names 0
   structs_from = of_held (λ (m : Made). StructsFrom (context_of is) (struct_definitions is) names 0) (items (context_of is) at_the_start is) made (structs_hold (context_of is) (struct_definitions is) names [] is at_the_start refl refl) e
 
-  definition_at : (k : ℕ) (fields : p.Struct) → slice_get program.structs k ≡ Some fields → (d : Definition) × (slice_get (struct_definitions is) k ≡ Some d) × (fields_in (shape_of (names_of (struct_definitions is)) d) ≡ fields)
+  definition_at : (k : ℕ) (fields : p.Struct) → slice_get program.structs k ≡ Some fields → (d : Definition) × (slice_get (struct_definitions is) k ≡ Some d) × (fields_in (shape_of (names_of (struct_definitions is) ++ other_names is) d) ≡ fields)
   definition_at k fields h =
-      let one = map_at fields_in (map (shape_of (names_of (struct_definitions is))) (struct_definitions is)) k fields h in
-      let two = map_at (shape_of (names_of (struct_definitions is))) (struct_definitions is) k one.0 one.1 in
+      let one = map_at fields_in (map (shape_of (names_of (struct_definitions is) ++ other_names is)) (struct_definitions is)) k fields h in
+      let two = map_at (shape_of (names_of (struct_definitions is) ++ other_names is)) (struct_definitions is) k one.0 one.1 in
       (two.0, two.1, ap fields_in two.2 ∙ one.2)
 
   a_field_fits : (k : ℕ) (fields : p.Struct) → slice_get program.structs k ≡ Some fields → (j : ℕ) (f : p.Field) → slice_get fields j ≡ Some f → FieldFits program.structs k f
   a_field_fits k fields h j f q =
       let d = definition_at k fields h in
-      let there : slice_get (map (λ x. x.1) (map (field_of (names_of (struct_definitions is))) d.0.1)) j ≡ Some f = subst (λ x. slice_get x j ≡ Some f) (sym d.2) q in
-      let mine : slice_get (map (λ x. x.1) (map (field_of (struct_names (context_of is))) d.0.1)) j ≡ Some f = subst (λ ns. slice_get (map (λ x. x.1) (map (field_of ns) d.0.1)) j ≡ Some f) (sym names) there in
+      let there : slice_get (map (λ x. x.1) (map (field_of (names_of (struct_definitions is) ++ other_names is)) d.0.1)) j ≡ Some f = subst (λ x. slice_get x j ≡ Some f) (sym d.2) q in
+      let mine : slice_get (map (λ x. x.1) (map (field_of (type_names (context_of is))) d.0.1)) j ≡ Some f = subst (λ ns. slice_get (map (λ x. x.1) (map (field_of (ns ++ other_names is)) d.0.1)) j ≡ Some f) (sym names) there in
       field_in (context_of is) (structs_length (context_of is)) k d.0.1 (structs_from k d.0 (omega arith) d.1).0 j f mine
 
   struct_fits : HasFields is → (k : ℕ) (fields : p.Struct) → slice_get program.structs k ≡ Some fields → StructFits program.structs k fields
   struct_fits has k fields h =
       let d = definition_at k fields h in
-      let count : length fields ≡ length d.0.1 = ap length (sym d.2) ∙ length-map (map (field_of (names_of (struct_definitions is))) d.0.1) (λ x. x.1) ∙ length-map d.0.1 (field_of (names_of (struct_definitions is))) in
+      let count : length fields ≡ length d.0.1 = ap length (sym d.2) ∙ length-map (map (field_of (names_of (struct_definitions is) ++ other_names is)) d.0.1) (λ x. x.1) ∙ length-map d.0.1 (field_of (names_of (struct_definitions is) ++ other_names is)) in
       record {
         some_field = subst (λ n. 1 ≤ n) (sym count) (fields_of_one (struct_definitions is) (all_have_fields is [] tt has) k d.0 d.1);
         fields_fit = a_field_fits k fields h;

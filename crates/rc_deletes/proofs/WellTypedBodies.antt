@@ -12,7 +12,7 @@ use Rattle.rc_core.specs.WellTyped.{IsVariable}
 use Rattle.rc_deletes.specs.declared.fault.Refusal.TheVariants.{Mistyped}
 use Rattle.rc_deletes.specs.Judged.{failing}
 use Rattle.rc_deletes.specs.Kinds.{written_type}
-use Rattle.rc_deletes.specs.Scopes.{Context, struct_names, structs_in, Scope, Meaning, meaning_in}
+use Rattle.rc_deletes.specs.Scopes.{Context, struct_names, type_names, structs_in, Scope, Meaning, meaning_in}
 use Rattle.rc_deletes.specs.Statements.{Here, stmts}
 use Rattle.rc_deletes.specs.Items.{Outside, type_option, with_function, with_param, with_params, before_params, behind_body, behind_item, behind_items, is_struct_option, head_rule, Made, made_both, item, items}
 use Rattle.rc_deletes.proofs.Held.{Held, Given, held_parts, held_ruled, held_always, held_then, not_failing}
@@ -98,7 +98,7 @@ module _ (program : p.Program) (all : List Ty) (context : Context) where
 module _ (context : Context) where
   result_of_type : (r : Option t.TypeName) → OptionDefined context r → is_struct_option (type_option context r) ≡ false → IfSome (type_option context r) (IsVariable (structs_in context))
   result_of_type None h e = tt
-  result_of_type (Some n) h e = (h, not_true (is_struct (written_type (struct_names context) n)) e)
+  result_of_type (Some n) h e = (h, not_true (is_struct (written_type (type_names context) n)) e)
 
 module _ (program : p.Program) (context : Context) (structs : program.structs ≡ structs_in context) (defined : Defined program) (last : Scope) (there : (all : List Ty) → Known program all last) where
   abbrev pub AllFunctionsFit : List p.Function → Type 0
@@ -158,7 +158,7 @@ module _ (program : p.Program) (context : Context) (structs : program.structs �
 
     makes_fitting : (b : p.Stmts) → OptionDefined context result → is_struct_option (type_option context result) ≡ false → Variables context end → AreTyped program empty false b → FunctionFits program (function_of b)
     makes_fitting b d e v h = record {
-      parameters = omega (arith, prefix_length start.locals end.locals (on_stmts context start body).0, ap length (params_locals context (before_params own) qs), length-map qs (λ q. written_type (struct_names context) q.type_name));
+      parameters = omega (arith, prefix_length start.locals end.locals (on_stmts context start body).0, ap length (params_locals context (before_params own) qs), length-map qs (λ q. written_type (type_names context) q.type_name));
       locals = λ x u q. subst (λ s. IsVariable s u) (sym structs) (v x u q);
       result = subst (λ s. IfSome (type_option context result) (IsVariable s)) (sym structs) (result_of_type context result d e);
       body = all_typed_with program empty (p.block b) false b h;

@@ -15,7 +15,7 @@ use Rattle.rc_core.specs.Typing.{parameters_of}
 use Rattle.rc_deletes.specs.declared.fault.Refusal.TheVariants.{Mistyped, TooBig}
 use Rattle.rc_deletes.specs.Judged.{failing}
 use Rattle.rc_deletes.specs.Kinds.{place_of, written_type, base_type, starred}
-use Rattle.rc_deletes.specs.Scopes.{Context, struct_names, Scope, Meaning, a_local, a_global, a_function, a_builtin, Signature, meaning_in}
+use Rattle.rc_deletes.specs.Scopes.{Context, struct_names, type_names, Scope, Meaning, a_local, a_global, a_function, a_builtin, Signature, meaning_in}
 use Rattle.rc_deletes.specs.Statements.{stmts}
 use Rattle.rc_deletes.specs.Items.{with_new, with_functions, Outside, behind_definition, is_defined_before, type_option, signature_of, with_function, with_params, before_params, behind_body, behind_item, behind_items, is_empty, once, cell_type, cells_of_global, cells_of_struct, fields_rule, initial_of, value_or_zero, global_of, is_struct_option, head_rule, Made, nothing_made, made_both, item, items, main_name}
 use Rattle.rc_deletes.specs.Answer.{is_int, gives_int, takes_nothing, main_shape, main_fault}
@@ -44,7 +44,7 @@ module _ (context : Context) where
 
   pub global_adds : (o : Outside) (at : Spot) (ty : t.TypeName) (name : Name) (c : Option ℕ) (z : _) → Held AddsNone (item context o (t.global at ty name c z))
   global_adds o at ty name c z =
-      let initial = initial_of (written_type (struct_names context) ty) c z in
+      let initial = initial_of (written_type (type_names context) ty) c z in
       held_parts (λ (u : Unit {0}). Unit {0}) (λ (u : Unit {0}). Unit {0}) AddsNone (cell_type context o.structs ty) (once name (is_some (meaning_in o.names name.text))) _
       (held_always (Unit {0}) (cell_type context o.structs ty) tt) (held_always (Unit {0}) (once name (is_some (meaning_in o.names name.text))) tt)
       (λ u v h k. held_ruled AddsNone at (failing (is_none initial) Mistyped ++ failing (is_empty c || nat_lt 1048576 (o.cells + cells_of_global context ty c)) TooBig) (record { globals = global_of context ty c (value_or_zero initial) ∷ []; functions = [] }) (λ e. refl))
@@ -196,7 +196,7 @@ module _ (context : Context) (gs : List p.Global) (last : Scope) (outer : Outer 
     int_given : (r : Option t.TypeName) → gives_int r ≡ true → type_option context r ≡ Some int
     int_given None h = absurd cc
     int_given (Some n) h = go n.base n.stars (and_left (is_int n.base) _ h) (and_right (is_int n.base) _ h) where
-      go : (b : Base) (stars : List WrittenNote) → IsTrue (is_int b) → IsTrue (elim stars [ [] ↦ true | note ∷ notes ↦ false ]) → Some (starred (base_type (struct_names context) b) stars) ≡ Some int
+      go : (b : Base) (stars : List WrittenNote) → IsTrue (is_int b) → IsTrue (elim stars [ [] ↦ true | note ∷ notes ↦ false ]) → Some (starred (base_type (type_names context) b) stars) ≡ Some int
       go (base.Int at) [] a c = refl
       go b (n ∷ notes) a c = absurd cc
       go (base.Unsigned at) [] a c = absurd cc

@@ -17,12 +17,12 @@ use Rattle.rc_core.specs.Typing.{IsDefined}
 use Rattle.rc_core.specs.WellTyped.{IsInside, IsLength, FieldFits}
 use Rattle.rc_deletes.specs.declared.fault.Refusal.TheVariants.{Unknown, Twice, TooBig}
 use Rattle.rc_deletes.specs.Judged.{Holds, fails, failing}
-use Rattle.rc_deletes.specs.Kinds.{place_of, number_or, written_type, base_type, starred, note_of}
-use Rattle.rc_deletes.specs.Scopes.{Context, fields_in, struct_names, structs_in}
+use Rattle.rc_deletes.specs.Kinds.{place_of, number_or, struct_number, written_type, base_type, starred, note_of}
+use Rattle.rc_deletes.specs.Scopes.{Context, fields_in, struct_names, type_names, structs_in}
 use Rattle.rc_deletes.specs.Expressions.{base_rule}
 use Rattle.rc_deletes.specs.Items.{is_among, Definition, names_of, with_definition, with_structs, field_of, shape_of, Outside, behind_definition, is_defined_before, behind_item, value_base, cell_type, is_empty, once, field_rule, fields_rule, cells_of_struct, Made, nothing_made, item, items}
 use Rattle.rc_deletes.proofs.Held.{Held, held_parts, held_if, held_ruled, held_always, held_then, held_more, not_failing}
-use Rattle.rc_deletes.proofs.WellTypedExpressions.{base_fits, starred_defined, place_within}
+use Rattle.rc_deletes.proofs.WellTypedExpressions.{base_fits, starred_defined, place_within, struct_number_is}
 use Rattle.rc_deletes.proofs.Naming.{place_more, place_new}
 use Rattle.rc_deletes.proofs.Standing.{at_end}
 
@@ -41,36 +41,36 @@ module _ (context : Context) (same : length (struct_names context) ≡ length (s
   pointer_inside k n u [] = tt
   pointer_inside k n u (m ∷ notes) = pointer_inside k (note_of m) (pointer n u) notes
 
-  defined_before : (k : ℕ) (name : List ℕ) (o : Option ℕ) (n : ℕ) → place_of (struct_names context) name ≡ o → is_defined_before k o ≡ true → (number_or o n < length (structs_in context)) × (number_or o n < k)
-  defined_before k name (Some j) n h e = (subst (λ x. j < x) same (place_within (struct_names context) name j h), less j k e)
-  defined_before k name None n h e = absurd cc
+  defined_before : (k : ℕ) (name : List ℕ) (o : Option ℕ) → place_of (struct_names context) name ≡ o → is_defined_before k o ≡ true → (struct_number (type_names context) name < length (structs_in context)) × (struct_number (type_names context) name < k)
+  defined_before k name (Some j) h e = subst (λ n. (n < length (structs_in context)) × (n < k)) (sym (struct_number_is context name j h)) (subst (λ x. j < x) same (place_within (struct_names context) name j h), less j k e)
+  defined_before k name None h e = absurd cc
 
-  value_fits : (k : ℕ) (b : Base) → Held (λ u. IsDefined (structs_in context) (base_type (struct_names context) b) × IsInside k (base_type (struct_names context) b)) (value_base context k b)
+  value_fits : (k : ℕ) (b : Base) → Held (λ u. IsDefined (structs_in context) (base_type (type_names context) b) × IsInside k (base_type (type_names context) b)) (value_base context k b)
   value_fits k (base.Int at) = (tt, tt)
   value_fits k (base.Unsigned at) = (tt, tt)
   value_fits k (base.Char at) = (tt, tt)
   value_fits k (base.Region at) = (tt, tt)
   value_fits k (base.Struct at name) =
-      held_if (λ (u : Unit {0}). IsDefined (structs_in context) (base_type (struct_names context) (base.Struct at name)) × IsInside k (base_type (struct_names context) (base.Struct at name))) (is_defined_before k (place_of (struct_names context) name.text)) (Holds tt) (fails name.spot Unknown)
-      (λ e. defined_before k name.text (place_of (struct_names context) name.text) _ refl e) (λ e. tt)
+      held_if (λ (u : Unit {0}). IsDefined (structs_in context) (base_type (type_names context) (base.Struct at name)) × IsInside k (base_type (type_names context) (base.Struct at name))) (is_defined_before k (place_of (struct_names context) name.text)) (Holds tt) (fails name.spot Unknown)
+      (λ e. defined_before k name.text (place_of (struct_names context) name.text) refl e) (λ e. tt)
 
-  cell_of : (k : ℕ) (b : Base) (stars : List WrittenNote) → Held (λ (u : Unit {0}). IsDefined (structs_in context) (starred (base_type (struct_names context) b) stars) × IsInside k (starred (base_type (struct_names context) b) stars)) (elim stars [ [] ↦ value_base context k b | note ∷ notes ↦ base_rule context b ])
+  cell_of : (k : ℕ) (b : Base) (stars : List WrittenNote) → Held (λ (u : Unit {0}). IsDefined (structs_in context) (starred (base_type (type_names context) b) stars) × IsInside k (starred (base_type (type_names context) b) stars)) (elim stars [ [] ↦ value_base context k b | note ∷ notes ↦ base_rule context b ])
   cell_of k b [] = value_fits k b
-  cell_of k b (n ∷ notes) = held_more (λ (u : Unit {0}). IsDefined (structs_in context) (base_type (struct_names context) b)) _ (base_rule context b) (base_fits context b) (λ u h. (starred_defined (structs_in context) (base_type (struct_names context) b) (n ∷ notes) h, pointer_inside k (note_of n) (base_type (struct_names context) b) notes))
+  cell_of k b (n ∷ notes) = held_more (λ (u : Unit {0}). IsDefined (structs_in context) (base_type (type_names context) b)) _ (base_rule context b) (base_fits context b) (λ u h. (starred_defined (structs_in context) (base_type (type_names context) b) (n ∷ notes) h, pointer_inside k (note_of n) (base_type (type_names context) b) notes))
 
-  pub cell_fits : (k : ℕ) (n : t.TypeName) → Held (λ (u : Unit {0}). IsDefined (structs_in context) (written_type (struct_names context) n) × IsInside k (written_type (struct_names context) n)) (cell_type context k n)
+  pub cell_fits : (k : ℕ) (n : t.TypeName) → Held (λ (u : Unit {0}). IsDefined (structs_in context) (written_type (type_names context) n) × IsInside k (written_type (type_names context) n)) (cell_type context k n)
   cell_fits k n = cell_of k n.base n.stars
 
   abbrev AFieldFits : ℕ → t.Field → Type 0
-  AFieldFits k f = FieldFits (structs_in context) k (field_of (struct_names context) f).1
+  AFieldFits k f = FieldFits (structs_in context) k (field_of (type_names context) f).1
 
   abbrev pub AllFieldsFit : ℕ → List t.Field → Type 0
   AllFieldsFit k [] = Unit {0}
-  AllFieldsFit k (f ∷ fs) = FieldFits (structs_in context) k (field_of (struct_names context) f).1 × AllFieldsFit k fs
+  AllFieldsFit k (f ∷ fs) = FieldFits (structs_in context) k (field_of (type_names context) f).1 × AllFieldsFit k fs
 
   field_fits : (k : ℕ) (earlier : List (List ℕ)) (f : t.Field) → Held (λ (u : Unit {0}). AFieldFits k f) (field_rule context k earlier f)
   field_fits k earlier f =
-      held_parts (λ (u : Unit {0}). IsDefined (structs_in context) (written_type (struct_names context) f.type_name) × IsInside k (written_type (struct_names context) f.type_name)) (λ (u : Unit {0}). Unit {0}) (λ (u : Unit {0}). AFieldFits k f) (cell_type context k f.type_name) (once f.name (is_among earlier f.name.text)) _
+      held_parts (λ (u : Unit {0}). IsDefined (structs_in context) (written_type (type_names context) f.type_name) × IsInside k (written_type (type_names context) f.type_name)) (λ (u : Unit {0}). Unit {0}) (λ (u : Unit {0}). AFieldFits k f) (cell_type context k f.type_name) (once f.name (is_among earlier f.name.text)) _
       (cell_fits k f.type_name) (held_always (Unit {0}) (once f.name (is_among earlier f.name.text)) tt)
       (λ u v h q. held_ruled (λ (u : Unit {0}). AFieldFits k f) f.spot (failing (is_empty f.length) TooBig) tt (λ e. record { defined = h.0; inside = h.1; counted = at_least_one f.length (not_failing (is_empty f.length) TooBig e) }))
 
@@ -80,9 +80,9 @@ module _ (context : Context) (same : length (struct_names context) ≡ length (s
       held_parts (λ (u : Unit {0}). AFieldFits k f) (λ (u : Unit {0}). AllFieldsFit k fs) (λ (u : Unit {0}). AllFieldsFit k (f ∷ fs)) (field_rule context k earlier f) (fields_rule context k (earlier ++ f.name.text ∷ []) fs) _
       (field_fits k earlier f) (fields_fit k (earlier ++ f.name.text ∷ []) fs) (λ u v h q. (h, q))
 
-  pub field_in : (k : ℕ) (fs : List t.Field) → AllFieldsFit k fs → (j : ℕ) (f : p.Field) → slice_get (map (λ x. x.1) (map (field_of (struct_names context)) fs)) j ≡ Some f → FieldFits (structs_in context) k f
+  pub field_in : (k : ℕ) (fs : List t.Field) → AllFieldsFit k fs → (j : ℕ) (f : p.Field) → slice_get (map (λ x. x.1) (map (field_of (type_names context)) fs)) j ≡ Some f → FieldFits (structs_in context) k f
   field_in k [] h j f e = absurd cc
-  field_in k (g ∷ fs) h zero f e = let same : (field_of (struct_names context) g).1 ≡ f = cc in subst (FieldFits (structs_in context) k) same h.0
+  field_in k (g ∷ fs) h zero f e = let same : (field_of (type_names context) g).1 ≡ f = cc in subst (FieldFits (structs_in context) k) same h.0
   field_in k (g ∷ fs) h (suc j) f e = field_in k fs h.1 j f e
 
 or_more : (ds : List Definition) (d : Definition) (is : List t.Item) (b : Bool) → ((rest : List Definition) × (with_structs ds is ≡ ds ++ rest)) → ((rest : List Definition) × (with_structs (ds ++ d ∷ []) is ≡ (ds ++ d ∷ []) ++ rest)) → (rest : List Definition) × (with_structs (if b then ds else ds ++ d ∷ []) is ≡ ds ++ rest)

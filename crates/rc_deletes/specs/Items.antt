@@ -1,5 +1,5 @@
 -- The rules of what stands outside of functions, and the program of a whole text.
-use Rattle.std.specs.Prelude.{◌≡◌, ◌⊎◌, ℕ, suc, max, ◌+◌, ℤ, pos, neg_ℤ, List, [], ◌∷◌, ◌++◌, Option, Some, None, Bool, true, false, not, ◌&&◌, ◌||◌, nat_eq, nat_lt, length, map, option_map, is_some, is_none, if◌then◌else◌}
+use Rattle.std.specs.Prelude.{◌≡◌, ◌⊎◌, ℕ, suc, max, flat_map, ◌+◌, ℤ, pos, neg_ℤ, List, [], ◌∷◌, ◌++◌, Option, Some, None, Bool, true, false, not, ◌&&◌, ◌||◌, nat_eq, nat_lt, length, map, option_map, is_some, is_none, if◌then◌else◌}
 use Rattle.rc_syntax.specs.declared.tree.Spot.{Spot}
 use Rattle.rc_syntax.specs.declared.tree.Name.{Name}
 use Rattle.rc_syntax.specs.declared.tree.Base.{Base}
@@ -21,7 +21,7 @@ use Rattle.rc_deletes.specs.declared.sort.Sort.TheVariants.{Number, Region, Poin
 use Rattle.rc_deletes.specs.declared.builtin.Builtin.TheVariants.{NewRegion, NewSubregion, DeleteRegion, RegionOf, Putchar, Getchar}
 use Rattle.rc_deletes.specs.Judged.{Judged, Holds, with_part, with_parts, both, faults, fails, failing, ruled}
 use Rattle.rc_deletes.specs.Kinds.{place_of, number_or, same_type, written_type, sort_of_type}
-use Rattle.rc_deletes.specs.Scopes.{Context, Shape, struct_names, structs_in, Scope, Meaning, a_local, a_global, a_function, a_builtin, Signature, builtin_signature, meaning_in}
+use Rattle.rc_deletes.specs.Scopes.{Context, Shape, struct_names, type_names, structs_in, Scope, Meaning, a_local, a_global, a_function, a_builtin, Signature, builtin_signature, meaning_in}
 use Rattle.rc_deletes.specs.Expressions.{base_rule}
 use Rattle.rc_deletes.specs.Statements.{Here, with_local, new_name, behind_stmts, stmts}
 
@@ -67,10 +67,38 @@ field_of structs f = (f.name.text, record { ty = written_type structs f.type_nam
 abbrev pub shape_of : List (List ℕ) → Definition → Shape
 shape_of structs d = record { name = d.0; fields = map (field_of structs) d.1 }
 
+-- the struct that a type names
+abbrev pub named_by : Base → List (List ℕ)
+named_by (base.Struct at name) = name.text ∷ []
+named_by b = []
+
+abbrev pub named_in : t.TypeName → List (List ℕ)
+named_in n = named_by n.base
+
+abbrev pub named_in_option : Option t.TypeName → List (List ℕ)
+named_in_option None = []
+named_in_option (Some n) = named_in n
+
+-- the structs that fields, results and parameters name
+abbrev pub mentioned : List t.Item → List (List ℕ)
+mentioned [] = []
+mentioned (t.struct at name fields ∷ is) = flat_map (λ f. named_in f.type_name) fields ++ mentioned is
+mentioned (t.global at n name count c ∷ is) = mentioned is
+mentioned (t.function at deletes result name params body ∷ is) = named_in_option result ++ (flat_map (λ q. named_in q.type_name) params ++ mentioned is)
+
+-- those of them that are not among the defined ones, each once
+abbrev pub with_others : (defined others : List (List ℕ)) → List (List ℕ) → List (List ℕ)
+with_others defined others [] = others
+with_others defined others (name ∷ names) = with_others defined (if is_among (defined ++ others) name then others else others ++ name ∷ []) names
+
+abbrev pub other_names : List t.Item → List (List ℕ)
+other_names items = with_others (names_of (struct_definitions items)) [] (mentioned items)
+
 -- what the whole text defines
 abbrev pub context_of : List t.Item → Context
 context_of items = record {
-  shapes = map (shape_of (names_of (struct_definitions items))) (struct_definitions items);
+  shapes = map (shape_of (names_of (struct_definitions items) ++ other_names items)) (struct_definitions items);
+  others = other_names items;
   functions = function_names items;
 }
 
@@ -112,17 +140,17 @@ is_defined_before n None = false
 is_defined_before n (Some k) = nat_lt k n
 
 abbrev pub global_of : Context → t.TypeName → Option ℕ → (initial : ℤ) → p.Global
-global_of context n count initial = record { ty = written_type (struct_names context) n; count = count; initial = initial }
+global_of context n count initial = record { ty = written_type (type_names context) n; count = count; initial = initial }
 
 abbrev pub cells_of_global : Context → t.TypeName → Option ℕ → ℕ
 cells_of_global context n count = global_size (structs_in context) (global_of context n count (pos 0))
 
 abbrev pub type_option : Context → Option t.TypeName → Option Ty
-type_option context n = option_map (written_type (struct_names context)) n
+type_option context n = option_map (written_type (type_names context)) n
 
 abbrev pub signature_of : Context → Bool → Option t.TypeName → List t.Param → Signature
 signature_of context deletes result params = record {
-  takes = map (λ q. written_type (struct_names context) q.type_name) params;
+  takes = map (λ q. written_type (type_names context) q.type_name) params;
   gives = type_option context result;
   deletes = deletes;
 }
@@ -134,8 +162,8 @@ with_function context o deletes result name params =
 -- a parameter is a local, which may have no name
 abbrev pub with_param : Context → Here → t.Param → Here
 with_param context here q = elim q.name [
-  | None ↦ record here { locals = here.locals ++ written_type (struct_names context) q.type_name ∷ [] }
-  | Some name ↦ with_local here (written_type (struct_names context) q.type_name) name.text
+  | None ↦ record here { locals = here.locals ++ written_type (type_names context) q.type_name ∷ [] }
+  | Some name ↦ with_local here (written_type (type_names context) q.type_name) name.text
 ]
 
 abbrev pub with_params : Context → Here → List t.Param → Here
@@ -154,7 +182,7 @@ behind_body context o params body = behind_stmts context (with_params context (b
 abbrev pub behind_item : Context → Outside → t.Item → Outside
 behind_item context o (t.struct at name fields) = record o { structs = behind_definition o.structs (place_of (struct_names context) name.text) }
 behind_item context o (t.global at n name count c) = record o {
-  names = with_name o.names name.text (a_global o.globals (written_type (struct_names context) n) count);
+  names = with_name o.names name.text (a_global o.globals (written_type (type_names context) n) count);
   globals = suc o.globals;
   cells = o.cells + cells_of_global context n count;
 }
@@ -272,7 +300,7 @@ param_name here (Some name) = new_name here.first here.names name
 
 abbrev pub param_rule : Context → (has_body : Bool) → Here → t.Param → Judged (Unit {0})
 param_rule context has_body here q = with_parts (base_rule context q.type_name.base) (param_name here q.name)
-    (λ u v. ruled q.spot (failing (is_struct (written_type (struct_names context) q.type_name) || (has_body && is_none q.name)) Mistyped) tt)
+    (λ u v. ruled q.spot (failing (is_struct (written_type (type_names context) q.type_name) || (has_body && is_none q.name)) Mistyped) tt)
 
 abbrev pub params_rule : Context → (has_body : Bool) → Here → List t.Param → Judged (Unit {0})
 params_rule context has_body here [] = Holds tt
@@ -306,7 +334,7 @@ item context o (t.struct at name fields) =
     (λ u v. ruled at (failing (nat_lt 4096 (cells_of_struct context (place_of (struct_names context) name.text))) TooBig) nothing_made)
 item context o (t.global at n name count c) =
     with_parts (cell_type context o.structs n) (once name (is_some (meaning_in o.names name.text)))
-    (λ u v. global_made context at n count (o.cells + cells_of_global context n count) (initial_of (written_type (struct_names context) n) count c))
+    (λ u v. global_made context at n count (o.cells + cells_of_global context n count) (initial_of (written_type (type_names context) n) count c))
 item context o (t.function at deletes result name params None) =
     with_part (head_rule context o false deletes result name params)
     (λ u. ruled at (failing (is_struct_option (type_option context result)) Mistyped) nothing_made)

@@ -1,5 +1,6 @@
 -- Types as the rules look at them: their sort, when two are equal, and what the text writes. Structs are numbered in the
--- order in which the text first defines them. A name that is defined nowhere has a number of its own past all of those.
+-- order in which the text first defines them. Behind them stand those that are defined nowhere and that a field, a result or
+-- a parameter names. Each other name has a number of its own past all of those.
 use Rattle.std.specs.Prelude.{ℕ, suc, ◌+◌, ◌*◌, List, [], ◌∷◌, Option, Some, None, Bool, true, false, ◌&&◌, nat_eq, position, length}
 use Rattle.std.specs.Str.{bytes_eq}
 use Rattle.rc_syntax.specs.declared.tree.Note.{Note as WrittenNote}

@@ -12,4 +12,5 @@ pub mod Ranges
 pub mod Limits
 pub mod Places
 pub mod Answer
+pub mod Order
 pub mod Examples

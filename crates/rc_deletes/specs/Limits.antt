@@ -1,7 +1,10 @@
 -- What a tree keeps so that its program fits together: numbers as words have them, some field in every struct, and the limits of
 -- strings.
 use Rattle.std.specs.Prelude.{◌≡◌, ℕ, ◌≤◌, List, [], ◌∷◌, Some, length, slice_get}
+use Rattle.rc_syntax.specs.Tokens as w
+use Rattle.rc_syntax.specs.Tokens.{Word}
 use Rattle.rc_syntax.specs.Tree as t
+use Rattle.rc_syntax.specs.Grammar.{Placed}
 use Rattle.rc_deletes.specs.Items.{context_of, at_the_start, behind_items}
 use Rattle.rc_deletes.specs.Ranges.{ItemsInRange}
 
@@ -20,3 +23,12 @@ pub record KeepsLimits (tree : t.Tree) : Type 0 where
   pub fields : HasFields tree.items
   pub number_of_strings : length (strings_of tree) ≤ 16777216
   pub strings : (k : ℕ) (bytes : List ℕ) → slice_get (strings_of tree) k ≡ Some bytes → length bytes ≤ 1048576
+
+-- the bytes of each string literal among the words are few enough
+abbrev pub IsShort : Word → Type 0
+IsShort (w.string bytes) = length bytes ≤ 1048576
+IsShort i = Unit {0}
+
+abbrev pub AreShort : List Placed → Type 0
+AreShort [] = Unit {0}
+AreShort (p ∷ ps) = IsShort p.word × AreShort ps

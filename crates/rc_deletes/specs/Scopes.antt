@@ -1,5 +1,5 @@
 -- What names stand for.
-use Rattle.std.specs.Prelude.{ℕ, List, [], ◌∷◌, Option, Some, None, Bool, true, false, map, if◌then◌else◌}
+use Rattle.std.specs.Prelude.{ℕ, List, [], ◌∷◌, ◌++◌, Option, Some, None, Bool, true, false, map, if◌then◌else◌}
 use Rattle.std.specs.Str.{bytes_eq}
 use Rattle.rc_core.specs.Types.{Ty, int, region}
 use Rattle.rc_core.specs.Programs.{Field, Struct}
@@ -32,13 +32,19 @@ pub record Shape : Type 0 where
   pub name : List ℕ
   pub fields : List (List ℕ × Field)
 
--- what the whole text defines: its structs, and the names of its functions, each name once
+-- what the whole text defines: its structs, and the names of its functions, each name once; and the structs that are defined
+-- nowhere and that a field, a result or a parameter names
 pub record Context : Type 0 where
   pub shapes : List Shape
+  pub others : List (List ℕ)
   pub functions : List (List ℕ)
 
 abbrev pub struct_names : Context → List (List ℕ)
 struct_names context = map (λ s. s.name) context.shapes
+
+-- the names by which types are told apart, each with its number
+abbrev pub type_names : Context → List (List ℕ)
+type_names context = struct_names context ++ context.others
 
 abbrev pub fields_in : Shape → Struct
 fields_in s = map (λ f. f.1) s.fields

@@ -15,7 +15,7 @@ use Rattle.rc_core.specs.Layout.{size}
 use Rattle.rc_deletes.specs.declared.fault.Refusal.TheVariants.{Twice, Mistyped}
 use Rattle.rc_deletes.specs.Judged.{Judged, Holds, with_part, with_parts, both, fails, fitting}
 use Rattle.rc_deletes.specs.Kinds.{written_type}
-use Rattle.rc_deletes.specs.Scopes.{Context, struct_names, structs_in, Scope, Meaning, a_local, meaning_in}
+use Rattle.rc_deletes.specs.Scopes.{Context, struct_names, type_names, structs_in, Scope, Meaning, a_local, meaning_in}
 use Rattle.rc_deletes.specs.Values.{Typed, Meant, a_variable, a_place, typed, as_value, spot_of, fitted, condition_rule}
 use Rattle.rc_deletes.specs.Operators.{result, change_of, changed}
 use Rattle.rc_deletes.specs.Calls.{callee_rule, call_statement}
@@ -71,7 +71,7 @@ abbrev pub with_local : Here → Ty → List ℕ → Here
 with_local here t name = record here { names = (name, a_local (length here.locals) t) ∷ here.names; locals = here.locals ++ t ∷ [] }
 
 abbrev pub local_type : Context → t.Local → Ty
-local_type context l = written_type (struct_names context) l.type_name
+local_type context l = written_type (type_names context) l.type_name
 
 -- what a declared name stands for holds from its declarator on
 abbrev pub declared : Context → Here → t.Local → Here

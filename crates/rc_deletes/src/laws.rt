@@ -1,13 +1,19 @@
 // What holds of typing whatever the tree.
 
-ghost use Rattle.std.specs.Prelude.{◌≡◌, ◌↔◌};
+ghost use Rattle.std.specs.Prelude.{◌≡◌, ◌↔◌, ◌≤◌, List, Some, length};
 ghost use Rattle.rc_syntax.specs.declared.tree.Spot.{Spot};
 ghost use Rattle.rc_syntax.specs.Shape as written;
 ghost use Rattle.rc_core.specs.Programs.{Program};
 ghost use Rattle.rc_deletes.specs.declared.fault.Refusal.{Refusal};
-ghost use Rattle.rc_deletes.specs.Items.{Typed, Violation};
+ghost use Rattle.rc_deletes.specs.Items.{Typed, Violation, judged};
 ghost use Rattle.rc_deletes.specs.Answer.{IsProgramOf};
-ghost use Rattle.rc_deletes.specs.Limits.{KeepsLimits};
+ghost use Rattle.rc_deletes.specs.Limits.{AreShort, KeepsLimits};
+ghost use Rattle.rc_deletes.specs.Ranges.{ItemsInRange};
+ghost use Rattle.rc_syntax.specs.Grammar.{Derives, Placed, node, placed, Text};
+ghost use Rattle.rc_syntax.specs.Tokens.{Token};
+ghost use Rattle.rc_deletes.specs.Judged.{first_fault};
+ghost use Rattle.rc_deletes.specs.Order.{IsLeast, PlainFirst};
+ghost use Rattle.rc_deletes.specs.declared.fault.Fault.{Fault};
 ghost use Rattle.rc_core.specs.WellTyped.{IsWellTyped};
 
 use rc_syntax::tree::Tree;
@@ -29,4 +35,21 @@ pub fn has_program_or_violation(_tree: &Tree)
 /// enough.
 pub fn fits_together(_tree: &Tree)
     ensures { (program : Program) → KeepsLimits (written.tree_of _tree.now) → IsProgramOf (written.tree_of _tree.now) program → IsWellTyped program }
+{}
+
+/// The tree of a text keeps its limits, where its words are at most 16,777,216, each string literal
+/// among them has at most 1,048,576 bytes, and its numbers are those of words.
+#[tactic(auto, using(crate::proofs::Filled::keeps_limits))]
+pub fn keeps_limits(_tree: &Tree)
+    ensures { (words : List Placed) → Derives words (node Text (written.tree_of _tree.now).items) → length words ≤ 16777216 → AreShort words → ItemsInRange (written.tree_of _tree.now).items → KeepsLimits (written.tree_of _tree.now) }
+{}
+
+/// In the tree of a text the first violation that a walk of the rules meets is the least of all: no
+/// other one stands at an earlier word, and at its node none has a refusal with a smaller number.
+///
+/// Where several fields or globals share a struct, those without stars come first: a struct that is
+/// defined later in the text is refused at its name where one of them has it by value, and a walk
+/// comes to that one only behind what is wrong with those before it.
+pub fn first_violation_is_least(_tree: &Tree)
+    ensures { (tokens : List Token) (first : Fault) → Derives (placed 0 tokens) (node Text (written.tree_of _tree.now).items) → PlainFirst (written.tree_of _tree.now) → first_fault (judged (written.tree_of _tree.now)) ≡ Some first → IsLeast (written.tree_of _tree.now) first }
 {}

@@ -1,2 +1,4 @@
 pub mod Numbers
 pub mod Keys
+pub mod Stacks
+pub mod Finds

@@ -16,7 +16,7 @@ at_end p l le none = grind (arith, nat_tests)
 
 module _ (names : List (List ℕ)) (name : List ℕ) where
   -- a name is at its place
-  is_at : (n : ℕ) → place_of names name ≡ Some n → (n < length names) × (get_or names n name ≡ name)
+  pub is_at : (n : ℕ) → place_of names name ≡ Some n → (n < length names) × (get_or names n name ≡ name)
   is_at n found =
       let at = position-Some (bytes_eq name) names n name found in
       (at.0, sym ((bytes_eq-Decides name (get_or names n name)).0 at.1))
@@ -29,7 +29,7 @@ module _ (names : List (List ℕ)) (name : List ℕ) where
   pub first_at_end : place_of names name ≡ None → position_or_len (bytes_eq name) names ≡ length names
   first_at_end none = at_end (position_or_len (bytes_eq name) names) (length names) (prefix_len-le-length _ names) none
 
-  differs : place_of names name ≡ None → (k : ℕ) (d : List ℕ) → k < length names → get_or names k d ≢ name
+  pub differs : place_of names name ≡ None → (k : ℕ) (d : List ℕ) → k < length names → get_or names k d ≢ name
   differs none k d within same =
       let first = first_at_end none in
       let fails = fails_before_first (bytes_eq name) names k d (omega (arith, first)) in

@@ -35,6 +35,13 @@ impl Names {
         }
     }
 
+    /// How many names there are.
+    pub fn len(&self) -> usize
+        ensures { result ≡ length self.now }
+    {
+        self.names.len()
+    }
+
     /// The number of a name, which gets the next one where it is new. The other names keep theirs.
     pub fn number(&mut self, name: &[u8]) -> Result<u32, NoMemory>
         requires { length self.old < 4294967295 }
@@ -89,11 +96,13 @@ mod tests {
     #[test]
     fn numbers_go_up_in_order_of_first_sight(rt: HostRuntime) -> Result<(), Fail> {
         let mut names = Names::new(rt.alloc());
+        assert_eq!(rt; names.len(), 0);
         assert_eq!(rt; names.find(b"main"), None);
         assert_eq!(rt; names.number(b"main")?, 0);
         assert_eq!(rt; names.number(b"")?, 1);
         assert_eq!(rt; names.number(b"mai")?, 2);
         assert_eq!(rt; names.number(b"main")?, 0);
+        assert_eq!(rt; names.len(), 3);
         assert_eq!(rt; names.find(b"mai"), Some(2));
         assert_eq!(rt; names.find(b""), Some(1));
         assert_eq!(rt; names.find(b"mains"), None);

@@ -125,7 +125,7 @@ blank_values_kept : (layout : Layout) (n : ℕ) → flat_map (map blank_cell) (r
 blank_values_kept layout zero = refl
 blank_values_kept layout (suc n) = ap (λ l. l ++ flat_map (map blank_cell) (replicate n layout)) (blank_cells_kept layout) ∙ ap (λ l. map k.blank_cell (map kind_of layout) ++ l) (blank_values_kept layout n)
 
-blank_kept : (layout : Layout) (n : ℕ) → kept_object (blank layout n) ≡ k.blank (map kind_of layout) n
+pub blank_kept : (layout : Layout) (n : ℕ) → kept_object (blank layout n) ≡ k.blank (map kind_of layout) n
 blank_kept layout n = ap (λ (vs : List Value). record { kinds = map kind_of layout; count = n; values = vs }) (blank_values_kept layout n)
 
 added_kept : (heap : Heap) (r n : ℕ) (layout : Layout) → live heap r ≡ true → kept_heap (with_objects heap r (λ os. os ++ blank layout n ∷ [])) ≡ k.with_objects (kept_heap heap) r (λ os. os ++ k.blank (map kind_of layout) n ∷ [])

@@ -1,6 +1,8 @@
 pub mod LiveParts
 pub mod LiveFrames
 pub mod Lists
+pub mod Laying
+pub mod Blanks
 pub mod Simulation
 pub mod Keeps
 pub mod Steps

@@ -1,6 +1,7 @@
 pub mod Values
 pub mod Outcomes
 pub mod Kept
+pub mod Laid
 pub mod LiveAt
 pub mod LiveBehind
 pub mod Change
@@ -12,3 +13,4 @@ pub mod Whole
 pub mod Prefix
 pub mod Codes
 pub mod Coming
+pub mod Leaving

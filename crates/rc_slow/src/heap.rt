@@ -1,14 +1,20 @@
 // The heap: the regions that were made, of which a deleted one keeps its place and its parent.
 
-ghost use Rattle.std.specs.Prelude.{◌≡◌, ◌++◌, ◌∷◌, [], length, map, drop, slice_get, option_map, OnOk, IfOk, IfErr, pos, ◌+ℤ◌, ◌&&◌};
+ghost use Rattle.std.specs.Prelude.{◌≡◌, ◌++◌, ◌∷◌, [], length, map, drop, slice_get, option_map, List, None, OnOk, OnErr, IfOk, IfErr, pos, ◌+ℤ◌, ◌&&◌};
 ghost use Rattle.std.specs.List.{list_any, list_all};
 ghost use Rattle.rc_base.specs.declared.ends.RunFault.TheVariants.{Memory};
 ghost use Rattle.rc_core.specs.Evaluation.{toward};
-ghost use Rattle.rc_core.specs.Heap.{Handle, Pointer, is_above, is_fresh, fits, update};
+ghost use Rattle.rc_core.specs.Heap.{Handle, Pointer, first_heap, global_object, global_object_of, literal, is_above, is_fresh, fits, update};
+ghost use Rattle.rc_core.specs.Layout.{Layout};
+ghost use Rattle.rc_core.specs.Programs.{Struct as Fields};
+ghost use Rattle.rc_core.specs.Shapes.{bytes_of, global_of, program_of, ty_of};
 ghost use Rattle.rc_core.specs.Source.{unfit};
-ghost use Rattle.rc_slow.specs.Kept.{allocated, count_in, object_names, killed, with_objects, deleted, fitting, has_child, is_named, kinds_in, live, live_address, live_region, load, load_all, made, object_at, objects, parent, room, spot_of, step, store, written};
+ghost use Rattle.rc_slow.specs.Kept.{allocated, count_in, object_names, killed, with_objects, deleted, fitting, has_child, is_named, kept_heap, kept_object, kinds_in, live, live_address, live_region, load, load_all, made, object_at, objects, parent, room, spot_of, step, store, written};
+ghost use Rattle.rc_slow.specs.KeptWorld.{KeptWorld, kept};
+ghost use Rattle.rc_slow.specs.Laid.{AreLaidOut};
+ghost use Rattle.rc_slow.specs.Leaving.{Leaves};
 ghost use Rattle.rc_slow.specs.Outcomes.{Is, Does};
-ghost use Rattle.rc_slow.specs.Values.{address_of, value_of};
+ghost use Rattle.rc_slow.specs.Values.{address_of, kind_of, value_of};
 ghost use Rattle.rc_slow.specs.declared.stop.Stop.TheVariants.{Cut};
 
 use crate::layouts::{Kind, Layouts, note_of};
@@ -18,7 +24,7 @@ use crate::stop::{Stop, trap};
 use crate::target::{Target, is_index, product_of_cells, sum_of_cells};
 use crate::value::{Address, Value};
 use crate::values::{Values, front_of};
-use rc_base::{RunFault, Trap};
+use rc_base::Trap;
 use rc_core::operators::Direction;
 use rc_core::parts::{Global as Variable, Parts};
 use rc_core::ty::{Note, Ty};
@@ -47,14 +53,23 @@ pub(crate) struct Spot {
     pub(crate) cell: u64,
 }
 
-fn is_number(ty: &Ty) -> bool {
+/// A global that is one value: a number has its first value, and everything else is blank.
+fn global_value<'p>(
+    alloc: Global,
+    kinds: &'p [Kind],
+    ty: &Ty,
+    initial: i64,
+) -> Result<Object<'p>, Stop>
+    ensures object { (layout : Layout) → kinds.now ≡ map kind_of layout → IfOk result (λ o. o ≡ kept_object (global_object_of layout (ty_of ty.now) None initial)) }
+    ensures memory { IfErr result (λ stop. stop ≡ Cut Memory) }
+{
     match ty {
-        Ty::Int => true,
-        Ty::Unsigned => true,
-        Ty::Char => true,
-        Ty::Region => false,
-        Ty::Struct(_) => false,
-        Ty::Pointer(_, _) => false,
+        Ty::Int => number_object(alloc, kinds, initial),
+        Ty::Unsigned => number_object(alloc, kinds, initial),
+        Ty::Char => number_object(alloc, kinds, initial),
+        Ty::Region => blank(alloc, kinds, 1),
+        Ty::Struct(_) => blank(alloc, kinds, 1),
+        Ty::Pointer(_, _) => blank(alloc, kinds, 1),
     }
 }
 
@@ -62,17 +77,46 @@ fn global_object<'p>(
     alloc: Global,
     layouts: &'p Layouts,
     global: &Variable,
-) -> Result<Object<'p>, Stop> {
+) -> Result<Object<'p>, Stop>
+    ensures object { (structs : List Fields) → AreLaidOut structs layouts.now → IfOk result (λ o. o ≡ kept_object (global_object structs (global_of global.now))) }
+    ensures memory { IfErr result (λ stop. stop ≡ Cut Memory) }
+{
     let kinds = layouts.cells_of(&global.ty);
     match global.length {
         Some(count) => blank(alloc, kinds, count as u64),
-        None => {
-            if !is_number(&global.ty) {
-                return blank(alloc, kinds, 1);
-            }
-            number_object(alloc, kinds, global.initial)
-        }
+        None => global_value(alloc, kinds, &global.ty, global.initial),
     }
+}
+
+/// Adds the globals' objects, in order.
+fn push_globals<'p>(
+    alloc: Global,
+    objects: &mut Vec<Object<'p>>,
+    layouts: &'p Layouts,
+    globals: &[Variable],
+) -> Result<(), Stop>
+    ensures pushed { (structs : List Fields) → AreLaidOut structs layouts.now → OnOk result (objects.new.items ≡ objects.old.items ++ map kept_object (map (global_object structs) (map global_of globals.now))) }
+    ensures memory { IfErr result (λ stop. stop ≡ Cut Memory) }
+{
+    for global in globals {
+        objects.push(global_object(alloc, layouts, global)?)?;
+    }
+    Ok(())
+}
+
+/// Adds the string literals' objects, in order.
+fn push_literals<'p>(
+    alloc: Global,
+    objects: &mut Vec<Object<'p>>,
+    strings: &[Vec<u8>],
+) -> Result<(), Stop>
+    ensures pushed { OnOk result (objects.new.items ≡ objects.old.items ++ map kept_object (map literal (map bytes_of strings.now))) }
+    ensures memory { IfErr result (λ stop. stop ≡ Cut Memory) }
+{
+    for string in strings {
+        objects.push(literal(alloc, string.as_slice())?)?;
+    }
+    Ok(())
 }
 
 /// An index so many elements on, or back.
@@ -113,6 +157,7 @@ fn push_object<'p>(
     object: Object<'p>,
 ) -> Result<(), Stop>
     ensures pushed { OnOk result (regions.new.items ≡ with_objects regions.old.items region (λ os. os ++ object.entry ∷ [])) }
+    ensures unchanged { OnErr result (regions.new.items ≡ regions.old.items) }
     ensures memory { IfErr result (λ stop. stop ≡ Cut Memory) }
 {
     if (region as usize) < regions.len() {
@@ -169,18 +214,13 @@ fn any_named(regions: &[Region], region: u32) -> bool
 
 impl<'p> Heap<'p> {
     /// Region 0 alone, with the globals and then the literals.
-    pub(crate) fn new(
-        alloc: Global,
-        layouts: &'p Layouts,
-        parts: &Parts,
-    ) -> Result<Heap<'p>, Stop> {
+    pub(crate) fn new(alloc: Global, layouts: &'p Layouts, parts: &Parts) -> Result<Heap<'p>, Stop>
+        ensures first { AreLaidOut (program_of parts.now).structs layouts.now → IfOk result (λ heap. heap ≡ kept_heap (first_heap (program_of parts.now))) }
+        ensures memory { IfErr result (λ stop. stop ≡ Cut Memory) }
+    {
         let mut objects = Vec::new(alloc);
-        for global in &parts.globals {
-            objects.push(global_object(alloc, layouts, global)?)?;
-        }
-        for string in &parts.strings {
-            objects.push(literal(alloc, string.as_slice())?)?;
-        }
+        push_globals(alloc, &mut objects, layouts, parts.globals.as_slice())?;
+        push_literals(alloc, &mut objects, parts.strings.as_slice())?;
         let mut regions = Vec::new(alloc);
         regions.push(Region::new(0, objects))?;
         Ok(Heap { regions })
@@ -430,7 +470,8 @@ impl<'p> Heap<'p> {
     /// Stores values in the cells from a place on, but none past the element.
     #[tactic(auto, using(crate::proofs::Lists::take_mapped))]
     pub(crate) fn store(&mut self, line: u32, target: &Target, values: &[Value]) -> Result<(), Stop>
-        ensures { Does result (store self.old line target.now (map value_of values.now)) self.new }
+        ensures stored { Does result (store self.old line target.now (map value_of values.now)) self.new }
+        ensures unchanged { OnErr result (self.new ≡ self.old) }
     {
         let spot = self.spot(line, target)?;
         if !self.are_fresh(values) {
@@ -451,15 +492,15 @@ impl<'p> Heap<'p> {
     ) -> Result<u32, Stop>
         ensures made { Does result (made self.old line parent limit) self.new }
         ensures number { IfOk result (λ number. number ≡ length self.old) }
+        ensures new_region { (w : KeptWorld) → w.heap ≡ self.old → w.regions ≡ limit → parent ≡ 0 → Leaves (λ number. Handle number) result self.new w (kept.new_region line w) }
+        ensures unchanged { OnErr result (self.new ≡ self.old) }
     {
         let number = self.regions.len();
         if number > limit as usize {
             return Err(trap(Trap::Full, line));
         }
-        match self.regions.push(Region::new(parent, Vec::new(alloc))) {
-            Ok(()) => Ok(number as u32),
-            Err(_) => Err(Stop::Cut(RunFault::Memory)),
-        }
+        self.regions.push(Region::new(parent, Vec::new(alloc)))?;
+        Ok(number as u32)
     }
 
     /// Makes a child of a region.
@@ -469,7 +510,10 @@ impl<'p> Heap<'p> {
         line: u32,
         value: Value,
         limit: u32,
-    ) -> Result<u32, Stop> {
+    ) -> Result<u32, Stop>
+        ensures new_subregion { (w : KeptWorld) → w.heap ≡ self.old → w.regions ≡ limit → Leaves (λ number. Handle number) result self.new w (kept.new_subregion line (value_of value) w) }
+        ensures unchanged { OnErr result (self.new ≡ self.old) }
+    {
         let parent = self.live_region(line, value)?;
         self.make(alloc, line, parent, limit)
     }
@@ -485,7 +529,7 @@ impl<'p> Heap<'p> {
     }
 
     /// Allocates an array in a region.
-    pub(crate) fn allocate_in(
+    fn allocate_in(
         &mut self,
         alloc: Global,
         line: u32,
@@ -496,6 +540,7 @@ impl<'p> Heap<'p> {
     ) -> Result<Value, Stop>
         ensures allocated { Does result (allocated self.old line limit count kinds.now region) self.new }
         ensures pointer { IfOk result (λ value. value_of value ≡ Pointer (record { region = region; object = length (objects self.old region); index = 0 })) }
+        ensures unchanged { OnErr result (self.new ≡ self.old) }
     {
         if count < 0 {
             return Err(trap(Trap::Size, line));
@@ -522,7 +567,10 @@ impl<'p> Heap<'p> {
         count: i64,
         kinds: &'p [Kind],
         limit: u32,
-    ) -> Result<Value, Stop> {
+    ) -> Result<Value, Stop>
+        ensures allocate { (w : KeptWorld) → w.heap ≡ self.old → w.blocks ≡ limit → (layout : Layout) → kinds.now ≡ map kind_of layout → Leaves value_of result self.new w (kept.allocate line (value_of value) count layout w) }
+        ensures unchanged { OnErr result (self.new ≡ self.old) }
+    {
         let region = self.live_region(line, value)?;
         self.allocate_in(alloc, line, region, count, kinds, limit)
     }
@@ -573,7 +621,8 @@ impl<'p> Heap<'p> {
         value: Value,
         held: &Values,
     ) -> Result<(), Stop>
-        ensures { Does result (deleted self.old line held.now (value_of value)) self.new }
+        ensures deleted { Does result (deleted self.old line held.now (value_of value)) self.new }
+        ensures unchanged { OnErr result (self.new ≡ self.old) }
     {
         let region = self.live_region(line, value)?;
         if region == 0 {

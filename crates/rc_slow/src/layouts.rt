@@ -1,17 +1,25 @@
 // Layouts: the cells of types, and where the fields of structs lie.
 
-ghost use Rattle.std.specs.Prelude.{◌≡◌, ◌∷◌, []};
+ghost use Rattle.std.specs.Prelude.{◌≡◌, ◌∷◌, ◌++◌, [], List, Some, map, option_map, slice_get, IfErr, IfOk, OnOk};
+ghost use Rattle.rc_base.specs.declared.ends.RunFault.TheVariants.{Memory};
 ghost use Rattle.rc_core.specs.Heap.{zero_of};
-ghost use Rattle.rc_core.specs.Shapes.{ty_of};
+ghost use Rattle.rc_core.specs.Layout.{Layout, cells, cells_by, copies, count_in, size};
+ghost use Rattle.rc_core.specs.Programs.{Struct as Fields};
+ghost use Rattle.rc_core.specs.Shapes.{field_of, struct_of, ty_of};
+ghost use Rattle.rc_core.specs.Types.{struct};
+ghost use Rattle.rc_core.specs.WellTyped.{StructsFit};
 ghost use Rattle.rc_slow.specs.Kept.{blank_cell, note_of};
-ghost use Rattle.rc_slow.specs.Values.{value_of};
+ghost use Rattle.rc_slow.specs.Laid.{AreLaidOut, HaveCells, IsLaidOut, place_in, place_of};
+ghost use Rattle.rc_slow.specs.Values.{kind_of, value_of};
+ghost use Rattle.rc_slow.specs.declared.layouts.Kind.TheVariants.{Number as NumberKind};
+ghost use Rattle.rc_slow.specs.declared.stop.Stop.TheVariants.{Cut};
 
 use crate::stop::Stop;
 use crate::value::Value;
-use rc_base::RunFault;
 use rc_core::parts::{Field, Struct};
 use rc_core::ty::{Note, Ty};
 use std::alloc::Global;
+use std::marker::Model;
 
 /// What a cell holds.
 #[derive(Clone, Copy)]
@@ -34,7 +42,9 @@ static PARENT_PTR: [Kind; 1] = [Kind::Pointer(Note::ParentPtr)];
 static TRADITIONAL: [Kind; 1] = [Kind::Pointer(Note::Traditional)];
 
 /// The one cell of a number.
-pub(crate) fn number_cells() -> &'static [Kind] {
+pub(crate) fn number_cells() -> &'static [Kind]
+    ensures { result.now ≡ NumberKind ∷ [] }
+{
     &NUMBER
 }
 
@@ -73,15 +83,70 @@ pub(crate) fn zero_of(ty: &Ty) -> Value
     }
 }
 
+/// Where a field lies in its struct: the cells before it, its length where it is an array, and the
+/// cells of one of its elements.
+#[derive(Clone, Copy)]
+pub(crate) struct FieldPlace {
+    pub(crate) offset: u64,
+    pub(crate) count: u64,
+    pub(crate) stride: u64,
+}
+
+/// The cells of a struct, and where its fields lie.
+#[derive(Drop)]
+pub(crate) struct StructLayout {
+    kinds: Vec<Kind>,
+    places: Vec<FieldPlace>,
+}
+
+impl Model for StructLayout {
+    ghost use Rattle.rc_slow.specs.Laid.{LaidStruct};
+
+    ghost Value = { LaidStruct };
+
+    ghost view = { λ s. record { kinds = s.kinds.items; places = s.places.items } };
+}
+
+impl StructLayout {
+    fn kinds(&self) -> &[Kind]
+        ensures { result.now ≡ self.now.kinds }
+    {
+        self.kinds.as_slice()
+    }
+
+    /// Where a field lies: one that isn't there has no cells, and lies behind the struct.
+    fn place(&self, field: u32) -> FieldPlace
+        ensures { result ≡ place_in (Some self.now) field }
+    {
+        match self.places.get(field as usize) {
+            Some(place) => *place,
+            None => FieldPlace {
+                offset: self.kinds.len() as u64,
+                count: 0,
+                stride: 0,
+            },
+        }
+    }
+}
+
+/// The layout of a struct, where it is there.
+fn layout_at(layouts: &[StructLayout], structure: u32) -> Option<&StructLayout>
+    ensures { option_map (λ l. l.now) result ≡ slice_get layouts.now structure }
+{
+    layouts.get(structure as usize)
+}
+
 /// The cells of a type, where the structs have these layouts.
-pub(crate) fn cells_by<'p>(layouts: &'p [Vec<Kind>], ty: &Ty) -> &'p [Kind] {
+fn cells_by<'p>(layouts: &'p [StructLayout], ty: &Ty) -> &'p [Kind]
+    ensures { (of : List Layout) → HaveCells of layouts.now → result.now ≡ map kind_of (cells_by of (ty_of ty.now)) }
+{
     match ty {
         Ty::Int => &NUMBER,
         Ty::Unsigned => &NUMBER,
         Ty::Char => &NUMBER,
         Ty::Region => &REGION,
-        Ty::Struct(number) => match layouts.get(*number as usize) {
-            Some(cells) => cells.as_slice(),
+        Ty::Struct(number) => match layout_at(layouts, *number) {
+            Some(layout) => layout.kinds(),
             None => &[],
         },
         Ty::Pointer(note, _) => match note {
@@ -93,120 +158,108 @@ pub(crate) fn cells_by<'p>(layouts: &'p [Vec<Kind>], ty: &Ty) -> &'p [Kind] {
     }
 }
 
-/// Where a field lies in its struct: the cells before it, its length where it is an array, and the
-/// cells of one of its elements.
-#[derive(Clone, Copy)]
-pub(crate) struct FieldPlace {
-    pub(crate) offset: u64,
-    pub(crate) count: u64,
-    pub(crate) stride: u64,
-}
-
-/// The cells of each struct, and where its fields lie.
-#[derive(Drop)]
-pub(crate) struct Layouts {
-    pub(crate) cells: Vec<Vec<Kind>>,
-    pub(crate) fields: Vec<Vec<FieldPlace>>,
-}
-
-fn append(cells: &mut Vec<Kind>, more: &[Kind]) -> Result<(), Stop> {
-    for kind in more {
-        cells.push(*kind)?;
-    }
-    Ok(())
-}
-
-fn append_field(layouts: &[Vec<Kind>], cells: &mut Vec<Kind>, field: &Field) -> Result<(), Stop> {
-    let one = cells_by(layouts, &field.ty);
-    match field.length {
-        None => append(cells, one),
+/// Adds the cells of a field, of which one value has these: once, or as often as its array is long.
+fn push_field(kinds: &mut Vec<Kind>, one: &[Kind], length: Option<u32>) -> Result<(), Stop>
+    ensures cells { (layout : Layout) → one.now ≡ map kind_of layout → OnOk result (kinds.new.items ≡ kinds.old.items ++ map kind_of (copies length layout)) }
+    ensures memory { IfErr result (λ stop. stop ≡ Cut Memory) }
+{
+    match length {
+        None => Ok(kinds.extend_from_slice(one)?),
         Some(count) => {
             for _ in 0..count {
-                append(cells, one)?;
+                kinds.extend_from_slice(one)?;
             }
             Ok(())
         }
     }
 }
 
-fn fields_cells(alloc: Global, layouts: &[Vec<Kind>], fields: &[Field]) -> Result<Vec<Kind>, Stop> {
-    let mut cells = Vec::new(alloc);
-    for field in fields {
-        append_field(layouts, &mut cells, field)?;
-    }
-    Ok(cells)
-}
-
-fn layouts_of(alloc: Global, structs: &[Struct]) -> Result<Vec<Vec<Kind>>, Stop> {
-    let mut layouts = Vec::new(alloc);
-    for structure in structs {
-        let cells = fields_cells(alloc, layouts.as_slice(), structure.fields.as_slice())?;
-        layouts.push(cells)?;
-    }
-    Ok(layouts)
-}
-
-/// The cells of a field, however many copies of its type's it has.
-fn field_size(layouts: &[Vec<Kind>], field: &Field) -> Result<u64, Stop> {
-    let one = cells_by(layouts, &field.ty).len() as u64;
+/// A field's length, where it is an array.
+fn length_of(field: &Field) -> u64
+    ensures { result ≡ count_in (Some (field_of field.now)) }
+{
     match field.length {
-        None => Ok(one),
-        Some(count) => match one.checked_mul(count as u64) {
-            Some(size) => Ok(size),
-            None => Err(Stop::Cut(RunFault::Memory)),
-        },
+        None => 0,
+        Some(count) => count as u64,
     }
 }
 
-fn field_places(
-    alloc: Global,
-    layouts: &[Vec<Kind>],
-    fields: &[Field],
-) -> Result<Vec<FieldPlace>, Stop> {
+/// Lays out a struct with these fields, behind those with these layouts.
+fn lay_out(alloc: Global, layouts: &[StructLayout], fields: &[Field]) -> Result<StructLayout, Stop>
+    ensures laid { (of : List Layout) → HaveCells of layouts.now → IfOk result (λ s. IsLaidOut of (map field_of fields.now) s) }
+    ensures memory { IfErr result (λ stop. stop ≡ Cut Memory) }
+{
+    let mut kinds = Vec::new(alloc);
     let mut places = Vec::new(alloc);
-    let mut offset = 0u64;
     for field in fields {
-        let count = match field.length {
-            None => 0,
-            Some(count) => count as u64,
-        };
-        let stride = cells_by(layouts, &field.ty).len() as u64;
+        let one = cells_by(layouts, &field.ty);
         places.push(FieldPlace {
-            offset,
-            count,
-            stride,
+            offset: kinds.len() as u64,
+            count: length_of(field),
+            stride: one.len() as u64,
         })?;
-        match offset.checked_add(field_size(layouts, field)?) {
-            Some(sum) => offset = sum,
-            None => return Err(Stop::Cut(RunFault::Memory)),
-        }
+        push_field(&mut kinds, one, field.length)?;
     }
-    Ok(places)
+    Ok(StructLayout { kinds, places })
+}
+
+/// The layouts of a program's structs.
+#[derive(Drop)]
+pub(crate) struct Layouts {
+    structs: Vec<StructLayout>,
+}
+
+impl Model for Layouts {
+    ghost use Rattle.rc_slow.specs.Laid.{LaidStructs};
+
+    ghost Value = { LaidStructs };
+
+    ghost view = { λ l. l.structs.items };
 }
 
 impl Layouts {
-    pub(crate) fn new(alloc: Global, structs: &[Struct]) -> Result<Layouts, Stop> {
-        let cells = layouts_of(alloc, structs)?;
-        let mut fields = Vec::new(alloc);
+    /// Lays out the structs of a program, each behind those that it has inside.
+    pub(crate) fn new(alloc: Global, structs: &[Struct]) -> Result<Layouts, Stop>
+        requires { StructsFit (map struct_of structs.now) }
+        ensures laid { IfOk result (λ l. AreLaidOut (map struct_of structs.now) l) }
+        ensures memory { IfErr result (λ stop. stop ≡ Cut Memory) }
+    {
+        let mut layouts = Vec::new(alloc);
         for structure in structs {
-            fields.push(field_places(alloc, cells.as_slice(), structure.fields.as_slice())?)?;
+            let layout = lay_out(alloc, layouts.as_slice(), structure.fields.as_slice())?;
+            layouts.push(layout)?;
         }
-        Ok(Layouts { cells, fields })
+        Ok(Layouts { structs: layouts })
     }
 
     /// The cells of a type.
-    pub(crate) fn cells_of(&self, ty: &Ty) -> &[Kind] {
-        cells_by(self.cells.as_slice(), ty)
+    pub(crate) fn cells_of(&self, ty: &Ty) -> &[Kind]
+        ensures { (structs : List Fields) → AreLaidOut structs self.now → result.now ≡ map kind_of (cells structs (ty_of ty.now)) }
+    {
+        cells_by(self.structs.as_slice(), ty)
     }
 
-    /// Where a field lies. A field that isn't there has no place in memory.
-    pub(crate) fn field(&self, structure: u32, field: u32) -> Result<FieldPlace, Stop> {
-        match self.fields.get(structure as usize) {
-            None => Err(Stop::Cut(RunFault::Memory)),
-            Some(fields) => match fields.get(field as usize) {
-                None => Err(Stop::Cut(RunFault::Memory)),
-                Some(place) => Ok(*place),
+    /// How many cells a struct has.
+    pub(crate) fn size_of(&self, structure: u32) -> u64
+        ensures { (structs : List Fields) → AreLaidOut structs self.now → result ≡ size structs (struct structure) }
+    {
+        match layout_at(self.structs.as_slice(), structure) {
+            None => 0,
+            Some(layout) => layout.kinds().len() as u64,
+        }
+    }
+
+    /// Where a field lies. One that isn't there has no cells, and lies behind its struct.
+    pub(crate) fn field(&self, structure: u32, field: u32) -> FieldPlace
+        ensures { (structs : List Fields) → AreLaidOut structs self.now → result ≡ place_of structs structure field }
+    {
+        match layout_at(self.structs.as_slice(), structure) {
+            None => FieldPlace {
+                offset: 0,
+                count: 0,
+                stride: 0,
             },
+            Some(layout) => layout.place(field),
         }
     }
 }

@@ -3,9 +3,9 @@
 //!
 //! The evaluator itself is not finished: nothing here runs a program. What stands is proved: the laws
 //! that it rests on, which this crate exports, and the parts that it is made of, which nothing calls yet.
-//! These are arithmetic, values, places, the heap, what is live behind a statement, and how expressions
-//! and places begin and go on. Statements, calls, input and output, and the loop that makes the steps
-//! are not here.
+//! These are arithmetic, values, layouts, places, the heap and how it begins, what is live behind a
+//! statement, and how expressions and places begin and go on. Statements, calls, input and output, and
+//! the loop that makes the steps are not here.
 #![tactic(auto)]
 
 mod arithmetic;
@@ -16,6 +16,7 @@ mod laws;
 mod layouts;
 mod live;
 mod object;
+mod paths;
 mod places;
 mod region;
 mod stop;
@@ -26,5 +27,7 @@ mod waiting;
 
 pub use laws::{acts_stay_done, the_machine_is_right, what_is_kept_is_enough};
 
+#[cfg(test)]
+mod heap_tests;
 #[cfg(test)]
 mod tests;

@@ -2,9 +2,9 @@
 
 ghost use Rattle.std.specs.Prelude.{◌≡◌, ◌∷◌, ◌++◌, ◌+◌, [], length, map, drop, take, pos, IfOk, IfErr};
 ghost use Rattle.rc_base.specs.declared.ends.RunFault.TheVariants.{Memory};
-ghost use Rattle.rc_core.specs.Heap.{Number};
+ghost use Rattle.rc_core.specs.Heap.{Number, literal};
 ghost use Rattle.rc_core.specs.Source.{overwritten};
-ghost use Rattle.rc_slow.specs.Kept.{blank, first_of, object_names};
+ghost use Rattle.rc_slow.specs.Kept.{blank, first_of, kept_object, object_names};
 ghost use Rattle.rc_slow.specs.Values.{value_of};
 ghost use Rattle.rc_slow.specs.declared.stop.Stop.TheVariants.{Cut};
 
@@ -12,7 +12,6 @@ use crate::layouts::{Kind, number_cells};
 use crate::stop::Stop;
 use crate::value::Value;
 use crate::values::Values;
-use rc_base::RunFault;
 use std::alloc::Global;
 use std::marker::Model;
 
@@ -32,17 +31,15 @@ impl<'p> Model for Object<'p> {
     ghost view = { λ o. record { kinds = o.kinds.now; count = o.count; values = o.values } };
 }
 
-#[tactic(auto, using(crate::proofs::Lists::blanks_more))]
 /// Elements that are zero or null.
+#[tactic(auto, using(crate::proofs::Lists::blanks_more))]
 pub(crate) fn blank<'p>(alloc: Global, kinds: &'p [Kind], count: u64) -> Result<Object<'p>, Stop>
     ensures object { IfOk result (λ o. o ≡ blank kinds.now count) }
     ensures memory { IfErr result (λ stop. stop ≡ Cut Memory) }
 {
     let mut values = Values::new(alloc);
     for _ in 0..count {
-        if values.push_blanks(kinds).is_err() {
-            return Err(Stop::Cut(RunFault::Memory));
-        }
+        values.push_blanks(kinds)?;
     }
     Ok(Object {
         kinds,
@@ -61,34 +58,29 @@ pub(crate) fn number_object<'p>(
     ensures memory { IfErr result (λ stop. stop ≡ Cut Memory) }
 {
     let mut values = Values::new(alloc);
-    match values.push(Value::Number(number)) {
-        Ok(()) => Ok(Object {
-            kinds,
-            count: 1,
-            values,
-        }),
-        Err(_) => Err(Stop::Cut(RunFault::Memory)),
-    }
+    values.push(Value::Number(number))?;
+    Ok(Object {
+        kinds,
+        count: 1,
+        values,
+    })
 }
 
 /// A string literal: its bytes, and a 0.
 pub(crate) fn literal<'p>(alloc: Global, bytes: &[u8]) -> Result<Object<'p>, Stop>
+    ensures object { IfOk result (λ o. o ≡ kept_object (literal bytes.now)) }
     ensures memory { IfErr result (λ stop. stop ≡ Cut Memory) }
 {
     let mut values = Values::new(alloc);
     for byte in bytes {
-        if values.push(Value::Number(*byte as i64)).is_err() {
-            return Err(Stop::Cut(RunFault::Memory));
-        }
+        values.push(Value::Number(*byte as i64))?;
     }
-    match values.push(Value::Number(0)) {
-        Ok(()) => Ok(Object {
-            kinds: number_cells(),
-            count: bytes.len() as u64 + 1,
-            values,
-        }),
-        Err(_) => Err(Stop::Cut(RunFault::Memory)),
-    }
+    values.push(Value::Number(0))?;
+    Ok(Object {
+        kinds: number_cells(),
+        count: bytes.len() as u64 + 1,
+        values,
+    })
 }
 
 impl<'p> Object<'p> {
@@ -112,8 +104,8 @@ impl<'p> Object<'p> {
         self.values.name(region)
     }
 
-    #[tactic(auto, using(crate::proofs::Lists::first_there, crate::proofs::Lists::first_missing))]
     /// The value of a cell, or null where there is none.
+    #[tactic(auto, using(crate::proofs::Lists::first_there, crate::proofs::Lists::first_missing))]
     pub(crate) fn value(&self, place: u64) -> Value
         ensures { value_of result ≡ first_of (drop place self.now.values) }
     {
@@ -128,10 +120,7 @@ impl<'p> Object<'p> {
         ensures part { IfOk result (λ values. values ≡ take size (drop place self.now.values)) }
         ensures memory { IfErr result (λ stop. stop ≡ Cut Memory) }
     {
-        match self.values.part(alloc, place as usize, size as usize) {
-            Ok(values) => Ok(values),
-            Err(_) => Err(Stop::Cut(RunFault::Memory)),
-        }
+        Ok(self.values.part(alloc, place as usize, size as usize)?)
     }
 
     /// Changes the cells from a place on to these values.

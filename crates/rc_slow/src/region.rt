@@ -1,6 +1,6 @@
 // Regions.
 
-ghost use Rattle.std.specs.Prelude.{◌≡◌, ◌++◌, ◌∷◌, [], length, map, slice_get, option_map, true, false, IsTrue, OnOk, IfErr, ◌&&◌, nat_eq};
+ghost use Rattle.std.specs.Prelude.{◌≡◌, ◌++◌, ◌∷◌, [], length, map, slice_get, option_map, true, false, IsTrue, OnOk, OnErr, IfErr, ◌&&◌, nat_eq};
 ghost use Rattle.std.specs.List.{list_any};
 ghost use Rattle.rc_base.specs.declared.ends.RunFault.TheVariants.{Memory};
 ghost use Rattle.rc_core.specs.Heap.{update};
@@ -12,7 +12,6 @@ ghost use Rattle.rc_slow.specs.declared.stop.Stop.TheVariants.{Cut};
 use crate::object::Object;
 use crate::stop::Stop;
 use crate::value::Value;
-use rc_base::RunFault;
 use std::alloc::Global;
 use std::marker::Model;
 
@@ -103,12 +102,11 @@ impl<'p> Region<'p> {
     /// One more object.
     pub(crate) fn push(&mut self, object: Object<'p>) -> Result<(), Stop>
         ensures pushed { OnOk result (self.new ≡ record self.old { objects = self.old.objects ++ object.entry ∷ [] }) }
+        ensures unchanged { OnErr result (self.new ≡ self.old) }
         ensures memory { IfErr result (λ stop. stop ≡ Cut Memory) }
     {
-        match self.objects.push(object) {
-            Ok(()) => Ok(()),
-            Err(_) => Err(Stop::Cut(RunFault::Memory)),
-        }
+        self.objects.push(object)?;
+        Ok(())
     }
 
     /// Changes the cells of an object from a place on to these values.

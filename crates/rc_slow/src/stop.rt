@@ -2,7 +2,8 @@
 
 ghost use Rattle.std.specs.Prelude.{◌≡◌};
 ghost use Rattle.rc_base.specs.declared.ends.End.TheVariants.{Trapped};
-ghost use Rattle.rc_slow.specs.declared.stop.Stop.TheVariants.{Ends};
+ghost use Rattle.rc_base.specs.declared.ends.RunFault.TheVariants.{Memory};
+ghost use Rattle.rc_slow.specs.declared.stop.Stop.TheVariants.{Cut, Ends};
 
 use rc_base::{End, RunFault, Trap};
 use std::alloc::{AllocError, AllocFailed};
@@ -19,12 +20,16 @@ pub(crate) enum Stop {
 }
 
 impl From<AllocError> for Stop {
+    ghost from_gives = { λ _ stop. stop ≡ Cut Memory };
+
     fn from(_error: AllocError) -> Stop {
         Stop::Cut(RunFault::Memory)
     }
 }
 
 impl<T: Drop> From<AllocFailed<T>> for Stop {
+    ghost from_gives = { λ _ stop. stop ≡ Cut Memory };
+
     fn from(_error: AllocFailed<T>) -> Stop {
         Stop::Cut(RunFault::Memory)
     }

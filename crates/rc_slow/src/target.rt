@@ -139,10 +139,8 @@ impl Target {
         ensures chosen { OnOk result (self.new ≡ choosing (chosen_of chosen) self.old) }
         ensures memory { IfErr result (λ stop. stop ≡ Cut Memory) }
     {
-        match self.chosen.push(chosen) {
-            Ok(()) => Ok(()),
-            Err(_) => Err(Stop::Cut(RunFault::Memory)),
-        }
+        self.chosen.push(chosen)?;
+        Ok(())
     }
 
     /// Whether each index is in its array.

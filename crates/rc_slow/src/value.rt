@@ -1,8 +1,9 @@
 // Values.
 
-ghost use Rattle.std.specs.Prelude.{◌≡◌, ◌+◌};
+ghost use Rattle.std.specs.Prelude.{◌≡◌, ◌+◌, ◌∷◌, List, true, if◌then◌else◌};
 ghost use Rattle.rc_core.specs.Evaluation.{as_wanted, is_true, number_in, same_value, static};
-ghost use Rattle.rc_core.specs.Heap.{names};
+ghost use Rattle.rc_core.specs.Execution.{held_value};
+ghost use Rattle.rc_core.specs.Heap.{Value as HeapValue, names};
 ghost use Rattle.rc_slow.specs.Values.{value_of};
 
 /// An element of an object, or the end of the object.
@@ -93,7 +94,10 @@ pub(crate) fn names(region: u32, value: Value) -> bool
     }
 }
 
-pub(crate) fn is_number(value: Value) -> bool {
+/// Whether the value is a number, which no deletion looks at.
+pub(crate) fn is_number(value: Value) -> bool
+    ensures { (rest : List HeapValue) → held_value true (value_of value) rest ≡ (if result then rest else value_of value ∷ rest) }
+{
     match value {
         Value::Number(_) => true,
         _ => false,
