@@ -3,7 +3,7 @@ use Rattle.std.specs.Prelude.{◌≡◌, List, [], ◌∷◌, ◌++◌, Option, 
 use Rattle.std.proofs.Common.{refl}
 use Rattle.rc_syntax.specs.declared.tree.Spot.{Spot}
 use Rattle.rc_deletes.specs.declared.fault.Refusal.{Refusal}
-use Rattle.rc_deletes.specs.Judged.{Judged, Holds, Faulty, with_part, with_parts, both, failing, ruled, fitting}
+use Rattle.rc_deletes.specs.Judged.{Judged, Holds, Faulty, with_part, with_parts, in_front, both, failing, ruled, fitting}
 
 abbrev pub Held : {A : Type 0} → (A → Type 0) → Judged A → Type 0
 Held P (Holds a) = P a
@@ -21,6 +21,10 @@ pub held_parts : {A B C : Type 0} (P : A → Type 0) (Q : B → Type 0) (R : C �
 held_parts P Q R (Holds a) (Holds b) rule h k l = l a b h k
 held_parts P Q R (Holds a) (Faulty f fs) rule h k l = tt
 held_parts P Q R (Faulty f fs) y rule h k l = tt
+
+pub held_front : {A B : Type 0} (P : B → Type 0) (x : Judged A) (y : Judged B) → Held P y → Held P (in_front x y)
+held_front P (Holds a) y h = h
+held_front P (Faulty f fs) y h = tt
 
 pub held_both : {A B : Type 0} (P : A → Type 0) (Q : B → Type 0) (x : Judged A) (y : Judged B) → Held P x → Held Q y → Held (λ (c : A × B). P c.0 × Q c.1) (both x y)
 held_both P Q (Holds a) (Holds b) h k = (h, k)

@@ -10,7 +10,7 @@ use Rattle.rc_syntax.specs.Grammar.{Symbol, TreeOf, Placed, placed, Part, word, 
 use Rattle.rc_deletes.specs.declared.fault.Fault.{Fault}
 use Rattle.rc_deletes.specs.Judged.{first_fault}
 use Rattle.rc_deletes.specs.Items.{judged}
-use Rattle.rc_deletes.specs.Order.{IsLeast, PlainFirst}
+use Rattle.rc_deletes.specs.Order.{IsLeast}
 use Rattle.rc_deletes.proofs.Derived.{KnownAll, k_done, k_word, k_node, derived}
 use Rattle.rc_deletes.proofs.Ordered.{Inside}
 use Rattle.rc_deletes.proofs.OrderedExpressions.{SpansBase, Spans, SpansAll, spot_inside}
@@ -644,5 +644,5 @@ step : (x : Symbol) (at : Spot) (c : TreeOf x) (ps : List Part) (ws : List Place
 step x at c ps ws e rule all a b runs = rule_stands x a b (begins at a b ws e runs) rule (along all a b runs)
 
 -- the first violation of the tree of a text is the least
-pub first_in_text : (tree : t.Tree) (tokens : List Token) (f : Fault) → Derives (placed 0 tokens) (node g.Text tree.items) → PlainFirst tree → first_fault (judged tree) ≡ Some f → IsLeast tree f
-first_in_text tree tokens f d plain h = first_is_least tree 0 (0 + length tokens) f plain (derived Stands step d 0 (0 + length tokens) (placed_runs 0 tokens)) h
+pub first_in_text : (tree : t.Tree) (tokens : List Token) (f : Fault) → Derives (placed 0 tokens) (node g.Text tree.items) → first_fault (judged tree) ≡ Some f → IsLeast tree f
+first_in_text tree tokens f d h = first_is_least tree 0 (0 + length tokens) f (derived Stands step d 0 (0 + length tokens) (placed_runs 0 tokens)) h

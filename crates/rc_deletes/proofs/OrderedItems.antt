@@ -15,16 +15,18 @@ use Rattle.rc_core.specs.Typing.{is_struct}
 use Rattle.rc_deletes.specs.declared.fault.Fault.{Fault}
 use Rattle.rc_deletes.specs.declared.fault.Refusal.{Refusal}
 use Rattle.rc_deletes.specs.declared.fault.Refusal.TheVariants.{Unknown, Twice, Mistyped, TooBig}
-use Rattle.rc_deletes.specs.Judged.{Judged, Holds, Faulty, faults, first_fault, with_part, with_parts, both, fails, failing, ruled}
+use Rattle.rc_deletes.specs.Judged.{Judged, Holds, Faulty, faults, first_fault, with_part, with_parts, in_front, both, fails, failing, ruled}
 use Rattle.rc_deletes.specs.Kinds.{place_of, written_type}
 use Rattle.rc_deletes.specs.Scopes.{Context, struct_names, type_names, Scope, Meaning, a_local, a_global, a_function, a_builtin, Signature, builtin_signature, meaning_in}
 use Rattle.rc_deletes.specs.Expressions.{found, base_rule}
 use Rattle.rc_deletes.specs.Statements.{Here, new_name, stmts}
-use Rattle.rc_deletes.specs.Items.{is_among, Outside, is_defined_before, cells_of_global, type_option, signature_of, with_function, with_param, with_params, before_params, behind_body, behind_item, value_base, cell_type, is_empty, once, field_rule, fields_rule, cells_of_struct, initial_of, Made, nothing_made, made_both, global_made, agrees, agrees_with, declared_again, function_name, param_name, param_rule, params_rule, result_rule, is_struct_option, head_rule, function_made, item, items, context_of, at_the_start, program_of, judged, IsAmong, Violation}
-use Rattle.rc_deletes.specs.Order.{rank, NotAfter, IsLeast, is_starred, same_struct, Follows, FieldsFollow, ItemsFollow, PlainFirst}
+use Rattle.rc_deletes.specs.Items.{is_plain, same_struct, field_by_value, global_by_value, shared_rule, before_item, is_among, Outside, is_defined_before, cells_of_global, type_option, signature_of, with_function, with_param, with_params, before_params, behind_body, behind_item, value_base, cell_type, is_empty, once, field_rule, fields_rule, cells_of_struct, initial_of, Made, nothing_made, made_both, global_made, agrees, agrees_with, declared_again, function_name, param_name, param_rule, params_rule, result_rule, is_struct_option, head_rule, function_made, item, items, context_of, at_the_start, program_of, judged, IsAmong, Violation}
+use Rattle.rc_deletes.specs.Order.{rank, NotAfter, IsLeast}
+use Rattle.std.specs.Str.{bytes_eq}
+use Rattle.rc_deletes.proofs.Naming.{own_name}
 use Rattle.rc_deletes.proofs.Ordered.{Each, Inside, In, Sound, all_in, in_wider, in_both, sound_wider, part_sound, parts_sound, both_sound, part_in, parts_in, ruled_one, ruled_two}
 use Rattle.rc_deletes.proofs.OrderedExpressions.{SpansBase, base_sound}
-use Rattle.rc_deletes.proofs.OrderedStatements.{SpansStmts, once_sound, new_sound, base_answers, base_wider, unknown, group_sound, first_of_parts, stmts_sound}
+use Rattle.rc_deletes.proofs.OrderedStatements.{SpansStmts, once_sound, new_sound, base_answers, base_wider, unknown, unknown_sound, group_sound, first_of_parts, stmts_sound}
 
 -- a field's or a global's declarator with its base, or behind another one that shares its base
 abbrev pub Shares : Option t.TypeName → t.TypeName → Type 0
@@ -81,9 +83,10 @@ before_wider : (c a k : ℕ) (shared : Option t.TypeName) → a ≤ k → Before
 before_wider c a k None p h = tt
 before_wider c a k (Some n) p h = base_wider c a c k n.base (omega arith) p h
 
-abbrev pub CellHolds : Context → ℕ → Option t.TypeName → Type 0
-CellHolds context k None = Unit {0}
-CellHolds context k (Some n) = cell_type context k n ≡ Holds tt
+-- where a struct that declarators share is looked at, and whether one of those to come has it by value
+abbrev pub GroupHolds : Context → ℕ → Option t.TypeName → (Base → Bool) → Type 0
+GroupHolds context k None by_value = Unit {0}
+GroupHolds context k (Some n) by_value = (base_rule context n.base ≡ Holds tt) × (by_value n.base ≡ true → value_base context k n.base ≡ Holds tt)
 
 -- the base of a field or a global, with or without stars
 abbrev pub cell_of : Context → ℕ → Base → List WrittenNote → Judged (Unit {0})
@@ -138,29 +141,57 @@ value_then_base context k (base.Unsigned at) h = refl
 value_then_base context k (base.Char at) h = refl
 value_then_base context k (base.Region at) h = refl
 
+and_true : (a b : Bool) → a ≡ true → b ≡ true → (a && b) ≡ true
+and_true true b h k = k
+and_true false b h k = absurd cc
+
+same_place : (n : ℕ) → nat_eq n n ≡ true
+same_place n = elim (eqb_tells n n) [ inl k ↦ k.0 | inr k ↦ absurd (k.1 refl) ]
+
 same_itself : (at : Spot) (name : Name) → same_struct (base.Struct at name) (base.Struct at name) ≡ true
-same_itself at name = elim (eqb_tells name.spot.place name.spot.place) [ inl k ↦ k.0 | inr k ↦ absurd (k.1 refl) ]
+same_itself at name = and_true (nat_eq name.spot.place name.spot.place) (bytes_eq name.text name.text) (same_place name.spot.place) (own_name name.text)
 
-abbrev starred_in : List WrittenNote → Bool
-starred_in stars = elim stars [ [] ↦ false | note ∷ notes ↦ true ]
+abbrev plain_in : List WrittenNote → Bool
+plain_in stars = elim stars [ [] ↦ true | note ∷ notes ↦ false ]
 
--- where the first of two declarators that share a base holds, the second does
-shared_holds : (context : Context) (k : ℕ) (n : Base) (before stars : List WrittenNote) → (same_struct n n ≡ true → starred_in before ≡ true → starred_in stars ≡ true) → cell_of context k n before ≡ Holds tt → cell_of context k n stars ≡ Holds tt
-shared_holds context k n [] [] f h = h
-shared_holds context k n [] (x ∷ xs) f h = value_then_base context k n h
-shared_holds context k n (y ∷ ys) (x ∷ xs) f h = h
-shared_holds context k (base.Struct at name) (y ∷ ys) [] f h = absurd (never (f (same_itself at name) refl)) where
-  never : false ≡ true → ⊥
-  never q = cc
-shared_holds context k (base.Int at) (y ∷ ys) [] f h = refl
-shared_holds context k (base.Unsigned at) (y ∷ ys) [] f h = refl
-shared_holds context k (base.Char at) (y ∷ ys) [] f h = refl
-shared_holds context k (base.Region at) (y ∷ ys) [] f h = refl
+-- a cell's type holds only where its base does
+cell_then_base : (context : Context) (k : ℕ) (n : Base) (stars : List WrittenNote) → cell_of context k n stars ≡ Holds tt → base_rule context n ≡ Holds tt
+cell_then_base context k n [] h = value_then_base context k n h
+cell_then_base context k n (x ∷ xs) h = h
 
-cell_shared : (context : Context) (k : ℕ) (m n : t.TypeName) → m.base ≡ n.base → Follows (Some m) n → cell_type context k m ≡ Holds tt → cell_type context k n ≡ Holds tt
-cell_shared context k m n e f h =
-    let follows : same_struct n.base n.base ≡ true → starred_in m.stars ≡ true → starred_in n.stars ≡ true = subst (λ b. same_struct b n.base ≡ true → starred_in m.stars ≡ true → starred_in n.stars ≡ true) e f in
-    shared_holds context k n.base m.stars n.stars follows (subst (λ b. cell_of context k b m.stars ≡ Holds tt) e h)
+value_where : (context : Context) (k : ℕ) (n : Base) → (same_struct n n ≡ true → value_base context k n ≡ Holds tt) → value_base context k n ≡ Holds tt
+value_where context k (base.Struct at name) h = h (same_itself at name)
+value_where context k (base.Int at) h = refl
+value_where context k (base.Unsigned at) h = refl
+value_where context k (base.Char at) h = refl
+value_where context k (base.Region at) h = refl
+
+-- a declarator behind another one that shares its base
+known_here : (context : Context) (k : ℕ) (n : Base) (stars : List WrittenNote) (later : Bool) → base_rule context n ≡ Holds tt → ((same_struct n n && (plain_in stars || later)) ≡ true → value_base context k n ≡ Holds tt) → (cell_of context k n stars ≡ Holds tt) × (shared_rule context k n later ≡ Holds tt)
+known_here context k n [] false b v = (value_where context k n (λ e. v (and_true (same_struct n n) true e refl)), refl)
+known_here context k n [] true b v = let h = value_where context k n (λ e. v (and_true (same_struct n n) true e refl)) in (h, h)
+known_here context k n (x ∷ xs) false b v = (b, refl)
+known_here context k n (x ∷ xs) true b v = (b, value_where context k n (λ e. v (and_true (same_struct n n) true e refl)))
+
+known_at : (context : Context) (k : ℕ) (before : Base) (n : Base) (stars : List WrittenNote) (later : Base → Bool) → before ≡ n → base_rule context before ≡ Holds tt → ((same_struct before n && (plain_in stars || later before)) ≡ true → value_base context k before ≡ Holds tt) →
+    (cell_of context k n stars ≡ Holds tt) × (shared_rule context k n (later n) ≡ Holds tt)
+known_at context k before n stars later e b v =
+    known_here context k n stars (later n) (subst (λ x. base_rule context x ≡ Holds tt) e b) (subst (λ x. (same_struct x n && (plain_in stars || later x)) ≡ true → value_base context k x ≡ Holds tt) e v)
+
+shared_sound : (context : Context) (k a b : ℕ) (n : Base) (by_value : Bool) → SpansBase a b n → Sound a b (shared_rule context k n by_value)
+shared_sound context k a b n false h = tt
+shared_sound context k a b n true h = value_sound context k a b n h
+
+shared_answers : (context : Context) (k c m : ℕ) (n : Base) (by_value : Bool) → SpansBase c m n → (shared_rule context k n by_value ≡ Holds tt) ⊎ ((at : Spot) × (c ≤ at.place) × (at.place < m) × SpansBase at.place m n × (shared_rule context k n by_value ≡ fails at Unknown))
+shared_answers context k c m n false h = inl refl
+shared_answers context k c m n true h = value_answers context k c m n h
+
+front_in : {A B : Type 0} (a b : ℕ) (x : Judged A) (y : Judged B) → In a b (faults x) → In a b (faults y) → In a b (faults (in_front x y))
+front_in a b (Holds v) y h k = k
+front_in a b (Faulty f fs) y h k = (h.0, in_both a b fs (faults y) h.1 k)
+
+front_first : {A B : Type 0} (x : Judged A) (y : Judged B) (f : Fault) → x ≡ Faulty f [] → first_fault (in_front x y) ≡ Some f
+front_first x y f e = ap (λ z. first_fault (in_front z y)) e
 
 base_of_typed : (shared : Option t.TypeName) (c a b : ℕ) (at : Spot) (n : t.TypeName) (name : Name) → c ≤ a → a ≤ b → Before c a shared → SpansTyped shared a b at n name → SpansBase c b n.base
 base_of_typed shared c a b at n name p q h (with_base m r o k d e) = base_wider a m c b n.base p o k
@@ -185,37 +216,52 @@ module _ (context : Context) (k : ℕ) where
       own_place (with_base m r o k d e) = (omega (arith, d.0, p, r), d.1)
       own_place (behind_another e d f) = (omega (arith, d.0, p), d.1)
 
-  typed_sound : {A : Type 0} (shared : Option t.TypeName) (a b : ℕ) (at : Spot) (n : t.TypeName) (name : Name) (twice : Bool) (rule : Unit {0} → Unit {0} → Judged A) → CellHolds context k shared → Follows shared n → SpansTyped shared a b at n name →
+  typed_sound : {A : Type 0} (shared : Option t.TypeName) (a b : ℕ) (at : Spot) (n : t.TypeName) (name : Name) (twice : Bool) (rule : Unit {0} → Unit {0} → Judged A) → (Shares shared n → cell_type context k n ≡ Holds tt) → SpansTyped shared a b at n name →
       ((u v : Unit {0}) (x y : ℕ) → Inside x y at → Sound x y (rule u v)) → Sound a b (with_parts (cell_type context k n) (once name twice) rule)
-  typed_sound shared a b at n name twice rule h f (with_base m r o s d e) own =
+  typed_sound shared a b at n name twice rule known (with_base m r o s d e) own =
       parts_sound a m b (cell_type context k n) (once name twice) rule r o (cell_sound context k a m n s) (once_sound m b name twice e) (λ u v. own u v a b (omega (arith, d.0, r), d.1))
-  typed_sound None a b at n name twice rule h f (behind_another e d g) own = absurd e
-  typed_sound (Some m) a b at n name twice rule h f (behind_another e d g) own =
-      subst (λ x. Sound a b (with_parts x (once name twice) rule)) (sym (cell_shared context k m n e f h))
+  typed_sound shared a b at n name twice rule known (behind_another e d g) own =
+      subst (λ x. Sound a b (with_parts x (once name twice) rule)) (sym (known e))
       (part_sound a b (once name twice) (rule tt) (once_sound a b name twice g) (λ v. own tt v a b d))
 
   -- a declarator and what stands behind it
-  typed_then : {A B C : Type 0} (shared : Option t.TypeName) (a j m b : ℕ) (at : Spot) (n : t.TypeName) (name : Name) (twice : Bool) (rule : Unit {0} → Unit {0} → Judged A) (rest : Judged B) (last : A → B → Judged C) → a ≤ j → j ≤ m → m ≤ b →
-      CellHolds context k shared → Follows shared n → SpansTyped shared j m at n name → ((u v : Unit {0}) (x y : ℕ) → Inside x y at → Sound x y (rule u v)) →
-      (CellHolds context k (Some n) → Sound m b rest) → ((c : ℕ) → c ≤ m → SpansBase c m n.base → In c b (faults rest)) → ((v : A) (w : B) → Sound a b (last v w)) →
-      Sound a b (with_parts (with_parts (cell_type context k n) (once name twice) rule) rest last)
-  typed_then shared a j m b at n name twice rule rest last i p q h f (with_base l r o s d e) own sound low ends =
+  typed_then : {A B C : Type 0} (shared : Option t.TypeName) (a j m b : ℕ) (at : Spot) (n : t.TypeName) (name : Name) (twice by_value : Bool) (rule : Unit {0} → Unit {0} → Judged A) (rest : Judged B) (last : A → B → Judged C) → a ≤ j → j ≤ m → m ≤ b →
+      (Shares shared n → (cell_type context k n ≡ Holds tt) × (shared_rule context k n.base by_value ≡ Holds tt)) → SpansTyped shared j m at n name → ((u v : Unit {0}) (x y : ℕ) → Inside x y at → Sound x y (rule u v)) →
+      (cell_type context k n ≡ Holds tt → shared_rule context k n.base by_value ≡ Holds tt → Sound m b rest) → ((c : ℕ) → c ≤ m → SpansBase c m n.base → In c b (faults rest)) → ((v : A) (w : B) (x y : ℕ) → Sound x y (last v w)) →
+      Sound a b (in_front (shared_rule context k n.base by_value) (with_parts (with_parts (cell_type context k n) (once name twice) rule) rest last))
+  typed_then shared a j m b at n name twice by_value rule rest last i p q known (with_base l r o s d e) own sound low ends =
       let head = with_parts (cell_type context k n) (once name twice) rule in
-      group_sound a m b head rest last (omega (arith, i, p)) q (elim (cell_answers context k j l n s) [
-        | inl g ↦ inl (sound_wider a j m m head i (omega arith) (typed_sound shared j m at n name twice rule h f (with_base l r o s d e) own), sound g)
-        | inr g ↦ inr (
-          g.0,
-          omega (arith, g.1, i),
-          first_of_parts (cell_type context k n) (once name twice) rule (unknown g.0) g.4,
-          in_wider g.0.place g.0.place m b (faults head) (omega arith) q (typed_in (Some n) g.0.place l m at n name twice rule (omega (arith, g.2)) o g.3 (behind_another refl d e) own),
-          low g.0.place (omega (arith, g.2, o)) (base_wider g.0.place l g.0.place m n.base (omega arith) o g.3),
-        )
-      ]) ends
-  typed_then None a j m b at n name twice rule rest last i p q h f (behind_another e d g) own sound low ends = absurd e
-  typed_then (Some x) a j m b at n name twice rule rest last i p q h f (behind_another e d g) own sound low ends =
+      let whole = with_parts head rest last in
+      elim (shared_answers context k j l n.base by_value s) [
+        | inl f ↦
+            subst (λ x. Sound a b (in_front x whole)) (sym f) (group_sound a m b head rest last (omega (arith, i, p)) q (elim (cell_answers context k j l n s) [
+              | inl g ↦ inl (sound_wider a j m m head i (omega arith) (typed_sound shared j m at n name twice rule (λ h. (known h).0) (with_base l r o s d e) own), sound g f)
+              | inr g ↦ inr (
+                g.0,
+                omega (arith, g.1, i),
+                first_of_parts (cell_type context k n) (once name twice) rule (unknown g.0) g.4,
+                in_wider g.0.place g.0.place m b (faults head) (omega arith) q (typed_in (Some n) g.0.place l m at n name twice rule (omega (arith, g.2)) o g.3 (behind_another refl d e) own),
+                low g.0.place (omega (arith, g.2, o)) (base_wider g.0.place l g.0.place m n.base (omega arith) o g.3),
+              )
+            ]) (λ v w. ends v w a b))
+        | inr g ↦
+            unknown_sound a b g.0 (in_front (shared_rule context k n.base by_value) whole) (omega (arith, g.1, i)) (front_first (shared_rule context k n.base by_value) whole (unknown g.0) g.4)
+            (front_in g.0.place b (shared_rule context k n.base by_value) whole
+            (in_wider g.0.place g.0.place l b (faults (shared_rule context k n.base by_value)) (omega arith) (omega (arith, o, q)) (all_in g.0.place l (shared_rule context k n.base by_value) (shared_sound context k g.0.place l n.base by_value g.3)))
+            (parts_in g.0.place b head rest last
+            (in_wider g.0.place g.0.place m b (faults head) (omega arith) q (typed_in (Some n) g.0.place l m at n name twice rule (omega (arith, g.2)) o g.3 (behind_another refl d e) own))
+            (low g.0.place (omega (arith, g.2, o)) (base_wider g.0.place l g.0.place m n.base (omega arith) o g.3))
+            (λ v w. all_in g.0.place b (last v w) (ends v w g.0.place b))))
+      ]
+  typed_then shared a j m b at n name twice by_value rule rest last i p q known (behind_another e d g) own sound low ends =
       let head = with_parts (cell_type context k n) (once name twice) rule in
-      parts_sound a m b head rest last (omega (arith, i, p)) q (sound_wider a j m m head i (omega arith) (typed_sound (Some x) j m at n name twice rule h f (behind_another e d g) own))
-      (sound (cell_shared context k x n e f h)) ends
+      let h = known e in
+      subst (λ x. Sound a b (in_front x (with_parts head rest last))) (sym h.1)
+      (parts_sound a m b head rest last (omega (arith, i, p)) q (sound_wider a j m m head i (omega arith) (typed_sound shared j m at n name twice rule (λ f. (known f).0) (behind_another e d g) own))
+      (sound h.0 h.1) (λ v w. ends v w a b))
+
+  next_holds : (n : t.TypeName) (later : Base → Bool) → cell_type context k n ≡ Holds tt → shared_rule context k n.base (later n.base) ≡ Holds tt → GroupHolds context k (Some n) later
+  next_holds n later c r = (cell_then_base context k n.base n.stars c, λ e. subst (λ f. shared_rule context k n.base f ≡ Holds tt) e r)
 
   -- fields
   abbrev field_own : (f : t.Field) → Unit {0} → Unit {0} → Judged (Unit {0})
@@ -224,18 +270,26 @@ module _ (context : Context) (k : ℕ) where
   fields_in : (shared : Option t.TypeName) (earlier : List (List ℕ)) (c a b : ℕ) (fs : List t.Field) → c ≤ a → Before c a shared → SpansFields shared a b fs → In c b (faults (fields_rule context k earlier fs))
   fields_in shared earlier c a b [] p h s = tt
   fields_in shared earlier c a b (f ∷ fs) p h s =
-      parts_in c b (field_rule context k earlier f) (fields_rule context k (earlier ++ f.name.text ∷ []) fs) (λ u v. Holds tt)
-      (in_wider c c s.1 b (faults (field_rule context k earlier f)) (omega arith) s.4 (typed_in shared c s.0 s.1 f.spot f.type_name f.name (is_among earlier f.name.text) (field_own f) (omega (arith, p, s.2)) s.3 (before_wider c a s.0 shared s.2 h) s.5 (λ u v x y i. ruled_one x y f.spot (is_empty f.length) TooBig tt i)))
-      (fields_in (Some f.type_name) (earlier ++ f.name.text ∷ []) c s.1 b fs (omega (arith, p, s.2, s.3)) (base_of_typed shared c s.0 s.1 f.spot f.type_name f.name (omega (arith, p, s.2)) s.3 (before_wider c a s.0 shared s.2 h) s.5) s.6)
-      (λ u v. tt)
+      let head = field_rule context k earlier f in
+      let there = base_of_typed shared c s.0 s.1 f.spot f.type_name f.name (omega (arith, p, s.2)) s.3 (before_wider c a s.0 shared s.2 h) s.5 in
+      front_in c b (shared_rule context k f.type_name.base (field_by_value f.type_name.base fs)) (with_parts head (fields_rule context k (earlier ++ f.name.text ∷ []) fs) (λ u v. Holds tt))
+      (in_wider c c s.1 b (faults (shared_rule context k f.type_name.base (field_by_value f.type_name.base fs))) (omega arith) s.4 (all_in c s.1 (shared_rule context k f.type_name.base (field_by_value f.type_name.base fs)) (shared_sound context k c s.1 f.type_name.base (field_by_value f.type_name.base fs) there)))
+      (parts_in c b head (fields_rule context k (earlier ++ f.name.text ∷ []) fs) (λ u v. Holds tt)
+      (in_wider c c s.1 b (faults head) (omega arith) s.4 (typed_in shared c s.0 s.1 f.spot f.type_name f.name (is_among earlier f.name.text) (field_own f) (omega (arith, p, s.2)) s.3 (before_wider c a s.0 shared s.2 h) s.5 (λ u v x y i. ruled_one x y f.spot (is_empty f.length) TooBig tt i)))
+      (fields_in (Some f.type_name) (earlier ++ f.name.text ∷ []) c s.1 b fs (omega (arith, p, s.2, s.3)) there s.6)
+      (λ u v. tt))
 
-  fields_sound : (shared : Option t.TypeName) (earlier : List (List ℕ)) (a b : ℕ) (fs : List t.Field) → CellHolds context k shared → FieldsFollow shared fs → SpansFields shared a b fs → Sound a b (fields_rule context k earlier fs)
-  fields_sound shared earlier a b [] h g s = tt
-  fields_sound shared earlier a b (f ∷ fs) h g s =
-      typed_then shared a s.0 s.1 b f.spot f.type_name f.name (is_among earlier f.name.text) (field_own f) (fields_rule context k (earlier ++ f.name.text ∷ []) fs) (λ u v. Holds tt) s.2 s.3 s.4 h g.0 s.5
-      (λ u v x y i. ruled_one x y f.spot (is_empty f.length) TooBig tt i)
-      (λ e. fields_sound (Some f.type_name) (earlier ++ f.name.text ∷ []) s.1 b fs e g.1 s.6)
-      (λ c q n. fields_in (Some f.type_name) (earlier ++ f.name.text ∷ []) c s.1 b fs q n s.6) (λ u v. tt)
+  field_known : (shared : Option t.TypeName) (f : t.Field) (fs : List t.Field) → GroupHolds context k shared (λ n. field_by_value n (f ∷ fs)) → Shares shared f.type_name → (cell_type context k f.type_name ≡ Holds tt) × (shared_rule context k f.type_name.base (field_by_value f.type_name.base fs) ≡ Holds tt)
+  field_known None f fs h e = absurd e
+  field_known (Some m) f fs h e = known_at context k m.base f.type_name.base f.type_name.stars (λ n. field_by_value n fs) e h.0 h.1
+
+  fields_sound : (shared : Option t.TypeName) (earlier : List (List ℕ)) (a b : ℕ) (fs : List t.Field) → GroupHolds context k shared (λ n. field_by_value n fs) → SpansFields shared a b fs → Sound a b (fields_rule context k earlier fs)
+  fields_sound shared earlier a b [] h s = tt
+  fields_sound shared earlier a b (f ∷ fs) h s =
+      typed_then shared a s.0 s.1 b f.spot f.type_name f.name (is_among earlier f.name.text) (field_by_value f.type_name.base fs) (field_own f) (fields_rule context k (earlier ++ f.name.text ∷ []) fs) (λ u v. Holds tt) s.2 s.3 s.4
+      (field_known shared f fs h) s.5 (λ u v x y i. ruled_one x y f.spot (is_empty f.length) TooBig tt i)
+      (λ c r. fields_sound (Some f.type_name) (earlier ++ f.name.text ∷ []) s.1 b fs (next_holds f.type_name (λ n. field_by_value n fs) c r) s.6)
+      (λ c q n. fields_in (Some f.type_name) (earlier ++ f.name.text ∷ []) c s.1 b fs q n s.6) (λ u v x y. tt)
 
 -- functions
 again_sound : (a b : ℕ) (name : Name) (twice same : Bool) → Inside a b name.spot → Sound a b (declared_again name twice same)
@@ -291,21 +345,17 @@ module _ (context : Context) where
   IsOther (t.global at n name count c) = ⊥
   IsOther i = Unit {0}
 
-  abbrev OwnFollow : t.Item → Type 0
-  OwnFollow (t.struct at name fields) = FieldsFollow None fields
-  OwnFollow i = Unit {0}
-
-  item_sound : (o : Outside) (shared : Option t.TypeName) (a b : ℕ) (i : t.Item) → IsOther i → OwnFollow i → SpansItem shared a b i → Sound a b (item context o i)
-  item_sound o shared a b (t.global at n name count c) e g h = absurd e
-  item_sound o shared a b (t.struct at name fields) e g h =
+  item_sound : (o : Outside) (shared : Option t.TypeName) (a b : ℕ) (i : t.Item) → IsOther i → SpansItem shared a b i → Sound a b (item context o i)
+  item_sound o shared a b (t.global at n name count c) e h = absurd e
+  item_sound o shared a b (t.struct at name fields) e h =
       parts_sound a h.1 b (once name (is_defined_before o.structs (place_of (struct_names context) name.text))) (fields_rule context o.structs [] fields) _ h.2 h.3
-      (once_sound a h.1 name (is_defined_before o.structs (place_of (struct_names context) name.text)) h.4) (fields_sound context o.structs None [] h.1 b fields tt g h.5)
+      (once_sound a h.1 name (is_defined_before o.structs (place_of (struct_names context) name.text)) h.4) (fields_sound context o.structs None [] h.1 b fields tt h.5)
       (λ u v. ruled_one a b at (nat_lt 4096 (cells_of_struct context (place_of (struct_names context) name.text))) TooBig nothing_made h.0)
-  item_sound o shared a b (t.function at deletes result name params None) e g h =
+  item_sound o shared a b (t.function at deletes result name params None) e h =
       part_sound a b (head_rule context o false deletes result name params) _
       (sound_wider a a h.5 b (head_rule context o false deletes result name params) (omega arith) h.7 (head_sound o false deletes result name params a h.1 h.3 h.5 h.2 h.4 h.6 h.8 h.9 h.10))
       (λ u. ruled_one a b at (is_struct_option (type_option context result)) Mistyped nothing_made h.0)
-  item_sound o shared a b (t.function at deletes result name params (Some body)) e g h =
+  item_sound o shared a b (t.function at deletes result name params (Some body)) e h =
       let own = with_function context o deletes result name params in
       let here = with_params context (before_params own) params in
       let inner = stmts context (type_option context result) false here body in
@@ -314,49 +364,54 @@ module _ (context : Context) where
       (sound_wider h.5 h.11.0 h.11.1 b inner h.11.2 h.11.3 (stmts_sound context (type_option context result) false here None h.11.0 h.11.1 body tt h.11.4))
       (λ u c. ruled_one a b at (is_struct_option (type_option context result)) Mistyped _ h.0)
 
-  other_follows : (shared : Option t.TypeName) (i : t.Item) (is : List t.Item) → IsOther i → ItemsFollow shared (i ∷ is) → OwnFollow i × ItemsFollow None is
-  other_follows shared (t.struct at name fields) is e h = h
-  other_follows shared (t.function at deletes result name params body) is e h = (tt, h)
-  other_follows shared (t.global at n name count c) is e h = absurd e
+  global_known : (o : Outside) (shared : Option t.TypeName) (at : Spot) (n : t.TypeName) (name : Name) (count : Option ℕ) (c : Option Constant) (is : List t.Item) → GroupHolds context o.structs shared (λ m. global_by_value m (t.global at n name count c ∷ is)) → Shares shared n →
+      (cell_type context o.structs n ≡ Holds tt) × (shared_rule context o.structs n.base (global_by_value n.base is) ≡ Holds tt)
+  global_known o None at n name count c is h e = absurd e
+  global_known o (Some m) at n name count c is h e = known_at context o.structs m.base n.base n.stars (λ x. global_by_value x is) e h.0 h.1
 
   -- no item but a global is followed by one that shares its base
-  items_in : (o : Outside) (shared : Option t.TypeName) (c a b : ℕ) (is : List t.Item) → c ≤ a → Before c a shared → ItemsFollow shared is → SpansItems shared a b is → In c b (faults (items context o is))
-  items_in o shared c a b [] p h g s = tt
-  items_in o shared c a b (t.global at n name count z ∷ is) p h g s =
-      parts_in c b (item context o (t.global at n name count z)) (items context (behind_item context o (t.global at n name count z)) is) (λ x y. Holds (made_both x y))
-      (in_wider c c s.1 b (faults (item context o (t.global at n name count z))) (omega arith) s.4 (typed_in context o.structs shared c s.0 s.1 at n name (is_some (meaning_in o.names name.text)) (global_own o at n count z) (omega (arith, p, s.2)) s.3 (before_wider c a s.0 shared s.2 h) s.5 (global_sound o at n count z)))
-      (items_in (behind_item context o (t.global at n name count z)) (Some n) c s.1 b is (omega (arith, p, s.2, s.3)) (base_of_typed shared c s.0 s.1 at n name (omega (arith, p, s.2)) s.3 (before_wider c a s.0 shared s.2 h) s.5) g.1 s.6)
-      (λ x y. tt)
-  items_in o shared c a b (t.struct at name fields ∷ is) p h g s =
+  items_in : (o : Outside) (shared : Option t.TypeName) (c a b : ℕ) (is : List t.Item) → c ≤ a → Before c a shared → SpansItems shared a b is → In c b (faults (items context o is))
+  items_in o shared c a b [] p h s = tt
+  items_in o shared c a b (t.global at n name count z ∷ is) p h s =
+      let head = item context o (t.global at n name count z) in
+      let front = shared_rule context o.structs n.base (global_by_value n.base is) in
+      let there = base_of_typed shared c s.0 s.1 at n name (omega (arith, p, s.2)) s.3 (before_wider c a s.0 shared s.2 h) s.5 in
+      front_in c b front (with_parts head (items context (behind_item context o (t.global at n name count z)) is) (λ x y. Holds (made_both x y)))
+      (in_wider c c s.1 b (faults front) (omega arith) s.4 (all_in c s.1 front (shared_sound context o.structs c s.1 n.base (global_by_value n.base is) there)))
+      (parts_in c b head (items context (behind_item context o (t.global at n name count z)) is) (λ x y. Holds (made_both x y))
+      (in_wider c c s.1 b (faults head) (omega arith) s.4 (typed_in context o.structs shared c s.0 s.1 at n name (is_some (meaning_in o.names name.text)) (global_own o at n count z) (omega (arith, p, s.2)) s.3 (before_wider c a s.0 shared s.2 h) s.5 (global_sound o at n count z)))
+      (items_in (behind_item context o (t.global at n name count z)) (Some n) c s.1 b is (omega (arith, p, s.2, s.3)) there s.6)
+      (λ x y. tt))
+  items_in o shared c a b (t.struct at name fields ∷ is) p h s =
       parts_in c b (item context o (t.struct at name fields)) (items context (behind_item context o (t.struct at name fields)) is) (λ x y. Holds (made_both x y))
-      (in_wider c s.0 s.1 b (faults (item context o (t.struct at name fields))) (omega (arith, p, s.2)) s.4 (all_in s.0 s.1 (item context o (t.struct at name fields)) (item_sound o shared s.0 s.1 (t.struct at name fields) tt g.0 s.5)))
-      (items_in (behind_item context o (t.struct at name fields)) None c s.1 b is (omega (arith, p, s.2, s.3)) tt g.1 s.6)
+      (in_wider c s.0 s.1 b (faults (item context o (t.struct at name fields))) (omega (arith, p, s.2)) s.4 (all_in s.0 s.1 (item context o (t.struct at name fields)) (item_sound o shared s.0 s.1 (t.struct at name fields) tt s.5)))
+      (items_in (behind_item context o (t.struct at name fields)) None c s.1 b is (omega (arith, p, s.2, s.3)) tt s.6)
       (λ x y. tt)
-  items_in o shared c a b (t.function at deletes result name params body ∷ is) p h g s =
+  items_in o shared c a b (t.function at deletes result name params body ∷ is) p h s =
       parts_in c b (item context o (t.function at deletes result name params body)) (items context (behind_item context o (t.function at deletes result name params body)) is) (λ x y. Holds (made_both x y))
-      (in_wider c s.0 s.1 b (faults (item context o (t.function at deletes result name params body))) (omega (arith, p, s.2)) s.4 (all_in s.0 s.1 (item context o (t.function at deletes result name params body)) (item_sound o shared s.0 s.1 (t.function at deletes result name params body) tt tt s.5)))
-      (items_in (behind_item context o (t.function at deletes result name params body)) None c s.1 b is (omega (arith, p, s.2, s.3)) tt g s.6)
+      (in_wider c s.0 s.1 b (faults (item context o (t.function at deletes result name params body))) (omega (arith, p, s.2)) s.4 (all_in s.0 s.1 (item context o (t.function at deletes result name params body)) (item_sound o shared s.0 s.1 (t.function at deletes result name params body) tt s.5)))
+      (items_in (behind_item context o (t.function at deletes result name params body)) None c s.1 b is (omega (arith, p, s.2, s.3)) tt s.6)
       (λ x y. tt)
 
-  pub items_sound : (o : Outside) (shared : Option t.TypeName) (a b : ℕ) (is : List t.Item) → CellHolds context o.structs shared → ItemsFollow shared is → SpansItems shared a b is → Sound a b (items context o is)
-  items_sound o shared a b [] h g s = tt
-  items_sound o shared a b (t.global at n name count z ∷ is) h g s =
-      typed_then context o.structs shared a s.0 s.1 b at n name (is_some (meaning_in o.names name.text)) (global_own o at n count z) (items context (behind_item context o (t.global at n name count z)) is) (λ x y. Holds (made_both x y)) s.2 s.3 s.4 h g.0 s.5
-      (global_sound o at n count z)
-      (λ e. items_sound (behind_item context o (t.global at n name count z)) (Some n) s.1 b is e g.1 s.6)
-      (λ c q r. items_in (behind_item context o (t.global at n name count z)) (Some n) c s.1 b is q r g.1 s.6) (λ x y. tt)
-  items_sound o shared a b (t.struct at name fields ∷ is) h g s =
+  pub items_sound : (o : Outside) (shared : Option t.TypeName) (a b : ℕ) (is : List t.Item) → GroupHolds context o.structs shared (λ n. global_by_value n is) → SpansItems shared a b is → Sound a b (items context o is)
+  items_sound o shared a b [] h s = tt
+  items_sound o shared a b (t.global at n name count z ∷ is) h s =
+      typed_then context o.structs shared a s.0 s.1 b at n name (is_some (meaning_in o.names name.text)) (global_by_value n.base is) (global_own o at n count z) (items context (behind_item context o (t.global at n name count z)) is) (λ x y. Holds (made_both x y)) s.2 s.3 s.4
+      (global_known o shared at n name count z is h) s.5 (global_sound o at n count z)
+      (λ c r. items_sound (behind_item context o (t.global at n name count z)) (Some n) s.1 b is (next_holds context o.structs n (λ x. global_by_value x is) c r) s.6)
+      (λ c q r. items_in (behind_item context o (t.global at n name count z)) (Some n) c s.1 b is q r s.6) (λ v w x y. tt)
+  items_sound o shared a b (t.struct at name fields ∷ is) h s =
       parts_sound a s.1 b (item context o (t.struct at name fields)) (items context (behind_item context o (t.struct at name fields)) is) (λ x y. Holds (made_both x y)) (omega (arith, s.2, s.3)) s.4
-      (sound_wider a s.0 s.1 s.1 (item context o (t.struct at name fields)) s.2 (omega arith) (item_sound o shared s.0 s.1 (t.struct at name fields) tt g.0 s.5))
-      (items_sound (behind_item context o (t.struct at name fields)) None s.1 b is tt g.1 s.6) (λ x y. tt)
-  items_sound o shared a b (t.function at deletes result name params body ∷ is) h g s =
+      (sound_wider a s.0 s.1 s.1 (item context o (t.struct at name fields)) s.2 (omega arith) (item_sound o shared s.0 s.1 (t.struct at name fields) tt s.5))
+      (items_sound (behind_item context o (t.struct at name fields)) None s.1 b is tt s.6) (λ x y. tt)
+  items_sound o shared a b (t.function at deletes result name params body ∷ is) h s =
       parts_sound a s.1 b (item context o (t.function at deletes result name params body)) (items context (behind_item context o (t.function at deletes result name params body)) is) (λ x y. Holds (made_both x y)) (omega (arith, s.2, s.3)) s.4
-      (sound_wider a s.0 s.1 s.1 (item context o (t.function at deletes result name params body)) s.2 (omega arith) (item_sound o shared s.0 s.1 (t.function at deletes result name params body) tt tt s.5))
-      (items_sound (behind_item context o (t.function at deletes result name params body)) None s.1 b is tt g s.6) (λ x y. tt)
+      (sound_wider a s.0 s.1 s.1 (item context o (t.function at deletes result name params body)) s.2 (omega arith) (item_sound o shared s.0 s.1 (t.function at deletes result name params body) tt s.5))
+      (items_sound (behind_item context o (t.function at deletes result name params body)) None s.1 b is tt s.6) (λ x y. tt)
 
-pub judged_sound : (tree : t.Tree) (a b : ℕ) → PlainFirst tree → SpansItems None a b tree.items → Sound a b (judged tree)
-judged_sound tree a b g s =
-    part_sound a b (items (context_of tree.items) at_the_start tree.items) (λ made. Holds (program_of tree.items made)) (items_sound (context_of tree.items) at_the_start None a b tree.items tt g s) (λ made. tt)
+pub judged_sound : (tree : t.Tree) (a b : ℕ) → SpansItems None a b tree.items → Sound a b (judged tree)
+judged_sound tree a b s =
+    part_sound a b (items (context_of tree.items) at_the_start tree.items) (λ made. Holds (program_of tree.items made)) (items_sound (context_of tree.items) at_the_start None a b tree.items tt s) (λ made. tt)
 
 not_after_itself : (f : Fault) → NotAfter f f
 not_after_itself f = inr (refl, omega arith)
@@ -376,5 +431,5 @@ least_of tree (Faulty g gs) a b f e s h =
           (among g (record { at = at; refusal = refusal }) (g ∷ gs) (not_after_itself g, s.2) (subst (λ y. IsAmong (record { at = at; refusal = refusal }) (faults y)) e v));
     }
 
-pub first_is_least : (tree : t.Tree) (a b : ℕ) (f : Fault) → PlainFirst tree → SpansItems None a b tree.items → first_fault (judged tree) ≡ Some f → IsLeast tree f
-first_is_least tree a b f g s h = least_of tree (judged tree) a b f refl (judged_sound tree a b g s) h
+pub first_is_least : (tree : t.Tree) (a b : ℕ) (f : Fault) → SpansItems None a b tree.items → first_fault (judged tree) ≡ Some f → IsLeast tree f
+first_is_least tree a b f s h = least_of tree (judged tree) a b f refl (judged_sound tree a b s) h

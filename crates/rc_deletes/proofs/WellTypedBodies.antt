@@ -14,8 +14,8 @@ use Rattle.rc_deletes.specs.Judged.{failing}
 use Rattle.rc_deletes.specs.Kinds.{written_type}
 use Rattle.rc_deletes.specs.Scopes.{Context, struct_names, type_names, structs_in, Scope, Meaning, meaning_in}
 use Rattle.rc_deletes.specs.Statements.{Here, stmts}
-use Rattle.rc_deletes.specs.Items.{Outside, type_option, with_function, with_param, with_params, before_params, behind_body, behind_item, behind_items, is_struct_option, head_rule, Made, made_both, item, items}
-use Rattle.rc_deletes.proofs.Held.{Held, Given, held_parts, held_ruled, held_always, held_then, not_failing}
+use Rattle.rc_deletes.specs.Items.{Outside, type_option, with_function, with_param, with_params, before_params, behind_body, behind_item, behind_items, is_struct_option, head_rule, Made, made_both, item, items, before_item}
+use Rattle.rc_deletes.proofs.Held.{Held, Given, held_parts, held_ruled, held_always, held_then, not_failing, held_front}
 use Rattle.rc_deletes.proofs.WellTypedLocals.{Variables}
 use Rattle.rc_deletes.proofs.WellTypedStructs.{some_is}
 use Rattle.rc_deletes.proofs.WellTypedScopes.{kept_items}
@@ -182,7 +182,7 @@ module _ (program : p.Program) (context : Context) (structs : program.structs �
       held_parts (AddsNone context) FunctionsFit FunctionsFit (item context o i) (items context (behind_item context o i) is) _ (struct_adds context o at name fields) (functions_fit is (behind_item context o i) kept strings r) (λ a b e h. subst (λ x. AllFunctionsFit (x ++ b.functions)) (sym e) h)
   functions_fit (t.global at n name count c ∷ is) o kept strings r =
       let i = t.global at n name count c in
-      held_parts (λ (m : Made). m.functions ≡ []) FunctionsFit FunctionsFit (item context o i) (items context (behind_item context o i) is) _ (global_adds context o at n name count c) (functions_fit is (behind_item context o i) kept strings r) (λ a b e h. subst (λ x. AllFunctionsFit (x ++ b.functions)) (sym e) h)
+      held_front FunctionsFit (before_item context o i is) _ (held_parts (λ (m : Made). m.functions ≡ []) FunctionsFit FunctionsFit (item context o i) (items context (behind_item context o i) is) _ (global_adds context o at n name count c) (functions_fit is (behind_item context o i) kept strings r) (λ a b e h. subst (λ x. AllFunctionsFit (x ++ b.functions)) (sym e) h))
   functions_fit (t.function at deletes result name qs None ∷ is) o kept strings r =
       let i = t.function at deletes result name qs None in
       held_parts (λ (m : Made). m.functions ≡ []) FunctionsFit FunctionsFit (item context o i) (items context (behind_item context o i) is) _ (prototype_adds context o at deletes result name qs) (functions_fit is (behind_item context o i) kept strings r.1) (λ a b e h. subst (λ x. AllFunctionsFit (x ++ b.functions)) (sym e) h)
@@ -257,7 +257,7 @@ module _ (program : p.Program) (context : Context) where
       held_parts (AddsNone context) (AreInPlace is) (AreInPlace (i ∷ is)) (item context o i) (items context (behind_item context o i) is) _ (struct_adds context o at name fields) (functions_in_place is (behind_item context o i)) (λ a b e h. without_one is a b e h)
   functions_in_place (t.global at n name count c ∷ is) o =
       let i = t.global at n name count c in
-      held_parts (AddsNone context) (AreInPlace is) (AreInPlace (i ∷ is)) (item context o i) (items context (behind_item context o i) is) _ (global_adds context o at n name count c) (functions_in_place is (behind_item context o i)) (λ a b e h. without_one is a b e h)
+      held_front (AreInPlace (i ∷ is)) (before_item context o i is) _ (held_parts (AddsNone context) (AreInPlace is) (AreInPlace (i ∷ is)) (item context o i) (items context (behind_item context o i) is) _ (global_adds context o at n name count c) (functions_in_place is (behind_item context o i)) (λ a b e h. without_one is a b e h))
   functions_in_place (t.function at deletes result name qs None ∷ is) o =
       let i = t.function at deletes result name qs None in
       held_parts (AddsNone context) (AreInPlace is) (AreInPlace (i ∷ is)) (item context o i) (items context (behind_item context o i) is) _ (prototype_adds context o at deletes result name qs) (functions_in_place is (behind_item context o i))
@@ -300,7 +300,7 @@ module _ (context : Context) where
       held_parts (AddsNone context) ResultsHold ResultsHold (item context o i) (items context (behind_item context o i) is) _ (struct_adds context o at name fields) (results_hold is (behind_item context o i)) (λ a b e h. subst (λ x. AllResults (x ++ b.functions)) (sym e) h)
   results_hold (t.global at n name count c ∷ is) o =
       let i = t.global at n name count c in
-      held_parts (AddsNone context) ResultsHold ResultsHold (item context o i) (items context (behind_item context o i) is) _ (global_adds context o at n name count c) (results_hold is (behind_item context o i)) (λ a b e h. subst (λ x. AllResults (x ++ b.functions)) (sym e) h)
+      held_front ResultsHold (before_item context o i is) _ (held_parts (AddsNone context) ResultsHold ResultsHold (item context o i) (items context (behind_item context o i) is) _ (global_adds context o at n name count c) (results_hold is (behind_item context o i)) (λ a b e h. subst (λ x. AllResults (x ++ b.functions)) (sym e) h))
   results_hold (t.function at deletes result name qs None ∷ is) o =
       let i = t.function at deletes result name qs None in
       held_parts (AddsNone context) ResultsHold ResultsHold (item context o i) (items context (behind_item context o i) is) _ (prototype_adds context o at deletes result name qs) (results_hold is (behind_item context o i)) (λ a b e h. subst (λ x. AllResults (x ++ b.functions)) (sym e) h)

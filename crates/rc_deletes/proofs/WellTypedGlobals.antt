@@ -21,8 +21,8 @@ use Rattle.rc_deletes.specs.declared.fault.Refusal.TheVariants.{Mistyped, TooBig
 use Rattle.rc_deletes.specs.Judged.{failing}
 use Rattle.rc_deletes.specs.Kinds.{written_type, sort_of_type}
 use Rattle.rc_deletes.specs.Scopes.{Context, struct_names, type_names, structs_in, meaning_in}
-use Rattle.rc_deletes.specs.Items.{Outside, is_empty, once, cell_type, cells_of_global, written_value, initial_by, initial_of, value_or_zero, global_of, Made, made_both, behind_item, item, items}
-use Rattle.rc_deletes.proofs.Held.{Held, held_parts, held_ruled, held_always, held_after, held_and, none_failing, not_failing}
+use Rattle.rc_deletes.specs.Items.{Outside, is_empty, once, cell_type, cells_of_global, written_value, initial_by, initial_of, value_or_zero, global_of, Made, made_both, behind_item, item, items, before_item}
+use Rattle.rc_deletes.proofs.Held.{Held, held_parts, held_ruled, held_always, held_after, held_and, none_failing, not_failing, held_front}
 use Rattle.rc_deletes.proofs.WellTypedStructs.{structs_length, cell_fits, no_less, at_least_one}
 use Rattle.rc_deletes.proofs.WellTypedScopes.{adds}
 
@@ -133,7 +133,7 @@ module _ (context : Context) where
   globals_fit (t.global at ty name count c ∷ is) o h =
       let i = t.global at ty name count c in
       let d = global_of context ty count (value_or_zero (initial_of (written_type (type_names context) ty) count c)) in
-      held_after (GlobalHolds o ty count c) (λ (m : Made). m.globals ≡ d ∷ []) (GlobalsFit (o.cells + cells_of_global context ty count)) (GlobalsFit o.cells) (item context o i) (items context (behind_item context o i) is) _
+      held_front (GlobalsFit o.cells) (before_item context o i is) _ (held_after (GlobalHolds o ty count c) (λ (m : Made). m.globals ≡ d ∷ []) (GlobalsFit (o.cells + cells_of_global context ty count)) (GlobalsFit o.cells) (item context o i) (items context (behind_item context o i) is) _
       (held_and (λ (m : Made). GlobalHolds o ty count c) (λ (m : Made). m.globals ≡ d ∷ []) (item context o i) (global_holds o at ty name count c) (adds context o i))
       (λ k. globals_fit is (behind_item context o i) k.1)
-      (λ a b k e q. subst (λ x. AllGlobalsFit (x ++ b.globals) × (o.cells + sum (map (global_size (structs_in context)) (x ++ b.globals)) ≤ 1048576)) (sym e) ((k.0, q.0), total_on o.cells (cells_of_global context ty count) (map (global_size (structs_in context)) b.globals) q.1))
+      (λ a b k e q. subst (λ x. AllGlobalsFit (x ++ b.globals) × (o.cells + sum (map (global_size (structs_in context)) (x ++ b.globals)) ≤ 1048576)) (sym e) ((k.0, q.0), total_on o.cells (cells_of_global context ty count) (map (global_size (structs_in context)) b.globals) q.1)))

@@ -17,9 +17,9 @@ use Rattle.rc_deletes.specs.Judged.{failing}
 use Rattle.rc_deletes.specs.Kinds.{place_of, written_type, base_type, starred}
 use Rattle.rc_deletes.specs.Scopes.{Context, struct_names, type_names, Scope, Meaning, a_local, a_global, a_function, a_builtin, Signature, meaning_in}
 use Rattle.rc_deletes.specs.Statements.{stmts}
-use Rattle.rc_deletes.specs.Items.{with_new, with_functions, Outside, behind_definition, is_defined_before, type_option, signature_of, with_function, with_params, before_params, behind_body, behind_item, behind_items, is_empty, once, cell_type, cells_of_global, cells_of_struct, fields_rule, initial_of, value_or_zero, global_of, is_struct_option, head_rule, Made, nothing_made, made_both, item, items, main_name}
+use Rattle.rc_deletes.specs.Items.{with_new, with_functions, Outside, behind_definition, is_defined_before, type_option, signature_of, with_function, with_params, before_params, behind_body, behind_item, behind_items, is_empty, once, cell_type, cells_of_global, cells_of_struct, fields_rule, initial_of, value_or_zero, global_of, is_struct_option, head_rule, Made, nothing_made, made_both, item, items, main_name, before_item}
 use Rattle.rc_deletes.specs.Answer.{is_int, gives_int, takes_nothing, main_shape, main_fault}
-use Rattle.rc_deletes.proofs.Held.{Held, Given, held_part, held_parts, held_ruled, held_always, held_after}
+use Rattle.rc_deletes.proofs.Held.{Held, Given, held_part, held_parts, held_ruled, held_always, held_after, held_front}
 use Rattle.rc_deletes.proofs.WellTypedValues.{and_left, and_right}
 use Rattle.rc_deletes.proofs.WellTypedExpressions.{place_within}
 use Rattle.rc_deletes.proofs.WellTypedStructs.{no_less, some_is}
@@ -245,8 +245,8 @@ module _ (context : Context) (gs : List p.Global) (last : Scope) (outer : Outer 
       (complete is ns (behind_item context o i) count same seen kept main) (λ a b e h. without ns a b e h)
   complete (t.global at ty name c z ∷ is) ns o count same seen kept main =
       let i = t.global at ty name c z in
-      held_parts (AddsNone context) (Complete ns) (Complete ns) (item context o i) (items context (behind_item context o i) is) _ (global_adds context o at ty name c z)
-      (complete is ns (behind_item context o i) count same (λ j n h. seen_item o i n (seen j n h)) kept main) (λ a b e h. without ns a b e h)
+      held_front (Complete ns) (before_item context o i is) _ (held_parts (AddsNone context) (Complete ns) (Complete ns) (item context o i) (items context (behind_item context o i) is) _ (global_adds context o at ty name c z)
+      (complete is ns (behind_item context o i) count same (λ j n h. seen_item o i n (seen j n h)) kept main) (λ a b e h. without ns a b e h))
   complete (t.function at deletes result name qs None ∷ is) ns o count same seen kept main =
       let i = t.function at deletes result name qs None in
       held_parts (AddsNone context) (Complete ns) (Complete ns) (item context o i) (items context (behind_item context o i) is) _ (prototype_adds context o at deletes result name qs)

@@ -8,9 +8,9 @@ use Rattle.rc_deletes.specs.declared.fault.Refusal.TheVariants.{Mistyped, TooBig
 use Rattle.rc_deletes.specs.Judged.{failing}
 use Rattle.rc_deletes.specs.Kinds.{place_of, written_type}
 use Rattle.rc_deletes.specs.Scopes.{Context, struct_names, type_names, Scope, Meaning, a_local, a_global, a_function, a_builtin, meaning_in}
-use Rattle.rc_deletes.specs.Items.{is_empty, is_defined_before, cells_of_struct, fields_rule, is_struct_option, Outside, builtins, with_name, with_function, signature_of, behind_item, behind_items, global_of, cells_of_global, cell_type, once, initial_of, value_or_zero, Made, nothing_made, head_rule, type_option, before_params, with_params, item, items}
+use Rattle.rc_deletes.specs.Items.{is_empty, is_defined_before, cells_of_struct, fields_rule, is_struct_option, Outside, builtins, with_name, with_function, signature_of, behind_item, behind_items, global_of, cells_of_global, cell_type, once, initial_of, value_or_zero, Made, nothing_made, head_rule, type_option, before_params, with_params, item, items, before_item}
 use Rattle.rc_deletes.specs.Statements.{stmts}
-use Rattle.rc_deletes.proofs.Held.{Held, Given, given_if, held_part, held_parts, held_ruled, held_always}
+use Rattle.rc_deletes.proofs.Held.{Held, Given, given_if, held_part, held_parts, held_ruled, held_always, held_front}
 use Rattle.rc_deletes.proofs.Naming.{same_name, own_name}
 use Rattle.rc_deletes.proofs.Standing.{at_end, prefix_more}
 
@@ -131,8 +131,8 @@ module _ (context : Context) where
   pub outer_items : (is : List t.Item) (o : Outside) (gs : List p.Global) → o.globals ≡ length gs → Held (OuterAfter gs is o) (items context o is)
   outer_items [] o gs h = λ k. k
   outer_items (i ∷ is) o gs h =
-      held_parts (λ (m : Made). m.globals ≡ new_globals i) (OuterAfter (gs ++ new_globals i) is (behind_item context o i)) (OuterAfter gs (i ∷ is) o) (item context o i) (items context (behind_item context o i) is) _
+      held_front (OuterAfter gs (i ∷ is) o) (before_item context o i is) _ (held_parts (λ (m : Made). m.globals ≡ new_globals i) (OuterAfter (gs ++ new_globals i) is (behind_item context o i)) (OuterAfter gs (i ∷ is) o) (item context o i) (items context (behind_item context o i) is) _
       (adds o i) (outer_items is (behind_item context o i) (gs ++ new_globals i) (count_next o i gs h))
       (λ a b e q k.
       let same : gs ++ (a.globals ++ b.globals) ≡ (gs ++ new_globals i) ++ b.globals = ap (λ x. gs ++ (x ++ b.globals)) e ∙ sym (append_assoc gs (new_globals i) b.globals) in
-      subst (λ x. Outer x (behind_items context (behind_item context o i) is).names) (sym same) (q (outer_item o i gs b.globals h (subst (λ x. Outer x o.names) same k))))
+      subst (λ x. Outer x (behind_items context (behind_item context o i) is).names) (sym same) (q (outer_item o i gs b.globals h (subst (λ x. Outer x o.names) same k)))))

@@ -20,8 +20,8 @@ use Rattle.rc_deletes.specs.Judged.{Holds, fails, failing}
 use Rattle.rc_deletes.specs.Kinds.{place_of, number_or, struct_number, written_type, base_type, starred, note_of}
 use Rattle.rc_deletes.specs.Scopes.{Context, fields_in, struct_names, type_names, structs_in}
 use Rattle.rc_deletes.specs.Expressions.{base_rule}
-use Rattle.rc_deletes.specs.Items.{is_among, Definition, names_of, with_definition, with_structs, field_of, shape_of, Outside, behind_definition, is_defined_before, behind_item, value_base, cell_type, is_empty, once, field_rule, fields_rule, cells_of_struct, Made, nothing_made, item, items}
-use Rattle.rc_deletes.proofs.Held.{Held, held_parts, held_if, held_ruled, held_always, held_then, held_more, not_failing}
+use Rattle.rc_deletes.specs.Items.{is_among, Definition, names_of, with_definition, with_structs, field_of, shape_of, Outside, behind_definition, is_defined_before, behind_item, value_base, cell_type, is_empty, once, field_rule, fields_rule, cells_of_struct, Made, nothing_made, item, items, before_item, shared_rule, field_by_value}
+use Rattle.rc_deletes.proofs.Held.{Held, held_parts, held_if, held_ruled, held_always, held_then, held_more, not_failing, held_front}
 use Rattle.rc_deletes.proofs.WellTypedExpressions.{base_fits, starred_defined, place_within, struct_number_is}
 use Rattle.rc_deletes.proofs.Naming.{place_more, place_new}
 use Rattle.rc_deletes.proofs.Standing.{at_end}
@@ -77,8 +77,9 @@ module _ (context : Context) (same : length (struct_names context) ≡ length (s
   pub fields_fit : (k : ℕ) (earlier : List (List ℕ)) (fs : List t.Field) → Held (λ (u : Unit {0}). AllFieldsFit k fs) (fields_rule context k earlier fs)
   fields_fit k earlier [] = tt
   fields_fit k earlier (f ∷ fs) =
-      held_parts (λ (u : Unit {0}). AFieldFits k f) (λ (u : Unit {0}). AllFieldsFit k fs) (λ (u : Unit {0}). AllFieldsFit k (f ∷ fs)) (field_rule context k earlier f) (fields_rule context k (earlier ++ f.name.text ∷ []) fs) _
-      (field_fits k earlier f) (fields_fit k (earlier ++ f.name.text ∷ []) fs) (λ u v h q. (h, q))
+      held_front (λ (u : Unit {0}). AllFieldsFit k (f ∷ fs)) (shared_rule context k f.type_name.base (field_by_value f.type_name.base fs)) _
+      (held_parts (λ (u : Unit {0}). AFieldFits k f) (λ (u : Unit {0}). AllFieldsFit k fs) (λ (u : Unit {0}). AllFieldsFit k (f ∷ fs)) (field_rule context k earlier f) (fields_rule context k (earlier ++ f.name.text ∷ []) fs) _
+      (field_fits k earlier f) (fields_fit k (earlier ++ f.name.text ∷ []) fs) (λ u v h q. (h, q)))
 
   pub field_in : (k : ℕ) (fs : List t.Field) → AllFieldsFit k fs → (j : ℕ) (f : p.Field) → slice_get (map (λ x. x.1) (map (field_of (type_names context)) fs)) j ≡ Some f → FieldFits (structs_in context) k f
   field_in k [] h j f e = absurd cc
@@ -187,8 +188,9 @@ module _ (context : Context) (all : List Definition) (names : struct_names conte
   pub structs_hold : (ds : List Definition) (is : List t.Item) (o : Outside) → o.structs ≡ length ds → with_structs ds is ≡ all → Held (λ (m : Made). StructsFrom (length ds)) (items context o is)
   structs_hold ds [] o count same = after_all (length ds) (ap length (sym same))
   structs_hold ds (t.global at n name c z ∷ is) o count same =
-      held_parts (λ (m : Made). Unit {0}) (λ (m : Made). StructsFrom (length ds)) (λ (m : Made). StructsFrom (length ds)) (item context o (t.global at n name c z)) (items context (behind_item context o (t.global at n name c z)) is) _
-      (held_always (Unit {0}) (item context o (t.global at n name c z)) tt) (structs_hold ds is (behind_item context o (t.global at n name c z)) count same) (λ a b h q. q)
+      held_front (λ (m : Made). StructsFrom (length ds)) (before_item context o (t.global at n name c z) is) _
+      (held_parts (λ (m : Made). Unit {0}) (λ (m : Made). StructsFrom (length ds)) (λ (m : Made). StructsFrom (length ds)) (item context o (t.global at n name c z)) (items context (behind_item context o (t.global at n name c z)) is) _
+      (held_always (Unit {0}) (item context o (t.global at n name c z)) tt) (structs_hold ds is (behind_item context o (t.global at n name c z)) count same) (λ a b h q. q))
   structs_hold ds (t.function at x result name params None ∷ is) o count same =
       held_parts (λ (m : Made). Unit {0}) (λ (m : Made). StructsFrom (length ds)) (λ (m : Made). StructsFrom (length ds)) (item context o (t.function at x result name params None)) (items context (behind_item context o (t.function at x result name params None)) is) _
       (held_always (Unit {0}) (item context o (t.function at x result name params None)) tt) (structs_hold ds is (behind_item context o (t.function at x result name params None)) count same) (λ a b h q. q)

@@ -136,3 +136,10 @@ sum_program = record {
 
 sum_is : Typed sum sum_program
 sum_is = refl
+
+-- struct S { struct T / *a[0], b; }; struct T { int x; };
+abbrev shared_struct : t.Tree
+shared_struct = record { items = ((t.struct (at 0 1) (name 1 1 (83 ∷ [])) ((fld (at 5 2) (ty (base.Struct (at 3 1) (name 4 1 (84 ∷ []))) (written.Plain ∷ [])) (name 6 2 (97 ∷ [])) (Some 0)) ∷ (fld (at 11 2) (ty (base.Struct (at 3 1) (name 4 1 (84 ∷ []))) ([])) (name 11 2 (98 ∷ [])) None) ∷ [])) ∷ (t.struct (at 15 2) (name 16 2 (84 ∷ [])) ((fld (at 19 2) (ty (base.Int (at 18 2)) ([])) (name 19 2 (120 ∷ [])) None) ∷ [])) ∷ []) }
+
+shared_struct_is : refusal shared_struct ≡ (Some (at_node re.Unknown 1))
+shared_struct_is = refl

@@ -1,5 +1,6 @@
 -- The rules of what stands outside of functions, and the program of a whole text.
 use Rattle.std.specs.Prelude.{◌≡◌, ◌⊎◌, ℕ, suc, max, flat_map, ◌+◌, ℤ, pos, neg_ℤ, List, [], ◌∷◌, ◌++◌, Option, Some, None, Bool, true, false, not, ◌&&◌, ◌||◌, nat_eq, nat_lt, length, map, option_map, is_some, is_none, if◌then◌else◌}
+use Rattle.std.specs.Str.{bytes_eq}
 use Rattle.rc_syntax.specs.declared.tree.Spot.{Spot}
 use Rattle.rc_syntax.specs.declared.tree.Name.{Name}
 use Rattle.rc_syntax.specs.declared.tree.Base.{Base}
@@ -19,7 +20,7 @@ use Rattle.rc_deletes.specs.declared.fault.Refusal.TheVariants.{Unknown, Twice, 
 use Rattle.rc_deletes.specs.declared.sort.Sort.{Sort}
 use Rattle.rc_deletes.specs.declared.sort.Sort.TheVariants.{Number, Region, Pointer}
 use Rattle.rc_deletes.specs.declared.builtin.Builtin.TheVariants.{NewRegion, NewSubregion, DeleteRegion, RegionOf, Putchar, Getchar}
-use Rattle.rc_deletes.specs.Judged.{Judged, Holds, with_part, with_parts, both, faults, fails, failing, ruled}
+use Rattle.rc_deletes.specs.Judged.{Judged, Holds, with_part, with_parts, in_front, both, faults, fails, failing, ruled}
 use Rattle.rc_deletes.specs.Kinds.{place_of, number_or, same_type, written_type, sort_of_type}
 use Rattle.rc_deletes.specs.Scopes.{Context, Shape, struct_names, type_names, structs_in, Scope, Meaning, a_local, a_global, a_function, a_builtin, Signature, builtin_signature, meaning_in}
 use Rattle.rc_deletes.specs.Expressions.{base_rule}
@@ -199,6 +200,28 @@ value_base context structs b = Holds tt
 abbrev pub cell_type : Context → (structs : ℕ) → t.TypeName → Judged (Unit {0})
 cell_type context structs n = elim n.stars [ [] ↦ value_base context structs n.base | note ∷ notes ↦ base_rule context n.base ]
 
+abbrev pub is_plain : t.TypeName → Bool
+is_plain n = elim n.stars [ [] ↦ true | note ∷ notes ↦ false ]
+
+-- two declarators share the name of a struct that is written before them
+abbrev pub same_struct : Base → Base → Bool
+same_struct (base.Struct at name) (base.Struct other again) = nat_eq name.spot.place again.spot.place && bytes_eq name.text again.text
+same_struct a b = false
+
+-- the name of a struct that several declarators share is read before the first of them: a declarator behind this one that
+-- shares it has no star
+abbrev pub field_by_value : Base → List t.Field → Bool
+field_by_value n [] = false
+field_by_value n (f ∷ fs) = same_struct n f.type_name.base && (is_plain f.type_name || field_by_value n fs)
+
+abbrev pub global_by_value : Base → List t.Item → Bool
+global_by_value n (t.global at m name count c ∷ is) = same_struct n m.base && (is_plain m || global_by_value n is)
+global_by_value n is = false
+
+abbrev pub shared_rule : Context → (structs : ℕ) → Base → (by_value : Bool) → Judged (Unit {0})
+shared_rule context structs n false = Holds tt
+shared_rule context structs n true = value_base context structs n
+
 abbrev pub is_empty : Option ℕ → Bool
 is_empty None = false
 is_empty (Some count) = nat_eq count 0
@@ -212,7 +235,9 @@ field_rule context structs earlier f = with_parts (cell_type context structs f.t
 
 abbrev pub fields_rule : Context → (structs : ℕ) → (earlier : List (List ℕ)) → List t.Field → Judged (Unit {0})
 fields_rule context structs earlier [] = Holds tt
-fields_rule context structs earlier (f ∷ fs) = with_parts (field_rule context structs earlier f) (fields_rule context structs (earlier ++ f.name.text ∷ []) fs) (λ u v. Holds tt)
+fields_rule context structs earlier (f ∷ fs) =
+    in_front (shared_rule context structs f.type_name.base (field_by_value f.type_name.base fs))
+    (with_parts (field_rule context structs earlier f) (fields_rule context structs (earlier ++ f.name.text ∷ []) fs) (λ u v. Holds tt))
 
 abbrev pub cells_of_struct : Context → Option ℕ → ℕ
 cells_of_struct context None = 0
@@ -344,9 +369,13 @@ item context o (t.function at deletes result name params (Some body)) =
     (stmts context (type_option context result) false (with_params context (before_params own) params) body)
     (λ u b. function_made context at deletes (type_option context result) params (behind_body context own params body) b)
 
+abbrev pub before_item : Context → Outside → t.Item → List t.Item → Judged (Unit {0})
+before_item context o (t.global at n name count c) is = shared_rule context o.structs n.base (global_by_value n.base is)
+before_item context o i is = Holds tt
+
 abbrev pub items : Context → Outside → List t.Item → Judged Made
 items context o [] = Holds nothing_made
-items context o (i ∷ is) = with_parts (item context o i) (items context (behind_item context o i) is) (λ a b. Holds (made_both a b))
+items context o (i ∷ is) = in_front (before_item context o i is) (with_parts (item context o i) (items context (behind_item context o i) is) (λ a b. Holds (made_both a b)))
 
 abbrev pub behind_items : Context → Outside → List t.Item → Outside
 behind_items context o [] = o

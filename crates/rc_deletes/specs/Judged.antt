@@ -32,6 +32,11 @@ with_parts (Faulty f fs) y rule = Faulty f (fs ++ faults y)
 abbrev pub both : {A B : Type 0} → Judged A → Judged B → Judged (A × B)
 both x y = with_parts x y (λ a b. Holds (a, b))
 
+-- a leaf before a node: its violation goes before those of the node
+abbrev pub in_front : {A B : Type 0} → Judged A → Judged B → Judged B
+in_front (Holds a) y = y
+in_front (Faulty f fs) y = Faulty f (fs ++ faults y)
+
 -- a rule fails at a node
 abbrev pub fails : {A : Type 0} → Spot → Refusal → Judged A
 fails at k = Faulty (record { at = at; refusal = k }) []

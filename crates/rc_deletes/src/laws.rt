@@ -12,7 +12,7 @@ ghost use Rattle.rc_deletes.specs.Ranges.{ItemsInRange};
 ghost use Rattle.rc_syntax.specs.Grammar.{Derives, Placed, node, placed, Text};
 ghost use Rattle.rc_syntax.specs.Tokens.{Token};
 ghost use Rattle.rc_deletes.specs.Judged.{first_fault};
-ghost use Rattle.rc_deletes.specs.Order.{IsLeast, PlainFirst};
+ghost use Rattle.rc_deletes.specs.Order.{IsLeast};
 ghost use Rattle.rc_deletes.specs.declared.fault.Fault.{Fault};
 ghost use Rattle.rc_core.specs.WellTyped.{IsWellTyped};
 
@@ -46,10 +46,6 @@ pub fn keeps_limits(_tree: &Tree)
 
 /// In the tree of a text the first violation that a walk of the rules meets is the least of all: no
 /// other one stands at an earlier word, and at its node none has a refusal with a smaller number.
-///
-/// Where several fields or globals share a struct, those without stars come first: a struct that is
-/// defined later in the text is refused at its name where one of them has it by value, and a walk
-/// comes to that one only behind what is wrong with those before it.
 pub fn first_violation_is_least(_tree: &Tree)
-    ensures { (tokens : List Token) (first : Fault) → Derives (placed 0 tokens) (node Text (written.tree_of _tree.now).items) → PlainFirst (written.tree_of _tree.now) → first_fault (judged (written.tree_of _tree.now)) ≡ Some first → IsLeast (written.tree_of _tree.now) first }
+    ensures { (tokens : List Token) (first : Fault) → Derives (placed 0 tokens) (node Text (written.tree_of _tree.now).items) → first_fault (judged (written.tree_of _tree.now)) ≡ Some first → IsLeast (written.tree_of _tree.now) first }
 {}

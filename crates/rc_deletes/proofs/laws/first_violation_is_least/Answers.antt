@@ -3,4 +3,4 @@ use Rattle.rc_deletes.proofs.InOrder.{first_in_text}
 use Rattle.rc_deletes.proofs.laws.first_violation_is_least.Goals as goal
 
 pub returns : goal.returns
-returns c = λ tokens first derives plain is_first. first_in_text (written.tree_of c.args._tree.now) tokens first derives plain is_first
+returns c = λ tokens first derives is_first. first_in_text (written.tree_of c.args._tree.now) tokens first derives is_first
