@@ -1,10 +1,16 @@
 pub mod LiveParts
 pub mod LiveFrames
+pub mod Lives
 pub mod Lists
+pub mod Results
 pub mod Laying
 pub mod Blanks
 pub mod Simulation
 pub mod Keeps
 pub mod Steps
 pub mod Whole
+pub mod Advances
+pub mod Asked
+pub mod Goings
 pub mod Prefixes
+pub mod WholeAgrees

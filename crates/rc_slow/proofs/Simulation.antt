@@ -17,25 +17,25 @@ use Rattle.rc_core.specs.Execution.{Flow, Next, Broke, Continued, Returned, held
 use Rattle.rc_slow.specs.Change.{mapped, Agree}
 
 module _ {W V : Type 0} (change : W → V) where
-  mapped_bind : {A B : Type 0} (m : Run W A) (m' : Run V A) (k : A → W → Run W B) (k' : A → V → Run V B) → mapped change m ≡ m' → ((x : A) (w : W) → mapped change (k x w) ≡ k' x (change w)) → mapped change (bind m k) ≡ bind m' k'
+  pub mapped_bind : {A B : Type 0} (m : Run W A) (m' : Run V A) (k : A → W → Run W B) (k' : A → V → Run V B) → mapped change m ≡ m' → ((x : A) (w : W) → mapped change (k x w) ≡ k' x (change w)) → mapped change (bind m k) ≡ bind m' k'
   mapped_bind (Go x w) m' k k' e h = h x w ∙ ap (λ m. bind m k') e
   mapped_bind (Stopped stop w) m' k k' e h = ap (λ m. bind m k') e
 
-  mapped_branching : {A : Type 0} (b : Bool) (p q : W → Run W A) (p' q' : V → Run V A) → ((w : W) → mapped change (p w) ≡ p' (change w)) → ((w : W) → mapped change (q w) ≡ q' (change w)) → (w : W) → mapped change (branching b p q w) ≡ branching b p' q' (change w)
+  pub mapped_branching : {A : Type 0} (b : Bool) (p q : W → Run W A) (p' q' : V → Run V A) → ((w : W) → mapped change (p w) ≡ p' (change w)) → ((w : W) → mapped change (q w) ≡ q' (change w)) → (w : W) → mapped change (branching b p q w) ≡ branching b p' q' (change w)
   mapped_branching true p q p' q' hp hq w = hp w
   mapped_branching false p q p' q' hp hq w = hq w
 
-  mapped_computed : {A : Type 0} (line : ℕ) (r : Result A Trap) (w : W) → mapped change (computed line r w) ≡ computed line r (change w)
+  pub mapped_computed : {A : Type 0} (line : ℕ) (r : Result A Trap) (w : W) → mapped change (computed line r w) ≡ computed line r (change w)
   mapped_computed line (Ok x) w = refl
   mapped_computed line (Err t) w = refl
 
-  mapped_region : (line : ℕ) (v : Value) (w : W) → mapped change (region_named line v w) ≡ region_named line v (change w)
+  pub mapped_region : (line : ℕ) (v : Value) (w : W) → mapped change (region_named line v w) ≡ region_named line v (change w)
   mapped_region line (Number n) w = refl
   mapped_region line Null w = refl
   mapped_region line (Handle r) w = refl
   mapped_region line (Pointer a) w = refl
 
-  mapped_result : (ty : Option Ty) (flow : Flow) (w : W) → mapped change (result_of ty flow w) ≡ result_of ty flow (change w)
+  pub mapped_result : (ty : Option Ty) (flow : Flow) (w : W) → mapped change (result_of ty flow w) ≡ result_of ty flow (change w)
   mapped_result ty (Next env) w = refl
   mapped_result ty (Broke env) w = refl
   mapped_result ty (Continued env) w = refl
@@ -45,13 +45,13 @@ module _ {W V : Type 0} (change : W → V) where
   Going : (List Value → W → Run W Flow) → (List Value → V → Run V Flow) → Type 0
   Going go go' = (env : List Value) (w : W) → mapped change (go env w) ≡ go' env (change w)
 
-  mapped_behind_body : (go : List Value → W → Run W Flow) (go' : List Value → V → Run V Flow) → ((env : List Value) (w : W) → mapped change (go env w) ≡ go' env (change w)) → (flow : Flow) (w : W) → mapped change (behind_body go flow w) ≡ behind_body go' flow (change w)
+  pub mapped_behind_body : (go : List Value → W → Run W Flow) (go' : List Value → V → Run V Flow) → ((env : List Value) (w : W) → mapped change (go env w) ≡ go' env (change w)) → (flow : Flow) (w : W) → mapped change (behind_body go flow w) ≡ behind_body go' flow (change w)
   mapped_behind_body go go' h (Next env) w = h env w
   mapped_behind_body go go' h (Continued env) w = h env w
   mapped_behind_body go go' h (Broke env) w = refl
   mapped_behind_body go go' h (Returned v) w = refl
 
-  mapped_behind : (go : List Value → W → Run W Flow) (go' : List Value → V → Run V Flow) → ((env : List Value) (w : W) → mapped change (go env w) ≡ go' env (change w)) → (flow : Flow) (w : W) → mapped change (behind go flow w) ≡ behind go' flow (change w)
+  pub mapped_behind : (go : List Value → W → Run W Flow) (go' : List Value → V → Run V Flow) → ((env : List Value) (w : W) → mapped change (go env w) ≡ go' env (change w)) → (flow : Flow) (w : W) → mapped change (behind go flow w) ≡ behind go' flow (change w)
   mapped_behind go go' h (Next env) w = h env w
   mapped_behind go go' h (Continued env) w = refl
   mapped_behind go go' h (Broke env) w = refl
@@ -62,7 +62,7 @@ module _ {W V : Type 0} (change : W → V) where
     CallsAgree calls calls' = (f : ℕ) (arguments : List Value) (w : W) → mapped change (calls f arguments w) ≡ calls' f arguments (change w)
 
     mutual
-      eval_agrees : (e : Expr) (calls : Calls W) (calls' : Calls V) → CallsAgree calls calls' → (env : List Value) (w : W) → mapped change (eval ops program e calls env w) ≡ eval others program e calls' env (change w)
+      pub eval_agrees : (e : Expr) (calls : Calls W) (calls' : Calls V) → CallsAgree calls calls' → (env : List Value) (w : W) → mapped change (eval ops program e calls env w) ≡ eval others program e calls' env (change w)
       eval_agrees (constant line s n) calls calls' h env w = refl
       eval_agrees (null line) calls calls' h env w = refl
       eval_agrees (string line k) calls calls' h env w = refl
@@ -89,56 +89,56 @@ module _ {W V : Type 0} (change : W → V) where
       eval_agrees (putchar line e) calls calls' h env w = mapped_bind _ _ _ _ (eval_agrees e calls calls' h env w) (λ v w1. mapped_bind _ _ _ _ (agree.put_byte (byte_of (number_in v)) w1) (λ u w2. refl))
       eval_agrees (getchar line) calls calls' h env w = mapped_bind _ _ _ _ (agree.get_byte w) (λ n w1. refl)
 
-      all_agree : (es : Arguments) (calls : Calls W) (calls' : Calls V) → CallsAgree calls calls' → (env : List Value) (w : W) → mapped change (eval_all ops program es calls env w) ≡ eval_all others program es calls' env (change w)
+      pub all_agree : (es : Arguments) (calls : Calls W) (calls' : Calls V) → CallsAgree calls calls' → (env : List Value) (w : W) → mapped change (eval_all ops program es calls env w) ≡ eval_all others program es calls' env (change w)
       all_agree none calls calls' h env w = refl
       all_agree (more e rest) calls calls' h env w = mapped_bind _ _ _ _ (eval_agrees e calls calls' h env w) (λ v w1. mapped_bind _ _ _ _ (all_agree rest calls calls' h env w1) (λ vs w2. refl))
 
-      target_agrees : (place : Place) (calls : Calls W) (calls' : Calls V) → CallsAgree calls calls' → (env : List Value) (w : W) → mapped change (target ops program place calls env w) ≡ target others program place calls' env (change w)
+      pub target_agrees : (place : Place) (calls : Calls W) (calls' : Calls V) → CallsAgree calls calls' → (env : List Value) (w : W) → mapped change (target ops program place calls env w) ≡ target others program place calls' env (change w)
       target_agrees (global g path) calls calls' h env w = along_agrees path (aimed (static g) (pos 0)) calls calls' h env w
       target_agrees (pointed p path) calls calls' h env w = mapped_bind _ _ _ _ (eval_agrees p calls calls' h env w) (λ v w1. along_agrees path (aimed v (pos 0)) calls calls' h env w1)
       target_agrees (indexed p i path) calls calls' h env w = mapped_bind _ _ _ _ (eval_agrees p calls calls' h env w) (λ v w1. mapped_bind _ _ _ _ (eval_agrees i calls calls' h env w1) (λ n w2. along_agrees path (aimed v (number_in n)) calls calls' h env w2))
 
-      along_agrees : (path : Path) (t : Target) (calls : Calls W) (calls' : Calls V) → CallsAgree calls calls' → (env : List Value) (w : W) → mapped change (along ops program path t calls env w) ≡ along others program path t calls' env (change w)
+      pub along_agrees : (path : Path) (t : Target) (calls : Calls W) (calls' : Calls V) → CallsAgree calls calls' → (env : List Value) (w : W) → mapped change (along ops program path t calls env w) ≡ along others program path t calls' env (change w)
       along_agrees here t calls calls' h env w = refl
       along_agrees (field s f rest) t calls calls' h env w = along_agrees rest (further (offset program.structs s f) t) calls calls' h env w
       along_agrees (element s f i rest) t calls calls' h env w = mapped_bind _ _ _ _ (eval_agrees i calls calls' h env w) (λ n w1. along_agrees rest (choosing (record { index = number_in n; count = count_of program.structs s f; stride = stride program.structs s f }) (further (offset program.structs s f) t)) calls calls' h env w1)
 
-    calling_agrees : (calls : Calls W) (calls' : Calls V) → CallsAgree calls calls' → (live : ℕ → Bool) (env : List Value) → CallsAgree (calling ops program calls live env) (calling others program calls' live env)
+    pub calling_agrees : (calls : Calls W) (calls' : Calls V) → CallsAgree calls calls' → (live : ℕ → Bool) (env : List Value) → CallsAgree (calling ops program calls live env) (calling others program calls' live env)
     calling_agrees calls calls' h live env f arguments w =
         mapped_branching (deletes program f) _ _ _ _
         (λ w1. mapped_bind _ _ _ _ (h f arguments (ops.enter (held live env) w1) ∙ ap (calls' f arguments) (agree.enter (held live env) w1)) (λ v w2. ap (Go v) (agree.leave w1 w2)))
         (λ w1. h f arguments w1) w
 
-    value_agrees : (calls : Calls W) (calls' : Calls V) → CallsAgree calls calls' → (live : ℕ → Bool) (e : Expr) (env : List Value) (w : W) → mapped change (value_of ops program calls live e env w) ≡ value_of others program calls' live e env (change w)
+    pub value_agrees : (calls : Calls W) (calls' : Calls V) → CallsAgree calls calls' → (live : ℕ → Bool) (e : Expr) (env : List Value) (w : W) → mapped change (value_of ops program calls live e env w) ≡ value_of others program calls' live e env (change w)
     value_agrees calls calls' h live e env w = eval_agrees e _ _ (calling_agrees calls calls' h live env) env w
 
     set_agrees : (calls : Calls W) (calls' : Calls V) → CallsAgree calls calls' → (live : ℕ → Bool) (x : ℕ) (e : Expr) (env : List Value) (w : W) → mapped change (set_local ops program calls live x e env w) ≡ set_local others program calls' live x e env (change w)
     set_agrees calls calls' h live x e env w = mapped_bind _ _ _ _ (value_agrees calls calls' h (λ y. unless_set x y (live y)) e env w) (λ v w1. refl)
 
-    changed_agrees : (line : ℕ) (c : Change) (old value : Value) (w : W) → mapped change (changed ops program line c old value w) ≡ changed others program line c old value (change w)
+    pub changed_agrees : (line : ℕ) (c : Change) (old value : Value) (w : W) → mapped change (changed ops program line c old value w) ≡ changed others program line c old value (change w)
     changed_agrees line (Compute from operator s) old v w = mapped_bind _ _ _ _ (mapped_computed line (calculate operator s (converted (type_of s) (number_in old)) (number_in v)) w) (λ n w1. refl)
     changed_agrees line (Step direction) old v w = agree.step line old (toward direction (number_in v)) w
 
-    rounds_agree : (n : ℕ) (test : List Value → W → Run W Value) (test' : List Value → V → Run V Value) (body : (List Value → W → Run W Flow) → List Value → W → Run W Flow) (body' : (List Value → V → Run V Flow) → List Value → V → Run V Flow) → ((env : List Value) (w : W) → mapped change (test env w) ≡ test' env (change w)) → ((go : List Value → W → Run W Flow) (go' : List Value → V → Run V Flow) → ((env : List Value) (w : W) → mapped change (go env w) ≡ go' env (change w)) → (env : List Value) (w : W) → mapped change (body go env w) ≡ body' go' env (change w)) → (env : List Value) (w : W) → mapped change (rounds ops program n test body env w) ≡ rounds others program n test' body' env (change w)
+    pub rounds_agree : (n : ℕ) (test : List Value → W → Run W Value) (test' : List Value → V → Run V Value) (body : (List Value → W → Run W Flow) → List Value → W → Run W Flow) (body' : (List Value → V → Run V Flow) → List Value → V → Run V Flow) → ((env : List Value) (w : W) → mapped change (test env w) ≡ test' env (change w)) → ((go : List Value → W → Run W Flow) (go' : List Value → V → Run V Flow) → ((env : List Value) (w : W) → mapped change (go env w) ≡ go' env (change w)) → (env : List Value) (w : W) → mapped change (body go env w) ≡ body' go' env (change w)) → (env : List Value) (w : W) → mapped change (rounds ops program n test body env w) ≡ rounds others program n test' body' env (change w)
     rounds_agree zero test test' body body' ht hb env w = refl
     rounds_agree (suc n) test test' body body' ht hb env w =
         mapped_bind _ _ _ _ (ht env w) (λ v w1. mapped_branching (is_true v) _ _ _ _
         (λ w2. hb _ _ (λ env3 w3. mapped_bind _ _ _ _ (agree.take_turn w3) (λ u w4. rounds_agree n test test' body body' ht hb env3 w4)) env w2)
         (λ w2. refl) w1)
 
-    rounds_first_agree : (n : ℕ) (test : List Value → W → Run W Value) (test' : List Value → V → Run V Value) (body : (List Value → W → Run W Flow) → List Value → W → Run W Flow) (body' : (List Value → V → Run V Flow) → List Value → V → Run V Flow) → ((env : List Value) (w : W) → mapped change (test env w) ≡ test' env (change w)) → ((go : List Value → W → Run W Flow) (go' : List Value → V → Run V Flow) → ((env : List Value) (w : W) → mapped change (go env w) ≡ go' env (change w)) → (env : List Value) (w : W) → mapped change (body go env w) ≡ body' go' env (change w)) → (env : List Value) (w : W) → mapped change (rounds_first ops program n test body env w) ≡ rounds_first others program n test' body' env (change w)
+    pub rounds_first_agree : (n : ℕ) (test : List Value → W → Run W Value) (test' : List Value → V → Run V Value) (body : (List Value → W → Run W Flow) → List Value → W → Run W Flow) (body' : (List Value → V → Run V Flow) → List Value → V → Run V Flow) → ((env : List Value) (w : W) → mapped change (test env w) ≡ test' env (change w)) → ((go : List Value → W → Run W Flow) (go' : List Value → V → Run V Flow) → ((env : List Value) (w : W) → mapped change (go env w) ≡ go' env (change w)) → (env : List Value) (w : W) → mapped change (body go env w) ≡ body' go' env (change w)) → (env : List Value) (w : W) → mapped change (rounds_first ops program n test body env w) ≡ rounds_first others program n test' body' env (change w)
     rounds_first_agree zero test test' body body' ht hb env w = refl
     rounds_first_agree (suc n) test test' body body' ht hb env w =
         hb _ _ (λ env1 w1. mapped_bind _ _ _ _ (ht env1 w1) (λ v w2. mapped_branching (is_true v) _ _ _ _
         (λ w3. mapped_bind _ _ _ _ (agree.take_turn w3) (λ u w4. rounds_first_agree n test test' body body' ht hb env1 w4))
         (λ w3. refl) w2)) env w
 
-    test_agrees : (calls : Calls W) (calls' : Calls V) → CallsAgree calls calls' → (live : ℕ → Bool) (test : Option Expr) (env : List Value) (w : W) → mapped change (test_of ops program calls live test env w) ≡ test_of others program calls' live test env (change w)
+    pub test_agrees : (calls : Calls W) (calls' : Calls V) → CallsAgree calls calls' → (live : ℕ → Bool) (test : Option Expr) (env : List Value) (w : W) → mapped change (test_of ops program calls live test env w) ≡ test_of others program calls' live test env (change w)
     test_agrees calls calls' h live None env w = refl
     test_agrees calls calls' h live (Some e) env w = value_agrees calls calls' h live e env w
 
     mutual
-      exec_agrees : (s : Stmt) (f : Function) (calls : Calls W) (calls' : Calls V) → CallsAgree calls calls' → (k : Ways) (env : List Value) (w : W) → mapped change (exec ops program s f calls k env w) ≡ exec others program s f calls' k env (change w)
+      pub exec_agrees : (s : Stmt) (f : Function) (calls : Calls W) (calls' : Calls V) → CallsAgree calls calls' → (k : Ways) (env : List Value) (w : W) → mapped change (exec ops program s f calls k env w) ≡ exec others program s f calls' k env (change w)
       exec_agrees (block body) f calls calls' h k env w = exec_all_agrees body f calls calls' h k env w
       exec_agrees (declare line x None) f calls calls' h k env w = refl
       exec_agrees (declare line x (Some e)) f calls calls' h k env w = set_agrees calls calls' h k.next x e env w
@@ -189,7 +189,7 @@ module _ {W V : Type 0} (change : W → V) where
       exec_agrees (return line None) f calls calls' h k env w = refl
       exec_agrees (return line (Some e)) f calls calls' h k env w = mapped_bind _ _ _ _ (value_agrees calls calls' h (λ _. false) e env w) (λ v w1. refl)
 
-      exec_all_agrees : (body : Stmts) (f : Function) (calls : Calls W) (calls' : Calls V) → CallsAgree calls calls' → (k : Ways) (env : List Value) (w : W) → mapped change (exec_all ops program body f calls k env w) ≡ exec_all others program body f calls' k env (change w)
+      pub exec_all_agrees : (body : Stmts) (f : Function) (calls : Calls W) (calls' : Calls V) → CallsAgree calls calls' → (k : Ways) (env : List Value) (w : W) → mapped change (exec_all ops program body f calls k env w) ≡ exec_all others program body f calls' k env (change w)
       exec_all_agrees done f calls calls' h k env w = refl
       exec_all_agrees (then s rest) f calls calls' h k env w =
           mapped_bind _ _ _ _ (exec_agrees s f calls calls' h (then_live (before_all rest k) k) env w) (λ flow w1. mapped_behind _ _ (λ env2 w2. exec_all_agrees rest f calls calls' h k env2 w2) flow w1)

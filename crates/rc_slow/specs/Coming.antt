@@ -1,5 +1,5 @@
 -- What the code's answer to a step says of the step: where it goes on, or that it stops. A fault says nothing.
-use Rattle.std.specs.Prelude.{◌≡◌, Bool, true, false, List, Result, Ok, Err}
+use Rattle.std.specs.Prelude.{◌≡◌, ℕ, Bool, true, false, List, Result, Ok, Err}
 use Rattle.rc_base.specs.declared.ends.RunFault.TheVariants.{Memory}
 use Rattle.rc_core.specs.Programs.{Expr, new_subregion, allocate, putchar}
 use Rattle.rc_core.specs.Heap.{Value}
@@ -29,3 +29,11 @@ stays_inside (new_subregion line r) = false
 stays_inside (allocate line r ty) = false
 stays_inside (putchar line e) = false
 stays_inside _ = true
+
+abbrev pub with_turns : ℕ → KeptWorld → KeptWorld
+with_turns n w = record w { turns = n }
+
+-- so many rounds may still begin, and the next one does
+abbrev pub Turned : Result ℕ CodeStop → (ℕ → Doing) → KeptWorld → Run KeptWorld Doing → Type 0
+Turned (Ok rounds) next w run = run ≡ Go (next rounds) w
+Turned (Err stop) next w run = StopsRun stop w run

@@ -13,4 +13,9 @@ pub mod Whole
 pub mod Prefix
 pub mod Codes
 pub mod Coming
+pub mod Standing
+pub mod Advancing
+pub mod Outside
+pub mod Performing
+pub mod Going
 pub mod Leaving

@@ -2,29 +2,38 @@
 
 ghost use Rattle.std.specs.Prelude.{◌≡◌, ◌∷◌, List, IfOk, IfErr, IsTrue};
 ghost use Rattle.rc_base.specs.declared.ends.RunFault.TheVariants.{Memory};
-ghost use Rattle.rc_core.specs.Evaluation.{give_number, local_at, region_named};
+ghost use Rattle.rc_core.specs.Evaluation.{give_number, local_at, number_in, region_named, toward};
 ghost use Rattle.rc_core.specs.Heap.{Value as HeapValue};
-ghost use Rattle.rc_core.specs.Programs.{Program};
-ghost use Rattle.rc_core.specs.Runs.{Go, bind, computed};
-ghost use Rattle.rc_core.specs.Shapes.{expr_of, program_of};
+ghost use Rattle.rc_core.specs.Layout.{cells};
+ghost use Rattle.rc_core.specs.Programs.{Program, Expr as CleanExpr, Function as CleanFunction, new_region, new_subregion};
+ghost use Rattle.rc_core.specs.Runs.{Calls, Go, Run, bind, computed};
+ghost use Rattle.rc_core.specs.Shapes.{expr_of, program_of, ty_of};
 ghost use Rattle.rc_slow.specs.Codes.{control_of, frames_of};
 ghost use Rattle.rc_slow.specs.Coming.{Comes, stays_inside};
 ghost use Rattle.rc_slow.specs.Frames.{Frame as MachineFrame, first, second};
-ghost use Rattle.rc_slow.specs.KeptWorld.{KeptWorld};
-ghost use Rattle.rc_slow.specs.Stepping.{begin, doing, evaluating, first_step, giving_next, needs_no_world};
+ghost use Rattle.rc_slow.specs.Kept.{KeptHeap};
+ghost use Rattle.rc_slow.specs.KeptWorld.{KeptWorld, kept};
+ghost use Rattle.rc_slow.specs.Laid.{AreLaidOut};
+ghost use Rattle.rc_slow.specs.Leaving.{Leaves};
+ghost use Rattle.rc_slow.specs.Stepping.{begin, doing, evaluating, first_step, giving_next, needs_no_world, second_step};
 ghost use Rattle.rc_slow.specs.Values.{value_of};
 ghost use Rattle.rc_slow.specs.declared.stop.Stop.TheVariants.{Cut};
 
-use crate::arithmetic::{calculate_one, converted};
+use crate::arithmetic::{calculate, calculate_one, converted};
 use crate::frames::{Control, Frame};
+use crate::heap::Heap;
+use crate::layouts::Layouts;
 use crate::places::start;
 use crate::stop::{Stop, trap};
-use crate::value::{Value, as_wanted, is_true, number_in, static_pointer};
+use crate::target::Target;
+use crate::value::{Value, as_wanted, is_same, is_true, number_in, static_pointer};
 use crate::values::Values;
 use crate::waiting::Waiting;
 use rc_base::Trap;
 use rc_core::expr::Expr;
+use rc_core::operators::Direction;
 use rc_core::parts::Parts;
+use rc_core::ty::Ty;
 use std::alloc::Global;
 
 /// A number that was computed, or a trap.
@@ -190,5 +199,125 @@ pub(crate) fn go_on_inside<'p>(
         Expr::Allocate { .. } => Ok(Control::Gives(value)),
         Expr::Putchar { .. } => Ok(Control::Gives(value)),
         Expr::Getchar { .. } => Ok(Control::Gives(value)),
+    }
+}
+
+/// Makes a region of its own.
+#[tactic(auto, using(crate::proofs::Results::stops_on))]
+pub(crate) fn make_region<'p>(
+    alloc: Global,
+    heap: &mut Heap,
+    line: u32,
+    limit: u32,
+) -> Result<Control<'p>, Stop>
+    ensures { (program : Program) (frames : List MachineFrame) (env : List HeapValue) (w : KeptWorld) → w.heap ≡ heap.old → w.regions ≡ limit → Comes result frames env heap.new w (begin program (new_region line) frames env w) }
+{
+    let region = heap.make(alloc, line, 0, limit)?;
+    Ok(Control::Gives(Value::Handle(region)))
+}
+
+/// Makes a region in another.
+#[tactic(auto, using(crate::proofs::Results::stops_on))]
+pub(crate) fn make_subregion<'p>(
+    alloc: Global,
+    heap: &mut Heap,
+    line: u32,
+    parent: Value,
+    limit: u32,
+) -> Result<Control<'p>, Stop>
+    ensures { (program : Program) (e : CleanExpr) (frames : List MachineFrame) (env : List HeapValue) (w : KeptWorld) → w.heap ≡ heap.old → w.regions ≡ limit → Comes result frames env heap.new w (first_step program (new_subregion line e) (value_of parent) frames env w) }
+{
+    let region = heap.make_child(alloc, line, parent, limit)?;
+    Ok(Control::Gives(Value::Handle(region)))
+}
+
+/// A value comes out, where there is one.
+#[tactic(auto, using(crate::proofs::Results::stops_on))]
+fn give_out<'p>(value: Result<Value, Stop>) -> Result<Control<'p>, Stop>
+    ensures { (program : Program) (frames : List MachineFrame) (env : List HeapValue) (heap : KeptHeap) (w : KeptWorld) (run : Run KeptWorld HeapValue) → Leaves value_of value heap w run → Comes result frames env heap w (bind run (giving_next program frames env)) }
+{
+    match value {
+        Ok(value) => Ok(Control::Gives(value)),
+        Err(stop) => Err(stop),
+    }
+}
+
+/// Allocates an array of elements of a type.
+pub(crate) fn allocate<'p, 'l>(
+    alloc: Global,
+    layouts: &'l Layouts,
+    heap: &mut Heap<'l>,
+    line: u32,
+    region: Value,
+    count: i64,
+    element: &Ty,
+    limit: u32,
+) -> Result<Control<'p>, Stop>
+    ensures { (program : Program) (frames : List MachineFrame) (env : List HeapValue) (w : KeptWorld) → AreLaidOut program.structs layouts.now → w.heap ≡ heap.old → w.blocks ≡ limit → Comes result frames env heap.new w (bind (kept.allocate line (value_of region) count (cells program.structs (ty_of element.now)) w) (giving_next program frames env)) }
+{
+    let kinds = layouts.cells_of(element);
+    give_out(heap.allocate(alloc, line, region, count, kinds, limit))
+}
+
+/// The pointer so many elements on, or back.
+#[tactic(auto, using(crate::proofs::Results::stops_on))]
+fn step<'p>(
+    heap: &Heap,
+    line: u32,
+    pointer: Value,
+    direction: Direction,
+    number: Value,
+) -> Result<Control<'p>, Stop>
+    ensures { (program : Program) (frames : List MachineFrame) (env : List HeapValue) (w : KeptWorld) → w.heap ≡ heap.now → Comes result frames env heap.now w (bind (kept.step line (value_of pointer) (toward direction (number_in (value_of number))) w) (giving_next program frames env)) }
+{
+    let pointer = heap.step(line, pointer, direction, number_in(number))?;
+    Ok(Control::Gives(pointer))
+}
+
+/// Reads a place.
+#[tactic(auto, using(crate::proofs::Results::stops_on))]
+pub(crate) fn load<'p>(heap: &Heap, line: u32, target: Target) -> Result<Control<'p>, Stop>
+    ensures { (program : Program) (frames : List MachineFrame) (env : List HeapValue) (w : KeptWorld) → w.heap ≡ heap.now → Comes result frames env heap.now w (bind (kept.load line target w) (giving_next program frames env)) }
+{
+    let value = heap.load(line, &target)?;
+    Ok(Control::Gives(value))
+}
+
+/// The second part of an expression has this value too.
+pub(crate) fn go_on_again<'p, 'l>(
+    alloc: Global,
+    layouts: &'l Layouts,
+    heap: &mut Heap<'l>,
+    limit: u32,
+    e: &Expr,
+    first: Value,
+    second: Value,
+) -> Result<Control<'p>, Stop>
+    ensures { (program : Program) (f : CleanFunction) (calls : Calls KeptWorld) (frames : List MachineFrame) (env : List HeapValue) (w : KeptWorld) → AreLaidOut program.structs layouts.now → w.heap ≡ heap.old → w.blocks ≡ limit → Comes result frames env heap.new w (second_step program f calls (expr_of e.now) (value_of first) (value_of second) frames env w) }
+{
+    match e {
+        Expr::Step {
+            line,
+            direction,
+            ..
+        } => step(heap, *line, first, *direction, second),
+        Expr::StepFrom { line, .. } => step(heap, *line, second, Direction::Forward, first),
+        Expr::Binary {
+            line,
+            operator,
+            signedness,
+            ..
+        } => computed(
+            *line,
+            calculate(*operator, *signedness, number_in(first), number_in(second)),
+        ),
+        Expr::And { .. } => Ok(Control::Gives(as_wanted(true, is_true(second)))),
+        Expr::Or { .. } => Ok(Control::Gives(as_wanted(true, is_true(second)))),
+        Expr::Same { wanted, .. } => Ok(Control::Gives(as_wanted(*wanted, is_same(first, second)))),
+        Expr::AllocateArray { line, element, .. } => {
+            let count = number_in(second);
+            allocate(alloc, layouts, heap, *line, first, count, element, limit)
+        }
+        _ => Ok(Control::Gives(second)),
     }
 }

@@ -23,7 +23,8 @@ pub fn the_machine_is_right()
     ensures steps { (program : Program) (n : ℕ) (p : Progress) (w : KeptWorld) → finally program p w ≡ bind (steps program n p w) (finally program) }
 {}
 
-/// A law: what a run does, it does behind the acts that were done before.
+/// A law: what a run does, it does behind the acts that were done before, from whatever state it goes on.
 pub fn acts_stay_done()
-    ensures { (program : Program) (acts : List Act) (w : KeptWorld) → mapped (behind_acts acts) (run_main kept program w) ≡ run_main kept program (behind_acts acts w) }
+    ensures main { (program : Program) (acts : List Act) (w : KeptWorld) → mapped (behind_acts acts) (run_main kept program w) ≡ run_main kept program (behind_acts acts w) }
+    ensures anywhere { (program : Program) (acts : List Act) (s : State) (w : KeptWorld) → mapped (behind_acts acts) (whole program s w) ≡ whole program s (behind_acts acts w) }
 {}

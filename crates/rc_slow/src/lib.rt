@@ -3,23 +3,28 @@
 //!
 //! The evaluator itself is not finished: nothing here runs a program. What stands is proved: the laws
 //! that it rests on, which this crate exports, and the parts that it is made of, which nothing calls yet.
-//! These are arithmetic, values, layouts, places, the heap and how it begins, what is live behind a
-//! statement, and how expressions and places begin and go on. Statements, calls, input and output, and
-//! the loop that makes the steps are not here.
+//! These are arithmetic, values, places, the heap, what is live behind a statement, the calls that wait,
+//! a step of the machine, inside a call and between calls, and what is done outside behind a step. The
+//! loop that makes the steps is not here.
 #![tactic(auto)]
 
 mod arithmetic;
+mod calls;
 mod expressions;
 mod frames;
 mod heap;
 mod laws;
 mod layouts;
 mod live;
+mod machine;
 mod object;
+mod outside;
 mod paths;
 mod places;
 mod region;
+mod statements;
 mod stop;
+mod storing;
 mod target;
 mod value;
 mod values;

@@ -1,6 +1,6 @@
 // What waits in a function.
 
-ghost use Rattle.std.specs.Prelude.{◌≡◌, ◌∷◌, [], OnOk, IfErr, MatchOption};
+ghost use Rattle.std.specs.Prelude.{◌≡◌, ◌∷◌, [], OnOk, IfErr, MatchOption, reverse};
 ghost use Rattle.rc_base.specs.declared.ends.RunFault.TheVariants.{Memory};
 ghost use Rattle.rc_slow.specs.declared.stop.Stop.TheVariants.{Cut};
 
@@ -61,7 +61,10 @@ impl<'p> Waiting<'p> {
         self.frames.pop()
     }
 
-    pub(crate) fn as_slice(&self) -> &[Frame<'p>] {
+    /// The frames, the outermost first.
+    pub(crate) fn as_slice(&self) -> &[Frame<'p>]
+        ensures { result.now ≡ reverse self.now }
+    {
         self.frames.as_slice()
     }
 }

@@ -1,0 +1,4 @@
+pub mod Stops
+pub mod Shapes
+pub mod Sizes
+pub mod Parameters
