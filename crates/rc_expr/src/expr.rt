@@ -22,8 +22,8 @@ use crate::nodes::{
 };
 use crate::types::type_name;
 use crate::words::{
-    MOST_DEPTH, MOST_REACH, copied, deep_at, expect_mark, is_key, is_mark, key_at, mark_at, name,
-    refused_at, spot_at, taken, word_here,
+    MOST_DEPTH, MOST_REACH, deep_at, expect_mark, is_key, is_mark, key_at, mark_at, name,
+    refused_at, shared, spot_at, taken, word_here,
 };
 use rc_syntax::fault::ParseFault;
 use rc_syntax::tree::{BinaryOp, CastType, Expr, Name, TypeName, UnaryOp};
@@ -358,7 +358,7 @@ fn core(
         }
         Word::Character(byte) => Ok((Expr::Character(spot_at(tokens, at), *byte), at + 1)),
         Word::Str(text) => {
-            let text = copied(alloc, text)?;
+            let text = shared(text)?;
             Ok((Expr::Str(spot_at(tokens, at), text), at + 1))
         }
         Word::Name(text) => named(alloc, tokens, text, at, depth, far),
@@ -644,7 +644,7 @@ fn member(
     ensures place { IfOk result (λ r. (place < r.1) × (r.1 ≤ length tokens.now)) }
 {
     let inside = taken(tokens, place, far)?;
-    let (field, end) = name(alloc, tokens, inside, far)?;
+    let (field, end) = name(tokens, inside, far)?;
     let whole = member_node(alloc, spot_at(tokens, at), value, field)?;
     Ok((whole, end))
 }
@@ -667,7 +667,7 @@ fn arrow(
     ensures place { IfOk result (λ r. (place < r.1) × (r.1 ≤ length tokens.now)) }
 {
     let inside = taken(tokens, place, far)?;
-    let (field, end) = name(alloc, tokens, inside, far)?;
+    let (field, end) = name(tokens, inside, far)?;
     let whole = arrow_node(alloc, spot_at(tokens, at), value, field)?;
     Ok((whole, end))
 }
@@ -688,7 +688,7 @@ fn named(
     ensures reads { Continues g.Unary depth far tokens.now at (at + 1) (r.unary_in (spot_of tokens.now at) (w.name text.now)) expr_of result }
     ensures place { IfOk result (λ r. (at < r.1) × (r.1 ≤ length tokens.now)) }
 {
-    let text = copied(alloc, text)?;
+    let text = shared(text)?;
     let spot = spot_at(tokens, at);
     let name = Name { spot, text };
     if !is_mark(tokens, at + 1, Mark::OpenParenthesis) {

@@ -11,7 +11,7 @@ fn on_line(line: u32, word: Word) -> Token {
 }
 
 fn named(alloc: Global, name: u8) -> Result<Word, AllocError> {
-    Ok(Word::Name(Text::new(Vec::from_array(alloc, [name])?)))
+    Ok(Word::Name(Text::new(Vec::from_array(alloc, [name])?)?))
 }
 
 /// Whether it is the number that a word has.

@@ -32,13 +32,7 @@ pub fn base_begins(tokens: &[Token], at: u32) -> bool
 }
 
 /// Reads a base type. Words from `far` on are too far.
-pub fn base(
-    alloc: Global,
-    tokens: &[Token],
-    at: u32,
-    depth: u32,
-    far: u32,
-) -> Result<(Base, u32), ParseFault>
+pub fn base(tokens: &[Token], at: u32, depth: u32, far: u32) -> Result<(Base, u32), ParseFault>
     requires few { length tokens.now ≤ 1048576 }
     requires within { at ≤ length tokens.now }
     requires shallow { depth ≤ 200 }
@@ -68,7 +62,7 @@ pub fn base(
         }
         Some(Key::Struct) => {
             let place = taken(tokens, at, far)?;
-            let (name, end) = name(alloc, tokens, place, far)?;
+            let (name, end) = name(tokens, place, far)?;
             Ok((Base::Struct(spot_at(tokens, at), name), end))
         }
         _ => Err(refused_at(tokens, at)),
@@ -170,7 +164,7 @@ pub fn type_name(
     ensures reads { ReadsAnywhere g.TypeName depth far tokens.now at type_of result }
     ensures place { IfOk result (λ r. (at < r.1) × (r.1 ≤ length tokens.now)) }
 {
-    let (base, place) = base(alloc, tokens, at, depth, far)?;
+    let (base, place) = base(tokens, at, depth, far)?;
     let (stars, end) = stars(alloc, tokens, place, depth, far)?;
     Ok((TypeName { base, stars }, end))
 }

@@ -8,7 +8,6 @@ ghost use Rattle.rc_expr.specs.Goes.{from, line_of, spot_of, word_at, mark_in, k
 use rc_syntax::fault::ParseFault;
 use rc_syntax::tree::{Name, Spot};
 use rc_syntax::word::{Key, Mark, Text, Token, Word};
-use std::alloc::Global;
 
 /// How deep a word may be nested.
 pub const MOST_DEPTH: u32 = 200;
@@ -148,27 +147,27 @@ pub fn expect_key(tokens: &[Token], at: u32, far: u32, wanted: Key) -> Result<u3
     taken(tokens, at, far)
 }
 
-/// A text of its own with the same bytes.
-pub fn copied(alloc: Global, text: &Text) -> Result<Text, ParseFault>
+/// A text that shares its bytes with this one.
+pub fn shared(text: &Text) -> Result<Text, ParseFault>
     ensures ok { IfOk result (λ t. t ≡ text.now) }
     ensures err { IfErr result (λ f. f ≡ Memory) }
 {
-    let Ok(bytes) = Vec::from_slice(alloc, text.as_slice()) else {
-        return Err(ParseFault::Memory);
-    };
-    Ok(Text::new(bytes))
+    match text.share() {
+        Ok(text) => Ok(text),
+        Err(_) => Err(ParseFault::Memory),
+    }
 }
 
 /// Takes a name, and answers the place after it.
 #[tactic(auto, using(crate::proofs::Standing::no_word, crate::proofs::Standing::word_stands))]
-pub fn name(alloc: Global, tokens: &[Token], at: u32, far: u32) -> Result<(Name, u32), ParseFault>
+pub fn name(tokens: &[Token], at: u32, far: u32) -> Result<(Name, u32), ParseFault>
     requires { length tokens.now ≤ 1048576 }
     ensures { TakesName tokens.now at far result }
 {
     match word_here(tokens, at) {
         Some(Word::Name(text)) => {
             let end = taken(tokens, at, far)?;
-            let text = copied(alloc, text)?;
+            let text = shared(text)?;
             let spot = spot_at(tokens, at);
             Ok((Name { spot, text }, end))
         }

@@ -30,7 +30,7 @@ fn name_word(alloc: Global, bytes: &[u8]) -> Result<Word, LexFault>
 {
     match Key::named(bytes) {
         Some(key) => Ok(Word::Key(key)),
-        None => Ok(Word::Name(Text::new(Vec::from_slice(alloc, bytes)?))),
+        None => Ok(Word::Name(Text::new(Vec::from_slice(alloc, bytes)?)?)),
     }
 }
 
@@ -86,7 +86,7 @@ fn string_at(alloc: Global, rest: &[u8]) -> Result<Option<Piece>, LexFault>
     match body_at(alloc, rest)? {
         Some(body) => Ok(Some(Piece {
             length: body.length + 2,
-            word: Some(Word::Str(Text::new(body.values))),
+            word: Some(Word::Str(Text::new(body.values)?)),
         })),
         None => Ok(None),
     }

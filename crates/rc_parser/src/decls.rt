@@ -19,7 +19,7 @@ use crate::parts::{
 };
 use rc_expr::nodes::add;
 use rc_expr::types::base_begins;
-use rc_expr::words::{copied, is_key, is_mark, refused_at, spot_at, word_here};
+use rc_expr::words::{is_key, is_mark, refused_at, shared, spot_at, word_here};
 use rc_syntax::fault::ParseFault;
 use rc_syntax::tree::{
     Base, Constant, Expr, Field, Item, Local, Name, Note, Param, Spot, TypeName,
@@ -53,8 +53,8 @@ pub struct LocalDeclarator {
     pub initial: Option<Expr>,
 }
 
-/// A base type of its own that says the same.
-fn copied_base(alloc: Global, base: &Base) -> Result<Base, ParseFault>
+/// A base type that says the same, and shares the bytes of its name.
+fn shared_base(base: &Base) -> Result<Base, ParseFault>
     ensures ok { IfOk result (λ b. b ≡ base.now) }
     ensures err { IfErr result (λ f. f ≡ Memory) }
 {
@@ -64,7 +64,7 @@ fn copied_base(alloc: Global, base: &Base) -> Result<Base, ParseFault>
         Base::Char(spot) => Ok(Base::Char(*spot)),
         Base::Region(spot) => Ok(Base::Region(*spot)),
         Base::Struct(spot, name) => {
-            let text = copied(alloc, &name.text)?;
+            let text = shared(&name.text)?;
             let name = Name {
                 spot: name.spot,
                 text,
@@ -75,11 +75,11 @@ fn copied_base(alloc: Global, base: &Base) -> Result<Base, ParseFault>
 }
 
 /// The field that a declarator makes of the base before it.
-fn field(alloc: Global, base: &Base, declarator: Declarator) -> Result<Field, ParseFault>
+fn field(base: &Base, declarator: Declarator) -> Result<Field, ParseFault>
     ensures ok { IfOk result (λ f. shape.field_of f ≡ g.field base.now (declarator_of declarator)) }
     ensures err { IfErr result (λ f. f ≡ Memory) }
 {
-    let base = copied_base(alloc, base)?;
+    let base = shared_base(base)?;
     let type_name = TypeName {
         base,
         stars: declarator.stars,
@@ -103,18 +103,18 @@ fn fields_of(
 {
     let mut fields = Vec::new(alloc);
     for declarator in declarators {
-        add(&mut fields, field(alloc, base, declarator)?)?;
+        add(&mut fields, field(base, declarator)?)?;
     }
     Ok(fields)
 }
 
 /// The global that a declarator makes of the base before it.
-fn global(alloc: Global, base: &Base, global: GlobalDeclarator) -> Result<Item, ParseFault>
+fn global(base: &Base, global: GlobalDeclarator) -> Result<Item, ParseFault>
     ensures ok { IfOk result (λ i. shape.item_of i ≡ g.global base.now (global_of global)) }
     ensures err { IfErr result (λ f. f ≡ Memory) }
 {
     let declarator = global.declarator;
-    let base = copied_base(alloc, base)?;
+    let base = shared_base(base)?;
     let type_name = TypeName {
         base,
         stars: declarator.stars,
@@ -139,17 +139,17 @@ pub fn globals_of(
 {
     let mut globals = Vec::new(alloc);
     for declarator in declarators {
-        add(&mut globals, global(alloc, base, declarator)?)?;
+        add(&mut globals, global(base, declarator)?)?;
     }
     Ok(globals)
 }
 
 /// The local that a declarator makes of the base before it.
-fn local(alloc: Global, base: &Base, declarator: LocalDeclarator) -> Result<Local, ParseFault>
+fn local(base: &Base, declarator: LocalDeclarator) -> Result<Local, ParseFault>
     ensures ok { IfOk result (λ l. shape.local_of l ≡ g.local base.now (local_declarator_of declarator)) }
     ensures err { IfErr result (λ f. f ≡ Memory) }
 {
-    let base = copied_base(alloc, base)?;
+    let base = shared_base(base)?;
     let type_name = TypeName {
         base,
         stars: declarator.stars,
@@ -173,7 +173,7 @@ fn locals_of(
 {
     let mut locals = Vec::new(alloc);
     for declarator in declarators {
-        add(&mut locals, local(alloc, base, declarator)?)?;
+        add(&mut locals, local(base, declarator)?)?;
     }
     Ok(locals)
 }
@@ -192,7 +192,7 @@ fn field_dec(
     ensures place { IfOk result (λ r. (at < r.1) × (r.1 ≤ length tokens.now)) }
 {
     let (stars, place) = stars(alloc, tokens, at, depth)?;
-    let (name, behind) = name(alloc, tokens, place)?;
+    let (name, behind) = name(tokens, place)?;
     field_named(tokens, stars, name, at, behind, depth)
 }
 
@@ -272,7 +272,7 @@ fn field_group(
     ensures reads { Parses g.Field depth tokens.now at (λ v. map shape.field_of v.items) result }
     ensures place { IfOk result (λ r. (at < r.1) × (r.1 ≤ length tokens.now)) }
 {
-    let (base, place) = base(alloc, tokens, at, depth)?;
+    let (base, place) = base(tokens, at, depth)?;
     let (declarators, behind) = field_decs(alloc, tokens, place, depth)?;
     let end = expect_mark(tokens, behind, Mark::Semicolon)?;
     let fields = fields_of(alloc, &base, declarators)?;
@@ -479,7 +479,7 @@ fn local_dec(
     ensures place { IfOk result (λ r. (at < r.1) × (r.1 ≤ length tokens.now)) }
 {
     let (stars, place) = stars(alloc, tokens, at, depth)?;
-    let (name, behind) = name(alloc, tokens, place)?;
+    let (name, behind) = name(tokens, place)?;
     local_named(alloc, tokens, stars, name, at, behind, depth)
 }
 
@@ -559,7 +559,7 @@ pub fn locals(
     ensures reads { Parses g.Locals depth tokens.now at (λ v. map shape.local_of v.items) result }
     ensures place { IfOk result (λ r. (at < r.1) × (r.1 ≤ length tokens.now)) }
 {
-    let (base, place) = base(alloc, tokens, at, depth)?;
+    let (base, place) = base(tokens, at, depth)?;
     let (declarators, behind) = local_decs(alloc, tokens, place, depth)?;
     let end = expect_mark(tokens, behind, Mark::Semicolon)?;
     let locals = locals_of(alloc, &base, declarators)?;
@@ -575,12 +575,11 @@ fn param(alloc: Global, tokens: &[Token], at: u32, depth: u32) -> Result<(Param,
     ensures place { IfOk result (λ r. (at < r.1) × (r.1 ≤ length tokens.now)) }
 {
     let (type_name, place) = type_name(alloc, tokens, at, depth)?;
-    param_typed(alloc, tokens, type_name, at, place, depth)
+    param_typed(tokens, type_name, at, place, depth)
 }
 
 /// Reads the name of a parameter that begins at `at`, where one follows its type.
 fn param_typed(
-    alloc: Global,
     tokens: &[Token],
     type_name: TypeName,
     at: u32,
@@ -603,7 +602,7 @@ fn param_typed(
         };
         return Ok((nameless, place));
     }
-    let (name, end) = name(alloc, tokens, place)?;
+    let (name, end) = name(tokens, place)?;
     let named = Param {
         spot,
         type_name,

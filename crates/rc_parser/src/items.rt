@@ -135,7 +135,7 @@ fn function_named(
     ensures reads { Proceeds g.Item 0 tokens.now at place (r.function_named (spot_of tokens.now at) deletes (shape.mapped shape.type_of returned)) (λ v. map shape.item_of v.items) result }
     ensures place { IfOk result (λ r. (place < r.1) × (r.1 ≤ length tokens.now)) }
 {
-    let (name, behind) = name(alloc, tokens, place)?;
+    let (name, behind) = name(tokens, place)?;
     let inside = expect_mark(tokens, behind, Mark::OpenParenthesis)?;
     function_params(alloc, tokens, deletes, returned, name, at, inside)
 }
@@ -206,7 +206,7 @@ fn item_based(
     ensures place { IfOk result (λ r. (place < r.1) × (r.1 ≤ length tokens.now)) }
 {
     let (stars, behind) = stars(alloc, tokens, place, 0)?;
-    let (name, end) = name(alloc, tokens, behind)?;
+    let (name, end) = name(tokens, behind)?;
     item_named(alloc, tokens, base, stars, name, at, place, end)
 }
 
@@ -239,7 +239,7 @@ fn struct_item(alloc: Global, tokens: &[Token], at: u32) -> Result<(Vec<Item>, u
     ensures reads { Parses g.Item 0 tokens.now at (λ v. map shape.item_of v.items) result }
     ensures place { IfOk result (λ r. (at < r.1) × (r.1 ≤ length tokens.now)) }
 {
-    let (name, place) = name(alloc, tokens, at + 1)?;
+    let (name, place) = name(tokens, at + 1)?;
     struct_named(alloc, tokens, name, at, place)
 }
 
@@ -298,7 +298,7 @@ fn typed_item(alloc: Global, tokens: &[Token], at: u32) -> Result<(Vec<Item>, u3
     ensures reads { Parses g.Item 0 tokens.now at (λ v. map shape.item_of v.items) result }
     ensures place { IfOk result (λ r. (at < r.1) × (r.1 ≤ length tokens.now)) }
 {
-    let (base, place) = base(alloc, tokens, at, 0)?;
+    let (base, place) = base(tokens, at, 0)?;
     item_based(alloc, tokens, base, at, place)
 }
 

@@ -56,11 +56,11 @@ pub fn is_name_at(tokens: &[Token], at: u32) -> bool
 }
 
 /// Takes a name, and answers the place after it.
-pub fn name(alloc: Global, tokens: &[Token], at: u32) -> Result<(Name, u32), ParseFault>
+pub fn name(tokens: &[Token], at: u32) -> Result<(Name, u32), ParseFault>
     requires { length tokens.now ≤ 1048576 }
     ensures { IsNamed tokens.now at result }
 {
-    words::name(alloc, tokens, at, MOST_WORDS)
+    words::name(tokens, at, MOST_WORDS)
 }
 
 /// A number as it is written: its value, and whether it is `unsigned`.
@@ -88,14 +88,14 @@ pub fn number(tokens: &[Token], at: u32) -> Result<(Numeral, u32), ParseFault>
 }
 
 /// Reads a base type.
-pub fn base(alloc: Global, tokens: &[Token], at: u32, depth: u32) -> Result<(Base, u32), ParseFault>
+pub fn base(tokens: &[Token], at: u32, depth: u32) -> Result<(Base, u32), ParseFault>
     requires few { length tokens.now ≤ 1048576 }
     requires within { at ≤ length tokens.now }
     requires shallow { depth ≤ 200 }
     ensures reads { Parses g.Base depth tokens.now at (λ b. b) result }
     ensures place { IfOk result (λ r. (at < r.1) × (r.1 ≤ length tokens.now)) }
 {
-    types::base(alloc, tokens, at, depth, MOST_WORDS)
+    types::base(tokens, at, depth, MOST_WORDS)
 }
 
 /// Reads stars and their annotations, as many as follow.

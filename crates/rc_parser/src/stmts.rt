@@ -876,5 +876,13 @@ fn for_node(
     ensures ok { IfOk result (λ s. shape.stmt_of s ≡ t.for_do spot (shape.start_of start) (shape.mapped shape.expr_of test) (shape.mapped shape.simple_of then) (shape.stmt_of body)) }
     ensures err { IfErr result (λ f. f ≡ Memory) }
 {
-    Ok(Stmt::For(spot, start, test, then, boxed(alloc, body)?))
+    match boxed(alloc, body) {
+        Ok(body) => Ok(Stmt::For(spot, start, test, then, body)),
+        Err(fault) => {
+            drop(start);
+            drop(test);
+            drop(then);
+            Err(fault)
+        }
+    }
 }

@@ -25,7 +25,7 @@ fn word(alloc: Global, text: &str) -> Result<Word, AllocError> {
     if text == "1" {
         return Ok(Word::Number(1, false));
     }
-    Ok(Word::Name(Text::new(Vec::from_slice(alloc, bytes)?)))
+    Ok(Word::Name(Text::new(Vec::from_slice(alloc, bytes)?)?))
 }
 
 fn add_words(

@@ -1,28 +1,43 @@
 // Words.
-ghost use Rattle.std.specs.Prelude.{◌≡◌, List, ℕ};
+ghost use Rattle.std.specs.Prelude.{◌≡◌, List, ℕ, IfOk};
 ghost use Rattle.rc_syntax.specs.Spellings.{key_spelling, mark_spelling, keys, marks};
 ghost use Rattle.rc_syntax.specs.Look.{key_named, mark_named};
 
+use std::alloc::{AllocError, Global};
 use std::marker::Model;
+use std::rc::RcSlice;
 
-/// The bytes of a name or of a string literal, which contracts see as a list of bytes.
+/// The bytes of a name or of a string literal, which contracts see as a list of bytes. Texts may share
+/// their bytes.
 #[derive(Debug, Drop)]
 pub struct Text {
-    bytes: Vec<u8>,
+    bytes: RcSlice<u8, Global>,
 }
 
 impl Model for Text {
+    ghost use Rattle.std.specs.Prelude.{List, ℕ};
+    ghost use Rattle.std.specs.Rc.{rc_slice_items};
+
     ghost Value = { List ℕ };
 
-    ghost view = { λ t. t.bytes.items };
+    ghost view = { λ t. rc_slice_items t.bytes };
 }
 
 impl Text {
-    /// Takes the bytes as they are, and no memory.
-    pub fn new(bytes: Vec<u8>) -> Text
-        ensures { result ≡ bytes.items }
+    /// Takes the bytes as they are. To share them it takes a little memory.
+    pub fn new(bytes: Vec<u8>) -> Result<Text, AllocError>
+        ensures { IfOk result (λ t. t ≡ bytes.items) }
     {
-        Text { bytes }
+        let bytes = RcSlice::from_vec(bytes)?;
+        Ok(Text { bytes })
+    }
+
+    /// A text that shares its bytes with this one, in constant time. It takes no memory for them.
+    pub fn share(&self) -> Result<Text, AllocError>
+        ensures { IfOk result (λ t. t ≡ self.now) }
+    {
+        let bytes = self.bytes.clone()?;
+        Ok(Text { bytes })
     }
 
     /// The bytes, in their order.

@@ -25,7 +25,9 @@ fn spellings_are_read_back(rt: HostRuntime) -> Result<(), Fail> {
 
 #[test]
 fn a_text_keeps_its_bytes(rt: HostRuntime) -> Result<(), Fail> {
-    let text = Text::new(Vec::from_array(rt.alloc(), [0, 255, 10])?);
+    let text = Text::new(Vec::from_array(rt.alloc(), [0, 255, 10])?)?;
+    let shared = text.share()?;
     assert_eq!(rt; text.as_slice(), [0, 255, 10].as_slice());
+    assert_eq!(rt; shared.as_slice(), [0, 255, 10].as_slice());
     Ok(())
 }
