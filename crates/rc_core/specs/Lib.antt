@@ -18,5 +18,3 @@ pub mod Typing
 pub mod Deletes
 pub mod WellTyped
 pub mod Shapes
-pub mod Behaviour
-pub mod Straight

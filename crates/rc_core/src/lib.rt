@@ -1,7 +1,7 @@
 //! What programs are and what they mean. The types of a program stand here, and its meaning in
 //! `specs/`, to be read in the order of `specs/Lib.antt`: `Types` and `Programs` say what a program
 //! is, `Layout` to `Meaning` what it means, `Store` what a heap has to keep of that, and `Typing` to
-//! `WellTyped` when its parts fit together. `Straight` says what straight-line programs do.
+//! `WellTyped` when its parts fit together.
 #![tactic(auto)]
 
 pub mod cells;

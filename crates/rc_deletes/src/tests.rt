@@ -22,7 +22,7 @@ fn spot(line: u32) -> Spot {
 fn name(alloc: Global, line: u32, text: &[u8]) -> Result<Name, AllocError> {
     Ok(Name {
         spot: spot(line),
-        text: Text::new(Vec::from_slice(alloc, text)?),
+        text: Text::new(Vec::from_slice(alloc, text)?)?,
     })
 }
 

@@ -9,7 +9,7 @@ use Rattle.rc_driver.specs.Headline.{Heard, NoCountFalls, NoFault, NoneRose, Not
 use Rattle.rc_driver.specs.Lines.{done_line}
 use Rattle.rc_driver.specs.Outcome.{Comes, ErrorCause, Follows, Given, IsMissing, IsOutcome, IsQuiet, Outcome, Performed, StoppedShort, WritesOut}
 use Rattle.rc_driver.specs.Performing.{Performs}
-use Rattle.rc_driver.specs.Request.{Request, Run}
+use Rattle.rc_driver.specs.Request.{Request, Run, Slow}
 use Rattle.rc_driver.specs.Telling.{Tells, ToldDone, ToldFault}
 use Rattle.rc_driver.specs.declared.answer.Done.{Done}
 use Rattle.rc_driver.specs.declared.answer.Done.TheVariants.{Usage}
@@ -165,7 +165,8 @@ there : (request : Option Request) (given : Given) (outcome : Outcome) → Comes
 there request given outcome comes none = by request comes.comes none where
   by : (r : Option Request) → IsOutcome r given.files.names given.input.rest outcome → IsMissing r given.files → ⊥
   by None is m = let e = m.1 in cc
-  by (Some (Run file)) is m = let e = m.1 in let same : file ≡ m.0 = cc in let lacks = m.2.none in let found = is.1 in cc
+  by (Some (Run file limits)) is m = let e = m.1 in let same : file ≡ m.0 = cc in let lacks = m.2.none in let found = is.1 in cc
+  by (Some (Slow file limits)) is m = let e = m.1 in let same : file ≡ m.0 = cc in let lacks = m.2.none in let found = is.1 in cc
 
 pub complete : (request : Option Request) (given : Given) (files' : ShelfState) (input' : SourceState) (out out' err err' : SinkState) (answer result : Result Done Fault) → Performs request given files' input' out out' answer → Tells answer err err' result → NoneRose given.files files' given.input input' out out' err err' → (outcome : Outcome) → Comes request given outcome → (result ≡ Ok outcome.done) ⊎ (result ≡ Err Memory)
 complete request given files' input' out out' err err' answer result performs tells none outcome comes = by result tells where

@@ -1,13 +1,8 @@
-mod CutLoop
-mod Cuts
 mod EmptyLines
-mod FormLoops
 mod HeadlineLaws
-mod Numerals
-mod OneForm
+mod Numbers
 mod PerformLaws
 mod RunLaws
-mod StepsMean
-mod TextsRead
+mod TextLaws
 mod ToldLaws
 mod Written

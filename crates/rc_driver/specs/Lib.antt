@@ -1,16 +1,12 @@
 pub mod Adapters
-pub mod Form
+pub mod Asking
 pub mod Headline
 pub mod LineBytes
 pub mod Lines
 pub mod Outcome
 pub mod Performing
 pub mod Pieces
-pub mod Reading
 pub mod Request
 pub mod Running
-pub mod RunningTexts
 pub mod Status
-pub mod Steps
 pub mod Telling
-pub mod Words

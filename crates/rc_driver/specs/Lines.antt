@@ -9,10 +9,10 @@ use Rattle.rc_driver.specs.declared.answer.Done.{Done}
 use Rattle.rc_driver.specs.declared.answer.Done.TheVariants.{Ended, StaleImage, Refused, ImageRefused, Wrote, Reported, Usage}
 use Rattle.rc_driver.specs.declared.answer.Fault.{Fault}
 use Rattle.rc_driver.specs.declared.answer.Fault.TheVariants.{FileFault, ReadFault, WriteFault, ErrFault, Memory}
-use Rattle.rc_driver.specs.declared.refusal.Refusal.{Refusal}
-use Rattle.rc_driver.specs.declared.refusal.Refusal.TheVariants.{TooLong, Byte, Token, Syntax, Deep, Unknown, Twice, Mistyped, Arity, AnnotationPlace, NotDeletes, DeletesPlace, Main, TooBig, Variables, Points}
-use Rattle.rc_driver.specs.declared.refusal.ImageRefusal.{ImageRefusal}
-use Rattle.rc_driver.specs.declared.refusal.ImageRefusal.TheVariants.{Magic, Version, Short, Extra, Field, Target, Height, Kind, Number}
+use Rattle.rc_compile.specs.declared.refusal.Refusal.{Refusal}
+use Rattle.rc_compile.specs.declared.refusal.Refusal.TheVariants.{TooLong, Byte, Token, Syntax, Deep, Unknown, Twice, Mistyped, Arity, AnnotationPlace, NotDeletes, DeletesPlace, Main, TooBig, Variables, Points}
+use Rattle.rc_driver.specs.declared.image_refusal.ImageRefusal.{ImageRefusal}
+use Rattle.rc_driver.specs.declared.image_refusal.ImageRefusal.TheVariants.{Magic, Version, Short, Extra, Field, Target, Height, Kind, Number}
 
 abbrev pub trap_name : Trap → List ℕ
 trap_name Null = codes "null"
@@ -42,7 +42,7 @@ abbrev pub refusal_line : Refusal → List ℕ
 refusal_line TooLong = codes "rc: refused 1 too-long\n"
 refusal_line (Byte line) = on_line line (codes ": refused 2 byte\n")
 refusal_line (Token line) = on_line line (codes ": refused 3 token\n")
-refusal_line Syntax = codes "rc: refused 4 syntax\n"
+refusal_line (Syntax line) = on_line line (codes ": refused 4 syntax\n")
 refusal_line (Deep line) = on_line line (codes ": refused 5 deep\n")
 refusal_line (Unknown line) = on_line line (codes ": refused 6 unknown\n")
 refusal_line (Twice line) = on_line line (codes ": refused 7 twice\n")

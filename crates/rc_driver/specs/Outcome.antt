@@ -5,17 +5,20 @@ use Rattle.rc_base.specs.Causes.{Rose}
 use Rattle.rc_base.specs.Shelves.{Lacks, Names, ShelfState}
 use Rattle.rc_base.specs.Sinks.{IsFlushed, SinkState, Took}
 use Rattle.rc_base.specs.Sources.{SourceState}
-use Rattle.rc_core.specs.Behaviour.{Behaviour}
-use Rattle.rc_core.specs.Straight.{Stmt, meaning}
-use Rattle.rc_driver.specs.Form.{Accepted}
+use Rattle.rc_base.specs.declared.ends.End.{End}
+use Rattle.rc_base.specs.declared.ends.Limits.{Limits}
+use Rattle.rc_compile.specs.Acceptance.{Accepted}
+use Rattle.rc_compile.specs.Acceptance as acceptance
+use Rattle.rc_compile.specs.declared.refusal.Refusal.{Refusal}
+use Rattle.rc_core.specs.Meaning.{meaning}
+use Rattle.rc_core.specs.Programs.{Program}
+use Rattle.rc_core.specs.Runs.{Ends}
 use Rattle.rc_driver.specs.Lines.{done_line}
-use Rattle.rc_driver.specs.Request.{Request, Run}
+use Rattle.rc_driver.specs.Request.{Request, Run, Slow}
 use Rattle.rc_driver.specs.declared.answer.Done.{Done}
 use Rattle.rc_driver.specs.declared.answer.Done.TheVariants.{Ended, StaleImage, Refused, ImageRefused, Wrote, Reported, Usage}
 use Rattle.rc_driver.specs.declared.answer.Fault.{Fault}
 use Rattle.rc_driver.specs.declared.answer.Fault.TheVariants.{FileFault, ReadFault, WriteFault, ErrFault, Memory}
-use Rattle.rc_driver.specs.declared.refusal.Refusal.{Refusal}
-use Rattle.rc_driver.specs.declared.refusal.Refusal.TheVariants.{Syntax}
 
 -- the answer of a request, and its acts on the input and the output
 pub record Outcome : Type 0 where
@@ -25,26 +28,29 @@ pub record Outcome : Type 0 where
 abbrev pub answers : Done → Outcome
 answers done = record { done = done; acts = [] }
 
-abbrev pub runs : Behaviour → Outcome
-runs behaviour = record { done = Ended behaviour.end; acts = behaviour.acts }
+abbrev pub runs : List Act → End → Outcome
+runs acts end = record { done = Ended end; acts = acts }
 
--- the text is no straight-line program
-abbrev pub Refuses : List ℕ → Refusal → Type 0
-Refuses text refusal = (refusal ≡ Syntax) × ((body : List Stmt) → ¬ Accepted text body)
+-- a program does what it means, and every other text is refused
+pub data RunsTo (text input : List ℕ) (limits : Limits) (outcome : Outcome) : Type 0 where
+  accepts : (program : Program) (end : End) → Accepted text program → (meaning program input limits).end ≡ Ends end → outcome ≡ runs (meaning program input limits).acts end → RunsTo text input limits outcome
+  refuses : (refusal : Refusal) → acceptance.Refused text refusal → outcome ≡ answers (Refused refusal) → RunsTo text input limits outcome
 
--- an accepted text does what it means, and every other is refused
-abbrev pub RunsTo : List ℕ → List ℕ → Outcome → Type 0
-RunsTo text input outcome = ((body : List Stmt) × Accepted text body × (outcome ≡ runs (meaning body))) ⊎ ((refusal : Refusal) × Refuses text refusal × (outcome ≡ answers (Refused refusal)))
+-- the text of a file is run on this input
+abbrev pub RunsFile : (file : List ℕ) → Limits → Names → (input : List ℕ) → Outcome → Type 0
+RunsFile file limits files input outcome = (text : List ℕ) × (files file ≡ Some text) × RunsTo text input limits outcome
 
 -- what a request comes to over these files, with these bytes of input; it has no outcome where a name that it reads is not there
 abbrev pub IsOutcome : Option Request → Names → List ℕ → Outcome → Type 0
 IsOutcome None files input outcome = outcome ≡ answers Usage
-IsOutcome (Some (Run file)) files input outcome = (text : List ℕ) × (files file ≡ Some text) × RunsTo text input outcome
+IsOutcome (Some (Run file limits)) files input outcome = RunsFile file limits files input outcome
+IsOutcome (Some (Slow file limits)) files input outcome = RunsFile file limits files input outcome
 
 -- the name that a request reads first
 abbrev pub reads : Option Request → Option (List ℕ)
 reads None = None
-reads (Some (Run file)) = Some file
+reads (Some (Run file limits)) = Some file
+reads (Some (Slow file limits)) = Some file
 
 -- the files and the input, as a request finds them
 pub record Given : Type 0 where
@@ -93,10 +99,6 @@ abbrev pub IsRun : Done → Type 0
 IsRun (Ended end) = Unit {0}
 IsRun (StaleImage line) = Unit {0}
 IsRun _ = ⊥
-
-abbrev pub IsRefusal : Done → Type 0
-IsRefusal (Refused refusal) = Unit {0}
-IsRefusal _ = ⊥
 
 -- the answers that touch neither input nor output
 abbrev pub IsQuiet : Done → Type 0

@@ -1,12 +1,51 @@
 -- What the words on the command line ask.
-use Rattle.std.specs.Prelude.{ℕ, List, [], ◌∷◌, Option, Some, None, codes, if◌then◌else◌}
+use Rattle.std.specs.Prelude.{ℕ, List, [], ◌∷◌, ◌&&◌, nat_le, Option, Some, None, codes, if◌then◌else◌}
+use Rattle.std.specs.Option.{option_map}
+use Rattle.std.specs.Fmt.{decimal}
 use Rattle.std.specs.Str.{bytes_eq}
+use Rattle.std.specs.Str.Parse.{digits_value}
+use Rattle.rc_base.specs.declared.ends.Limits.{Limits}
 
 pub data Request : Type 0 where
-  -- to run the text of this file
-  Run : List ℕ → Request
+  -- to run the program of this file within these limits
+  Run : (file : List ℕ) → Limits → Request
+  -- to run it node by node
+  Slow : (file : List ℕ) → Limits → Request
 
--- none for every other list of words
+-- the number of a word of decimal digits without a leading zero, where it is no more than `most`
+abbrev pub number_within : (most : ℕ) → List ℕ → Option ℕ
+number_within most word = let n = digits_value 10 word in if bytes_eq (decimal n) word && nat_le n most then Some n else None
+
+-- the number of an option, and the words behind it
+pub record Chosen : Type 0 where
+  pub number : ℕ
+  pub rest : List (List ℕ)
+
+-- where the option stands first, its number is the next word; where it doesn't, the number is `default`, and no word is taken
+abbrev pub option : (name : List ℕ) → (most default : ℕ) → List (List ℕ) → Option Chosen
+option name most default (word ∷ number ∷ rest) =
+    if bytes_eq word name then option_map (λ n. record { number = n; rest = rest }) (number_within most number) else Some (record { number = default; rest = word ∷ number ∷ rest })
+option name most default words = Some (record { number = default; rest = words })
+
+abbrev pub choosing : Option Chosen → (ℕ → List (List ℕ) → Option Limits) → Option Limits
+choosing None next = None
+choosing (Some chosen) next = next chosen.number chosen.rest
+
+abbrev pub at_end : Limits → List (List ℕ) → Option Limits
+at_end limits [] = Some limits
+at_end limits (word ∷ words) = None
+
+-- the options in their order, each at most once
+abbrev pub limits_of : List (List ℕ) → Option Limits
+limits_of words =
+    choosing (option (codes "--turns") 1000000000000 100000000 words) (λ turns words.
+    choosing (option (codes "--regions") 4294967295 4294967295 words) (λ regions words.
+    choosing (option (codes "--blocks") 4294967295 4294967295 words) (λ blocks words.
+    at_end (record { turns = turns; regions = regions; blocks = blocks }) words)))
+
+-- a verb, any word as the name of a file, and options; none for every other list of words
 abbrev pub request_of : List (List ℕ) → Option Request
-request_of (verb ∷ file ∷ []) = if bytes_eq verb (codes "run") then Some (Run file) else None
+request_of (verb ∷ file ∷ options) =
+    if bytes_eq verb (codes "run") then option_map (Run file) (limits_of options) else
+    if bytes_eq verb (codes "slow") then option_map (Slow file) (limits_of options) else None
 request_of _ = None

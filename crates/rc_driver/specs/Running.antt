@@ -1,29 +1,60 @@
--- What running code over an output comes to: a run, then a flush.
-use Rattle.std.specs.Prelude.{◌≡◌, ◌≤◌, ◌⊎◌, List, [], ◌++◌, Result, IfOk, IfErr, OnOk, IsErrOf, IsOk, IsTrue}
-use Rattle.rc_base.specs.Acts.{Act, IsWriteNext, output}
+-- What it comes to to run a program, a text, and the piece of a file that was loaded.
+use Rattle.std.specs.Prelude.{◌≡◌, ◌≤◌, ℕ, true, false, List, Result, Ok, Err, IfOk, IfErr, OnOk, IsErrOf, IsOk, IsTrue}
 use Rattle.rc_base.specs.Causes.{Rose}
-use Rattle.rc_base.specs.Sinks.{IsFlushed, SinkState, Took}
+use Rattle.rc_base.specs.Sinks.{IsFlushed, SinkState}
+use Rattle.rc_base.specs.Sources.{SourceState}
 use Rattle.rc_base.specs.declared.ends.End.{End}
-use Rattle.rc_core.specs.Behaviour.{Behaviour}
+use Rattle.rc_base.specs.declared.ends.Limits.{Limits}
+use Rattle.rc_base.specs.declared.outside.Piece.{Piece}
+use Rattle.rc_compile.specs.Answers.{IsOnlyProgram, IsOnlyRefusal}
+use Rattle.rc_compile.specs.declared.refusal.Refusal.{Refusal}
+use Rattle.rc_compile.specs.declared.refusal.Refusal.TheVariants.{TooLong}
+use Rattle.rc_core.specs.Meaning.{meaning}
+use Rattle.rc_core.specs.Programs.{Program}
+use Rattle.rc_core.specs.Runs.{Ends}
+use Rattle.rc_driver.specs.Outcome.{Performed, StoppedShort}
+use Rattle.rc_driver.specs.declared.answer.Done.{Done}
+use Rattle.rc_driver.specs.declared.answer.Done.TheVariants.{Ended, Refused}
 use Rattle.rc_driver.specs.declared.answer.Fault.{Fault}
-use Rattle.rc_driver.specs.declared.answer.Fault.TheVariants.{WriteFault, Memory}
+use Rattle.rc_driver.specs.declared.answer.Fault.TheVariants.{FileFault, ReadFault, WriteFault, ErrFault, Memory}
+use Rattle.rc_safety.specs.Safety.{NeverTouchesDeleted}
 
--- a front of the acts reached the output
-pub record OutputCut (acts : List Act) (fault : Fault) (out out' : SinkState) : Type 0 where
-  pub before : List Act
-  pub left : List Act
-  pub split : acts ≡ before ++ left
-  pub wrote : Took (output before) out out'
-  pub at_write : fault ≡ WriteFault → IsWriteNext left ⊎ (left ≡ [])
-  pub unflushed : fault ≡ WriteFault → IsWriteNext left → IsTrue out.tells → out'.flushed ≡ out.flushed
-  pub flushed : fault ≡ Memory → ¬ (before ≡ []) → ¬ Rose out.faults out'.faults → IsFlushed out'
+-- the faults of a run
+abbrev pub IsRunFault : Fault → Type 0
+IsRunFault ReadFault = Unit {0}
+IsRunFault WriteFault = Unit {0}
+IsRunFault Memory = Unit {0}
+IsRunFault FileFault = ⊥
+IsRunFault ErrFault = ⊥
 
-pub record RanCode (behaviour : Behaviour) (out out' : SinkState) (result : Result End Fault) : Type 0 where
-  pub end : IfOk result (λ end. end ≡ behaviour.end)
-  pub wrote : OnOk result (Took (output behaviour.acts) out out')
+-- a program was run and the output flushed, but behind a byte that couldn't be written
+pub record RanProgram (program : Program) (limits : Limits) (input input' : SourceState) (out out' : SinkState) (result : Result End Fault) : Type 0 where
+  pub end : IsTrue input.tells → IfOk result (λ end. (meaning program input.rest limits).end ≡ Ends end)
+  pub performed : IsTrue input.tells → OnOk result (Performed (meaning program input.rest limits).acts input input' out out')
+  pub stopped : IsTrue input.tells → IfErr result (λ fault. StoppedShort (meaning program input.rest limits).acts fault input input' out out')
+  pub never_stale : NeverTouchesDeleted program input.rest limits
   pub flushed : OnOk result (IsFlushed out')
-  pub cut : IfErr result (λ fault. OutputCut behaviour.acts fault out out')
-  pub faults : IfErr result (λ fault. (fault ≡ WriteFault) ⊎ (fault ≡ Memory))
-  pub never_falls : out.faults ≤ out'.faults
-  pub rose : IsErrOf result WriteFault → Rose out.faults out'.faults
-  pub kept : IsOk result → out'.faults ≡ out.faults
+  pub fault : IfErr result IsRunFault
+  pub input_later : input.faults ≤ input'.faults
+  pub out_later : out.faults ≤ out'.faults
+  pub read : IsErrOf result ReadFault → Rose input.faults input'.faults
+  pub write : IsErrOf result WriteFault → Rose out.faults out'.faults
+  pub input_kept : IsOk result → input'.faults ≡ input.faults
+  pub out_kept : IsOk result → out'.faults ≡ out.faults
+
+-- neither was called
+pub record Untouched (input input' : SourceState) (out out' : SinkState) : Type 0 where
+  pub input_same : input' ≡ input
+  pub out_same : out' ≡ out
+
+-- a text is a program that was run, or is refused
+pub data RanText (text : List ℕ) (limits : Limits) (input input' : SourceState) (out out' : SinkState) : Result Done Fault → Type 0 where
+  ended : (program : Program) (end : End) → IsOnlyProgram text program → RanProgram program limits input input' out out' (Ok end) → RanText text limits input input' out out' (Ok (Ended end))
+  cut : (program : Program) (fault : Fault) → IsOnlyProgram text program → RanProgram program limits input input' out out' (Err fault) → RanText text limits input input' out out' (Err fault)
+  refused : (refusal : Refusal) → IsOnlyRefusal text refusal → Untouched input input' out out' → RanText text limits input input' out out' (Ok (Refused refusal))
+  no_memory : Untouched input input' out out' → RanText text limits input input' out out' (Err Memory)
+
+-- a file that was not loaded whole is too long
+pub data RanPiece (piece : Piece) (limits : Limits) (input input' : SourceState) (out out' : SinkState) : Result Done Fault → Type 0 where
+  too_long : piece.whole ≡ false → Untouched input input' out out' → RanPiece piece limits input input' out out' (Ok (Refused TooLong))
+  whole : (result : Result Done Fault) → piece.whole ≡ true → RanText piece.bytes limits input input' out out' result → RanPiece piece limits input input' out out' result

@@ -2,8 +2,9 @@
 ghost use Rattle.std.specs.Prelude.{◌≡◌};
 ghost use Rattle.rc_driver.specs.Status.{status};
 
-use crate::{ImageRefusal, Refusal};
+use crate::ImageRefusal;
 use rc_base::End;
+use rc_compile::Refusal;
 use thiserror::Error;
 
 /// What was done.

@@ -2,15 +2,12 @@
 #![tactic(auto)]
 
 mod answer;
-mod cursor;
-mod cut;
 mod folder;
-mod form;
+mod image_refusal;
 mod line;
 mod numbered;
 mod program;
-mod read;
-mod refusal;
+mod request;
 mod run;
 mod std_sink;
 mod std_source;
@@ -18,12 +15,11 @@ mod tell;
 #[cfg(test)]
 mod tests;
 mod texts;
-mod word;
 mod write_front;
 
 pub use answer::{Done, Fault, status_of};
 pub use folder::Folder;
+pub use image_refusal::ImageRefusal;
 pub use program::rc_main;
-pub use refusal::{ImageRefusal, Refusal};
 pub use std_sink::StdSink;
 pub use std_source::StdSource;

@@ -1,58 +1,44 @@
 // The top call.
 ghost use Rattle.std.specs.Prelude.{◌≡◌, ◌⊎◌, [], None, Ok, Err, IfOk, IsErrOf, IsOk, IsTrue};
-ghost use Rattle.std.specs.Option.{option_map};
 ghost use Rattle.rc_base.specs.Causes.{Rose};
 ghost use Rattle.rc_base.specs.Sinks.{IsFlushed};
-ghost use Rattle.rc_base.specs.Sources.{SourceState};
 ghost use Rattle.rc_driver.specs.Headline.{Heard, NoCountFalls, NoFault, NoneRose, NothingAsked, asked, given};
 ghost use Rattle.rc_driver.specs.Outcome.{Comes, ErrorCause, FileCause, Follows, IsMissing, IsOutcome, IsQuiet, Outcome, Performed, ReadCause, WriteCause, WritesOut};
 ghost use Rattle.rc_driver.specs.Performing.{Performs};
-ghost use Rattle.rc_driver.specs.Request.{Run};
 ghost use Rattle.rc_driver.specs.declared.answer.Done.TheVariants.{Usage};
 ghost use Rattle.rc_driver.specs.declared.answer.Fault.TheVariants.{ErrFault, FileFault, Memory, ReadFault, WriteFault};
 
+use crate::request::{Request, request_of};
 use crate::run::run_file;
 use crate::tell::tell;
 use crate::{Done, Fault};
 use rc_base::{Shelf, Sink, Source};
 use std::alloc::Global;
 
-/// The file that the words ask to run.
-fn file_of<'a>(words: &'a [String]) -> Option<&'a str>
-    ensures { option_map (λ name. Run name.now) result ≡ asked words.now }
-{
-    match words {
-        [verb, file] => {
-            if verb.as_str() == "run" {
-                Some(file.as_str())
-            } else {
-                None
-            }
-        }
-        _ => None,
-    }
-}
-
 /// Does what the words ask, but for telling it.
-fn perform<F: Shelf, O: Sink>(
+fn perform<F: Shelf, S: Source, O: Sink>(
     alloc: Global,
     words: &[String],
     files: &mut F,
+    input: &mut S,
     out: &mut O,
 ) -> Result<Done, Fault>
-    ensures { (input : SourceState) → Performs (asked words.now) (given (F.state files.old) input) (F.state files.new) input (O.state out.old) (O.state out.new) result }
+    ensures { Performs (asked words.now) (given (F.state files.old) (S.state input.old)) (F.state files.new) (S.state input.new) (O.state out.old) (O.state out.new) result }
 {
-    match file_of(words) {
-        Some(file) => run_file(alloc, file, files, out),
+    match request_of(words) {
+        Some(Request::Run(file, limits)) => run_file(alloc, file, limits, files, input, out),
+        // until there is another way, both go node by node
+        Some(Request::Slow(file, limits)) => run_file(alloc, file, limits, files, input, out),
         None => Ok(Done::Usage),
     }
 }
 
 /// Does what the words ask: `words` are those behind the program's own name.
 ///
-/// A run writes exactly the bytes of its program's meaning to `out` and answers exactly its end. Only a
-/// fault of the outside, which its count shows, or want of memory may cut it short, and then a front of
-/// the meaning's acts was done. What is answered is told on `err`.
+/// A run writes exactly the bytes of its program's meaning to `out`, takes exactly those of `input` that
+/// the meaning asks for, and answers exactly its end. Only a fault of the outside, which its count shows,
+/// or want of memory may cut it short, and then a front of the meaning's acts was done. What is answered
+/// is told on `err`.
 ///
 /// # Errors
 ///
@@ -86,6 +72,6 @@ pub fn rc_main<F: Shelf, S: Source, O: Sink, E: Sink>(
     ensures write_fault { IsErrOf result WriteFault → WriteCause (asked words.now) (given (F.state files.old) (S.state input.old)) (O.state out.old) (O.state out.new) }
     ensures error_fault { IsErrOf result ErrFault → ErrorCause (asked words.now) (given (F.state files.old) (S.state input.old)) (E.state err.old) (E.state err.new) }
 {
-    let answer = perform(alloc, words, files, out);
+    let answer = perform(alloc, words, files, input, out);
     tell(err, answer)
 }

@@ -1,33 +1,40 @@
 // Runs a file.
-ghost use Rattle.std.specs.Prelude.{◌≡◌, [], List, Some, ℕ};
-ghost use Rattle.rc_base.specs.Shelves.{IsFront};
-ghost use Rattle.rc_base.specs.Sources.{SourceState};
+ghost use Rattle.std.specs.Prelude.{Some};
+ghost use Rattle.rc_core.specs.Shapes.{program_of};
+ghost use Rattle.rc_driver.specs.Headline.{given};
 ghost use Rattle.rc_driver.specs.Performing.{Performs};
 ghost use Rattle.rc_driver.specs.Request.{Run};
-ghost use Rattle.rc_driver.specs.Running.{RanCode};
-ghost use Rattle.rc_driver.specs.RunningTexts.{RanText, RunFacts};
-ghost use Rattle.rc_machine.specs.Flat.{EndsInReturn, HasOperands, behaviour};
+ghost use Rattle.rc_driver.specs.Running.{RanPiece, RanProgram, RanText};
 
-use crate::read::read;
-use crate::word::FormFault;
-use crate::{Done, Fault, Refusal};
-use rc_base::{End, Piece, RunFault, Shelf, ShelfFault, Sink};
-use rc_machine::{FlatStep, run_flat};
+use crate::{Done, Fault};
+use rc_base::{End, Limits, Piece, RunFault, Shelf, ShelfFault, Sink, Source};
+use rc_compile::{CompileFault, Refusal};
+use rc_core::program::Program;
+use rc_safety::never_touches_deleted;
+use rc_slow::evaluate;
 use std::alloc::Global;
 
-/// Runs the steps, and flushes the output, but for one that a byte could not be written to.
-fn run_code<O: Sink>(alloc: Global, code: &[FlatStep], out: &mut O) -> Result<End, Fault>
-    requires operands { HasOperands code.now 0 }
-    requires returns { EndsInReturn code.now }
-    ensures { RanCode (behaviour code.now []) (O.state out.old) (O.state out.new) result }
+/// Runs a program, and flushes the output, but for one that a byte could not be written to.
+fn run_program<S: Source, O: Sink>(
+    alloc: Global,
+    program: &Program,
+    limits: Limits,
+    input: &mut S,
+    out: &mut O,
+) -> Result<End, Fault>
+    ensures { RanProgram (program_of program.now) limits (S.state input.old) (S.state input.new) (O.state out.old) (O.state out.new) result }
 {
-    match run_flat(alloc, code, out) {
+    never_touches_deleted(program);
+    match evaluate(alloc, program, &limits, input, out) {
         Ok(end) => match out.flush() {
             Ok(()) => Ok(end),
             Err(_) => Err(Fault::WriteFault),
         },
         Err(RunFault::WriteFault) => Err(Fault::WriteFault),
-        Err(RunFault::ReadFault) => unreachable!(),
+        Err(RunFault::ReadFault) => {
+            let _ = out.flush();
+            Err(Fault::ReadFault)
+        }
         Err(RunFault::Memory) => {
             let _ = out.flush();
             Err(Fault::Memory)
@@ -35,38 +42,58 @@ fn run_code<O: Sink>(alloc: Global, code: &[FlatStep], out: &mut O) -> Result<En
     }
 }
 
-/// Runs a text that was loaded, or refuses it.
-fn run_text<O: Sink>(alloc: Global, piece: &Piece, out: &mut O) -> Result<Done, Fault>
-    ensures text { (file : List ℕ) → IsFront file 1048577 piece.now → RanText file (O.state out.old) (O.state out.new) result }
-    ensures facts { RunFacts (O.state out.old) (O.state out.new) result }
+/// Runs the program of a text, or refuses the text.
+fn run_text<S: Source, O: Sink>(
+    alloc: Global,
+    text: &[u8],
+    limits: Limits,
+    input: &mut S,
+    out: &mut O,
+) -> Result<Done, Fault>
+    ensures { RanText text.now limits (S.state input.old) (S.state input.new) (O.state out.old) (O.state out.new) result }
 {
-    if !piece.whole {
-        return Ok(Done::Refused(Refusal::Syntax));
-    }
-    match read(alloc, piece.bytes.as_slice()) {
-        Ok(code) => match run_code(alloc, &code, out) {
+    match rc_compile::program(alloc, text) {
+        Ok(program) => match run_program(alloc, &program, limits, input, out) {
             Ok(end) => Ok(Done::Ended(end)),
             Err(fault) => Err(fault),
         },
-        Err(FormFault::Syntax) => Ok(Done::Refused(Refusal::Syntax)),
-        Err(FormFault::Memory) => Err(Fault::Memory),
+        Err(CompileFault::Refused(refusal)) => Ok(Done::Refused(refusal)),
+        Err(CompileFault::Memory) => Err(Fault::Memory),
     }
+}
+
+/// Runs what was loaded of a file, if that is all of it. What is longer is no program.
+fn run_piece<S: Source, O: Sink>(
+    alloc: Global,
+    piece: &Piece,
+    limits: Limits,
+    input: &mut S,
+    out: &mut O,
+) -> Result<Done, Fault>
+    ensures { RanPiece piece.now limits (S.state input.old) (S.state input.new) (O.state out.old) (O.state out.new) result }
+{
+    if !piece.whole {
+        return Ok(Done::Refused(Refusal::TooLong));
+    }
+    run_text(alloc, piece.bytes.as_slice(), limits, input, out)
 }
 
 /// How many bytes of a text are loaded: one more than it may have.
 const MOST: u32 = 1_048_577;
 
 /// Loads the text of a file and runs it.
-pub(crate) fn run_file<F: Shelf, O: Sink>(
+pub(crate) fn run_file<F: Shelf, S: Source, O: Sink>(
     alloc: Global,
     name: &str,
+    limits: Limits,
     files: &mut F,
+    input: &mut S,
     out: &mut O,
 ) -> Result<Done, Fault>
-    ensures { (input : SourceState) → Performs (Some (Run name.now)) (record { files = F.state files.old; input = input }) (F.state files.new) input (O.state out.old) (O.state out.new) result }
+    ensures { Performs (Some (Run name.now limits)) (given (F.state files.old) (S.state input.old)) (F.state files.new) (S.state input.new) (O.state out.old) (O.state out.new) result }
 {
     match files.load(alloc, name, MOST) {
-        Ok(piece) => run_text(alloc, &piece, out),
+        Ok(piece) => run_piece(alloc, &piece, limits, input, out),
         Err(ShelfFault::Memory) => Err(Fault::Memory),
         Err(ShelfFault::Absent) => Err(Fault::FileFault),
         Err(ShelfFault::Failed) => Err(Fault::FileFault),

@@ -6,8 +6,9 @@ ghost use Rattle.rc_driver.specs.Lines.{answer_line, done_line, end_line, fault_
 
 use crate::line::Line;
 use crate::numbered::Numbered;
-use crate::{Done, Fault, ImageRefusal, Refusal};
+use crate::{Done, Fault, ImageRefusal};
 use rc_base::{End, Trap};
+use rc_compile::Refusal;
 
 fn text(text: &'static [u8]) -> Line
     ensures { line_bytes result ≡ text.entry.now }
@@ -69,7 +70,7 @@ fn refusal_line(refusal: Refusal) -> Line
         Refusal::TooLong => text(b"rc: refused 1 too-long\n"),
         Refusal::Byte(line) => on_line(line, b": refused 2 byte\n"),
         Refusal::Token(line) => on_line(line, b": refused 3 token\n"),
-        Refusal::Syntax => text(b"rc: refused 4 syntax\n"),
+        Refusal::Syntax(line) => on_line(line, b": refused 4 syntax\n"),
         Refusal::Deep(line) => on_line(line, b": refused 5 deep\n"),
         Refusal::Unknown(line) => on_line(line, b": refused 6 unknown\n"),
         Refusal::Twice(line) => on_line(line, b": refused 7 twice\n"),

@@ -29,7 +29,7 @@ use rc_syntax::tree::{
     BinaryOp, CastType, Constant, Name, Note as WrittenNote, Spot, StepOp, UnaryOp,
 };
 use rc_syntax::word::Text;
-use std::alloc::Global;
+use std::alloc::{AllocError, Global};
 use std::test::Fail;
 
 const AT: Spot = Spot { place: 4, line: 2 };
@@ -55,11 +55,9 @@ fn global(alloc: Global) -> Place {
     }
 }
 
-fn name(alloc: Global) -> Name {
-    Name {
-        spot: INNER,
-        text: Text::new(Vec::new(alloc)),
-    }
+fn name(alloc: Global) -> Result<Name, AllocError> {
+    let text = Text::new(Vec::new(alloc))?;
+    Ok(Name { spot: INNER, text })
 }
 
 fn holds<T: Drop>(outcome: Result<T, Stop>) -> bool {
@@ -135,8 +133,9 @@ fn expressions_are_ruled(rt: HostRuntime) {
 }
 
 #[test]
-fn names_and_fields_are_found(rt: HostRuntime) {
+fn names_and_fields_are_found(rt: HostRuntime) -> Result<(), Fail> {
     let alloc = rt.alloc();
+    let name = name(alloc)?;
     let meaning = Meaning::Local(3, Ty::Char);
     assert!(rt; holds(name_rule(alloc, AT, Some(&meaning))));
     assert!(rt; is_twice(3, Some(&meaning)));
@@ -152,10 +151,10 @@ fn names_and_fields_are_found(rt: HostRuntime) {
         number: 4,
         field: &field,
     };
-    let name = name(alloc);
     assert!(rt; holds(field_rule(alloc, &name, global(alloc), 1, Some(found))));
     let missing = field_rule(alloc, &name, global(alloc), 1, None);
     assert_eq!(rt; refused(missing), Some((INNER, Refusal::Unknown)));
+    Ok(())
 }
 
 fn one_value(alloc: Global) -> Result<Vec<Typed>, Stop> {
@@ -202,8 +201,9 @@ fn statements_fit(rt: HostRuntime) {
 }
 
 #[test]
-fn items_are_ruled(rt: HostRuntime) {
+fn items_are_ruled(rt: HostRuntime) -> Result<(), Fail> {
     let alloc = rt.alloc();
+    let name = name(alloc)?;
     let minus = Some(Constant::Negative(INNER, 1, false));
     assert_eq!(rt;
         initial_of(&Ty::Unsigned, None, &minus),
@@ -219,7 +219,6 @@ fn items_are_ruled(rt: HostRuntime) {
     };
     assert!(rt; agrees(&signature, &signature));
     assert!(rt; builtin_agrees(Builtin::Getchar, &signature));
-    let name = name(alloc);
     assert!(rt; holds(function_name(&name, false, 0, None, &signature)));
     assert_eq!(rt; refused(once(&name, true)), Some((INNER, Refusal::Twice)));
     let broken = refuse_where(true, AT, Refusal::TooBig);
@@ -228,4 +227,5 @@ fn items_are_ruled(rt: HostRuntime) {
     assert!(rt; !gives_int(&None));
     assert!(rt; takes_nothing(&[]));
     assert_eq!(rt; main_shape(AT, false), Some(2));
+    Ok(())
 }

@@ -1,24 +1,28 @@
 -- Steps of the machine, by what its parts answer.
-use Rattle.std.proofs.Common.{◌≡◌, ◌∙◌, ℕ, zero, suc, Bool, true, false, List, [], ◌∷◌, Option, Some, None, Result, Ok, Err, refl, sym, ap, subst}
+use Rattle.std.proofs.Common.{◌≡◌, ◌∙◌, ℕ, zero, suc, Bool, true, false, List, [], ◌∷◌, Option, Some, Result, Ok, Err, refl, sym, ap}
 use Rattle.std.specs.Prelude.{is_some}
 use Rattle.rc_base.specs.declared.ends.Limits.{Limits}
 use Rattle.rc_core.specs.Heap.{Value}
 use Rattle.rc_base.specs.declared.ends.End.TheVariants.{Spent}
 use Rattle.rc_core.specs.Execution.{first_locals, held}
 use Rattle.rc_core.specs.Programs.{Expr, constant, null, string, local, read, address, step, step_from, unary, binary, convert, not_zero, and, or, choose, is_null, same, call, none, more, new_region, new_subregion, region_of, allocate, allocate_array, putchar, getchar, Program, Function}
-use Rattle.rc_core.specs.Runs.{Stop, Ends as EndsStop, Stale as StaleStop, Run, Go, Stopped, Target, bind}
+use Rattle.rc_core.specs.Runs.{Run, Go, Target, bind}
 use Rattle.rc_slow.specs.declared.frames.Control.{Control as CodeControl}
 use Rattle.rc_slow.specs.declared.machine.Machine.{Machine as CodeMachine}
 use Rattle.rc_slow.specs.declared.stop.Stop.{Stop as CodeStop}
 use Rattle.rc_slow.specs.declared.stop.Stop.TheVariants.{Ends, Stale, Cut}
-use Rattle.rc_slow.specs.Advancing.{begins_alone, state_at, standing, Quiet, Halts, HaltsAs, Leads, onwards}
+use Rattle.rc_slow.specs.Advancing.{begins_alone, state_at, standing, Quiet, HaltsAs, Leads}
 use Rattle.rc_slow.specs.Codes.{control_of, frames_of}
 use Rattle.rc_slow.specs.Coming.{Comes, StopsRun}
 use Rattle.rc_slow.specs.Frames.{Frame, first, second, argument, pointer, index, element, load, inside, ways}
 use Rattle.rc_slow.specs.KeptWorld.{KeptWorld, with_heap, turn_from}
 use Rattle.rc_slow.specs.Standing.{CodeActivations, activation_of, callers_of, held_by, held_over, waiting_of}
-use Rattle.rc_slow.specs.Stepping.{Control, Doing, doing, executing, begin, needs_no_world}
-use Rattle.rc_slow.specs.Whole.{Activation, State, Progress, onward, whole, finally, staying, entered, call_from, called, with_calls, goes_step, breaks_step, continues_step, aim_step, give_step, evaluate_step}
+use Rattle.rc_slow.specs.Stepping.{Control, Doing, executing, begin, needs_no_world}
+use Rattle.rc_slow.specs.Whole.{Activation, State, Progress, onward, staying, entered, call_from, called, with_calls, goes_step, breaks_step, continues_step, aim_step, give_step, evaluate_step}
+
+-- a step that leads on
+abbrev pub goes_to : State → KeptWorld → Run KeptWorld Progress
+goes_to s w = Go (onward s) w
 
 module _ (program : Program) (limits : Limits) where
   halts : {A B : Type 0} (stop : CodeStop) (w w1 : KeptWorld) (run : Run KeptWorld A) (next : A → KeptWorld → Run KeptWorld B) → Quiet w w1 → StopsRun stop w1 run → HaltsAs stop w (bind run next)
@@ -26,14 +30,10 @@ module _ (program : Program) (limits : Limits) where
   halts (Stale line) w w1 run next quiet is = record { world = w1; is = ap (λ r. bind r next) is; quiet = quiet }
   halts (Cut fault) w w1 run next quiet is = is
 
-  staying_is : (s : State) (run : Run KeptWorld Doing) → onwards program limits (staying program s run) ≡ bind run (λ d. whole program (record { control = d.control; now = record s.now { frames = d.frames; locals = d.locals }; below = s.below }))
-  staying_is s (Go d w) = refl
-  staying_is s (Stopped stop w) = refl
-
   -- a step inside the call that runs
-  pub stays : (r : Result CodeControl CodeStop) (m : CodeMachine) (s : State) (w w1 : KeptWorld) (run : Run KeptWorld Doing) → (fs : List Frame) (env : List Value) → Quiet w w1 → ((c : Control) → whole program (record { control = c; now = record s.now { frames = fs; locals = env }; below = s.below }) (with_heap w1 m.heap) ≡ whole program (state_at c m) (standing limits m w)) → Comes r fs env m.heap w1 run → Leads program limits r m w (onwards program limits (staying program s run))
-  stays (Ok c) m s w w1 run fs env quiet alike is = staying_is s run ∙ ap (λ r. bind r (λ d. whole program (record { control = d.control; now = record s.now { frames = d.frames; locals = d.locals }; below = s.below }))) is ∙ alike (control_of c)
-  stays (Err stop) m s w w1 run fs env quiet alike is = subst (λ r. HaltsAs stop w r) (sym (staying_is s run)) (halts stop w w1 run _ quiet is)
+  pub stays : (r : Result CodeControl CodeStop) (m : CodeMachine) (s : State) (w w1 : KeptWorld) (run : Run KeptWorld Doing) → (fs : List Frame) (env : List Value) → Quiet w w1 → ((c : Control) → goes_to (record { control = c; now = record s.now { frames = fs; locals = env }; below = s.below }) (with_heap w1 m.heap) ≡ goes_to (state_at c m) (standing limits m w)) → Comes r fs env m.heap w1 run → Leads limits r m w (staying program s run)
+  stays (Ok c) m s w w1 run fs env quiet alike is = ap (staying program s) is ∙ alike (control_of c)
+  stays (Err stop) m s w w1 run fs env quiet alike is = halts stop w w1 run _ quiet is
 
   -- a call
 
@@ -50,24 +50,24 @@ module _ (program : Program) (limits : Limits) where
   entered_turns true s w = refl
 
   -- no call more may stand inside, or no turn is left
-  pub call_spent : (calls : ℕ) (f : Option Function) (waiting : List Value) (s : State) (vs : List Value) (w w1 : KeptWorld) → Quiet w w1 → calls ≡ 0 → HaltsAs (Ends Spent) w (onwards program limits (call_from program calls f waiting s vs w1))
+  pub call_spent : (calls : ℕ) (f : Option Function) (waiting : List Value) (s : State) (vs : List Value) (w w1 : KeptWorld) → Quiet w w1 → calls ≡ 0 → HaltsAs (Ends Spent) w (call_from program calls f waiting s vs w1)
   call_spent zero f waiting s vs w w1 quiet is = record { world = w1; is = refl; quiet = quiet }
   call_spent (suc n) f waiting s vs w w1 quiet is = absurd cc
 
-  pub turn_spent : (calls : ℕ) (f : Option Function) (waiting : List Value) (s : State) (vs : List Value) (w w1 : KeptWorld) → Quiet w w1 → w1.turns ≡ 0 → HaltsAs (Ends Spent) w (onwards program limits (call_from program calls f waiting s vs w1))
+  pub turn_spent : (calls : ℕ) (f : Option Function) (waiting : List Value) (s : State) (vs : List Value) (w w1 : KeptWorld) → Quiet w w1 → w1.turns ≡ 0 → HaltsAs (Ends Spent) w (call_from program calls f waiting s vs w1)
   turn_spent zero f waiting s vs w w1 quiet is = record { world = w1; is = refl; quiet = quiet }
   turn_spent (suc n) f waiting s vs w w1 quiet is = record {
     world = w1;
-    is = ap (λ t. onwards program limits (bind (turn_from t w1) (λ _ w2. Go (onward (with_calls program n f (called program f waiting s vs))) w2))) is;
+    is = ap (λ t. bind (turn_from t w1) (λ _ w2. goes_to (with_calls program n f (called program f waiting s vs)) w2)) is;
     quiet = quiet;
   }
 
-  pub called_on : (calls n t : ℕ) (f : Option Function) (waiting : List Value) (s : State) (vs : List Value) (w1 : KeptWorld) → calls ≡ suc n → w1.turns ≡ suc t → onwards program limits (call_from program calls f waiting s vs w1) ≡ whole program (with_calls program n f (called program f waiting s vs)) (record w1 { turns = t })
+  pub called_on : (calls n t : ℕ) (f : Option Function) (waiting : List Value) (s : State) (vs : List Value) (w1 : KeptWorld) → calls ≡ suc n → w1.turns ≡ suc t → call_from program calls f waiting s vs w1 ≡ goes_to (with_calls program n f (called program f waiting s vs)) (record w1 { turns = t })
   called_on zero n t f waiting s vs w1 ec et = absurd cc
   called_on (suc m) n t f waiting s vs w1 ec et =
       let e : m ≡ n = cc in
-      ap (λ u. onwards program limits (bind (turn_from u w1) (λ _ w2. Go (onward (with_calls program m f (called program f waiting s vs))) w2))) et
-      ∙ ap (λ j. whole program (with_calls program j f (called program f waiting s vs)) (record w1 { turns = t })) e
+      ap (λ u. bind (turn_from u w1) (λ _ w2. goes_to (with_calls program m f (called program f waiting s vs)) w2)) et
+      ∙ ap (λ j. goes_to (with_calls program j f (called program f waiting s vs)) (record w1 { turns = t })) e
 
   -- a step behind a frame is the same whatever frames the state has
 
@@ -181,16 +181,16 @@ module _ (program : Program) (limits : Limits) where
   alone_needs (getchar line) is = absurd cc
 
   -- into a called function
-  pub entered_on : (n t : ℕ) (f : Function) (k : Control) (m0 m1 : CodeMachine) (w : KeptWorld) (vs : List Value) (h : Option (List Value)) → m0.now.calls ≡ suc n → m0.turns ≡ suc t → activation_of m1.now ≡ record { function = f; frames = []; locals = first_locals f vs; calls = n; deletes = false; waits = [] } → m1.below ≡ record m0.now { held = h } ∷ m0.below → m1.heap ≡ m0.heap → m1.turns ≡ t → is_some h ≡ f.deletes → held_over h (waiting_of m0.below) ≡ held_by f.deletes (held (ways (frames_of m0.now.frames)).next m0.now.locals) (waiting_of m0.below) → onwards program limits (call_from program m0.now.calls (Some f) (waiting_of m0.below) (state_at k m0) vs (entered program f.deletes (state_at k m0) (standing limits m0 w))) ≡ whole program (state_at (executing f.body) m1) (standing limits m1 w)
+  pub entered_on : (n t : ℕ) (f : Function) (k : Control) (m0 m1 : CodeMachine) (w : KeptWorld) (vs : List Value) (h : Option (List Value)) → m0.now.calls ≡ suc n → m0.turns ≡ suc t → activation_of m1.now ≡ record { function = f; frames = []; locals = first_locals f vs; calls = n; deletes = false; waits = [] } → m1.below ≡ record m0.now { held = h } ∷ m0.below → m1.heap ≡ m0.heap → m1.turns ≡ t → is_some h ≡ f.deletes → held_over h (waiting_of m0.below) ≡ held_by f.deletes (held (ways (frames_of m0.now.frames)).next m0.now.locals) (waiting_of m0.below) → (call_from program m0.now.calls (Some f) (waiting_of m0.below) (state_at k m0) vs (entered program f.deletes (state_at k m0) (standing limits m0 w))) ≡ goes_to (state_at (executing f.body) m1) (standing limits m1 w)
   entered_on n t f k m0 m1 w vs h calls turns now below heap left some over =
       let s : State = state_at k m0 in
       let W : KeptWorld = standing limits m0 w in
       let next : Activation = record { function = f; frames = []; locals = first_locals f vs; calls = n; deletes = false; waits = [] } in
       called_on m0.now.calls n t (Some f) (waiting_of m0.below) s vs (entered program f.deletes s W) calls (entered_turns f.deletes s W ∙ turns)
-      ∙ ap (λ (v : KeptWorld). whole program (record { control = executing f.body; now = next; below = record s.now { deletes = f.deletes; waits = waiting_of m0.below } ∷ s.below }) (record v { turns = t })) (entered_is f.deletes s W)
-      ∙ ap (λ l. whole program (record { control = executing f.body; now = next; below = record s.now { deletes = f.deletes; waits = waiting_of m0.below } ∷ s.below }) (record W { waiting = l; turns = t })) (sym over)
-      ∙ ap (λ b. whole program (record { control = executing f.body; now = next; below = record s.now { deletes = b; waits = waiting_of m0.below } ∷ s.below }) (record W { waiting = held_over h (waiting_of m0.below); turns = t })) (sym some)
-      ∙ ap (λ (l : CodeActivations). whole program (record { control = executing f.body; now = next; below = callers_of l }) (record W { waiting = waiting_of l; turns = t })) (sym below)
-      ∙ ap (λ a. whole program (record { control = executing f.body; now = a; below = callers_of m1.below }) (record W { waiting = waiting_of m1.below; turns = t })) (sym now)
-      ∙ ap (λ g. whole program (state_at (executing f.body) m1) (record W { waiting = waiting_of m1.below; heap = g; turns = t })) (sym heap)
-      ∙ ap (λ u. whole program (state_at (executing f.body) m1) (record W { waiting = waiting_of m1.below; heap = m1.heap; turns = u })) (sym left)
+      ∙ ap (λ (v : KeptWorld). goes_to (record { control = executing f.body; now = next; below = record s.now { deletes = f.deletes; waits = waiting_of m0.below } ∷ s.below }) (record v { turns = t })) (entered_is f.deletes s W)
+      ∙ ap (λ l. goes_to (record { control = executing f.body; now = next; below = record s.now { deletes = f.deletes; waits = waiting_of m0.below } ∷ s.below }) (record W { waiting = l; turns = t })) (sym over)
+      ∙ ap (λ b. goes_to (record { control = executing f.body; now = next; below = record s.now { deletes = b; waits = waiting_of m0.below } ∷ s.below }) (record W { waiting = held_over h (waiting_of m0.below); turns = t })) (sym some)
+      ∙ ap (λ (l : CodeActivations). goes_to (record { control = executing f.body; now = next; below = callers_of l }) (record W { waiting = waiting_of l; turns = t })) (sym below)
+      ∙ ap (λ a. goes_to (record { control = executing f.body; now = a; below = callers_of m1.below }) (record W { waiting = waiting_of m1.below; turns = t })) (sym now)
+      ∙ ap (λ g. goes_to (state_at (executing f.body) m1) (record W { waiting = waiting_of m1.below; heap = g; turns = t })) (sym heap)
+      ∙ ap (λ u. goes_to (state_at (executing f.body) m1) (record W { waiting = waiting_of m1.below; heap = m1.heap; turns = u })) (sym left)

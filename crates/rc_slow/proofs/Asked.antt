@@ -1,6 +1,6 @@
 -- What a `getchar` gives, of what is left of the input.
 use Rattle.std.proofs.Common.{◌≡◌, ◌++◌, ◌∷◌, [], ℕ, pos, negsuc, List, drop, refl, sym, subst}
-use Rattle.rc_base.specs.Acts.{Getchar, getchars}
+use Rattle.rc_base.specs.Acts.{Getchar}
 use Rattle.rc_core.specs.Runs.{Go}
 use Rattle.rc_slow.specs.KeptWorld.{KeptWorld, kept, byte_from}
 use Rattle.rc_slow.specs.Outside.{later}

@@ -1,15 +1,16 @@
 -- One step further.
-use Rattle.std.proofs.Common.{◌≡◌, ◌∙◌, ◌+◌, ℕ, zero, List, [], ◌∷◌, ◌++◌, drop, Result, Ok, Err, OnOk, OnErr, IsTrue, refl, sym, ap, subst, append_assoc, append-nil}
+use Rattle.std.proofs.Common.{arith, ◌≡◌, ◌∙◌, ℕ, ℤ, List, [], ◌∷◌, ◌++◌, drop, Result, Ok, Err, OnOk, OnErr, IsTrue, refl, sym, ap, subst, append_assoc, append-nil}
 use Rattle.std.proofs.lemmas.List.{drop-drop}
 use Rattle.rc_base.specs.Acts.{Act, Write, Getchar, Gave, output, getchars}
 use Rattle.rc_base.proofs.ActLaws.{output-append, getchars-append, took_then}
 use Rattle.rc_base.specs.Sources.{SourceState}
 use Rattle.rc_base.specs.Sinks.{SinkState, Took}
 use Rattle.rc_base.specs.declared.ends.Limits.{Limits}
+use Rattle.rc_base.specs.declared.ends.RunFault.{RunFault}
 use Rattle.rc_base.specs.declared.ends.RunFault.TheVariants.{ReadFault, WriteFault, Memory}
 use Rattle.rc_core.specs.Heap.{Value, Number}
 use Rattle.rc_core.specs.Programs.{Program}
-use Rattle.rc_core.specs.Runs.{Stop, Ends as EndsStop, Stale as StaleStop, Run}
+use Rattle.rc_core.specs.Runs.{Stop, Ends as EndsStop, Stale as StaleStop, Run, Go, bind}
 use Rattle.std.specs.Prelude.{pos}
 use Rattle.rc_slow.specs.declared.machine.Machine.{Machine as CodeMachine}
 use Rattle.rc_slow.specs.declared.machine.Progress.{Progress as CodeProgress}
@@ -18,15 +19,16 @@ use Rattle.rc_slow.specs.declared.outside.Next.{Next as CodeNext}
 use Rattle.rc_slow.specs.declared.outside.Next.TheVariants.{Onward, Ended}
 use Rattle.rc_slow.specs.declared.stop.Stop.{Stop as CodeStop}
 use Rattle.rc_slow.specs.declared.stop.Stop.TheVariants.{Ends, Stale, Cut}
-use Rattle.rc_slow.specs.Advancing.{Finishes, Halts, HaltsAs, LeadsTo, onwards, standing, state_at}
+use Rattle.rc_slow.specs.Advancing.{Finishes, Halts, HaltsAs, standing, state_at}
 use Rattle.rc_slow.specs.Codes.{control_of}
 use Rattle.rc_slow.specs.Values.{value_of}
-use Rattle.rc_slow.specs.Going.{Way, at, Fits, Came, Going, Finished, Halted, Left, CutOff, StopsAt, Comes}
-use Rattle.rc_slow.specs.KeptWorld.{KeptWorld}
+use Rattle.rc_slow.specs.Going.{Way, way_from, at, Fits, Came, Going, Halted, Left, CutOff, StopsAt, Comes}
+use Rattle.rc_slow.specs.KeptWorld.{KeptWorld, kept}
 use Rattle.rc_slow.specs.Outside.{later}
-use Rattle.rc_slow.specs.Performing.{Performs, acts_of, past}
+use Rattle.rc_slow.specs.Performing.{HasFaultCause, Performs, acts_of, past}
 use Rattle.rc_slow.specs.Stepping.{Control, gives}
-use Rattle.rc_slow.specs.Whole.{State, control_step, whole}
+use Rattle.rc_slow.specs.Whole.{State, Progress, onward, ended, control_step, finally, whole}
+use Rattle.rc_slow.proofs.Steps.{assoc}
 use Rattle.rc_slow.proofs.Whole.{step_right}
 
 took_on : (way : Way) (a b : List Act) (input : SourceState) (out : SinkState) → way.out.tells ≡ way.first_out.tells → Came way a → Took (output b) way.out out → Took (output (a ++ b)) way.first_out out
@@ -53,12 +55,48 @@ past_later (EndedProgress value) a w = ap (λ l. later l w) (sym (append-nil a))
 past_later Asks a w = later_both a (Getchar ∷ []) w
 past_later (Writes byte) a w = later_both a (Write byte ∷ []) w
 
-nowhere : KeptWorld
+abbrev pub nowhere : KeptWorld
 nowhere = record { turns = 0; input = []; acts = []; heap = []; waiting = []; regions = 0; blocks = 0 }
 
+-- a step that stops the run has no fault of the outside
+pub step_cause : (fault : RunFault) (stop : CodeStop) (n : ℕ) (step : Run KeptWorld Progress) → (fault ≡ Memory → ⊥) → HaltsAs stop nowhere step → HasFaultCause {T = CodeNext} fault n n (Err stop)
+step_cause fault (Ends end) n step other halts = record { never_falls = omega arith; failed = λ is. absurd cc; kept = λ no. refl }
+step_cause fault (Stale line) n step other halts = record { never_falls = omega arith; failed = λ is. absurd cc; kept = λ no. refl }
+step_cause fault (Cut f) n step other halts =
+    let is_memory : f ≡ Memory = halts in
+    record { never_falls = omega arith; failed = λ is. absurd (other cc); kept = λ no. refl }
+
+-- a count that stayed so far
+pub cause_on : {T : Type 0} (fault : RunFault) (first before after : ℕ) (r : Result T CodeStop) → before ≡ first → HasFaultCause fault before after r → HasFaultCause fault first after r
+cause_on fault first before after r is cause = subst (λ n. HasFaultCause fault n after r) is cause
+
+pub cause_at : (fault : RunFault) (first before after : ℕ) (next next1 : CodeNext) → before ≡ first → next ≡ next1 → HasFaultCause fault before after (Ok next) → HasFaultCause fault first after (Ok next1)
+cause_at fault first before after next next1 is at cause = subst (λ n. HasFaultCause fault first after (Ok n)) at (cause_on fault first before after (Ok next) is cause)
+
+-- the same stop, or another value
+pub cause_of_stop : {T U : Type 0} (fault : RunFault) (before after : ℕ) (stop : CodeStop) → HasFaultCause {T = T} fault before after (Err stop) → HasFaultCause {T = U} fault before after (Err stop)
+cause_of_stop {T} {U} fault before after stop cause = record { never_falls = cause.never_falls; failed = λ is. cause.failed cc; kept = λ no. cause.kept (λ is. no cc) }
+
+pub cause_of_value : {T U : Type 0} (fault : RunFault) (before after : ℕ) (x : T) (y : U) → HasFaultCause {T = T} fault before after (Ok x) → HasFaultCause {T = U} fault before after (Ok y)
+cause_of_value {T} {U} fault before after x y cause = record { never_falls = cause.never_falls; failed = λ is. absurd cc; kept = λ no. cause.kept (λ is. cc) }
+
 module _ (program : Program) (limits : Limits) where
-  from_here : (way : Way) (control : Control) (m : CodeMachine) (going : Going program limits way control m) (w : KeptWorld) → Fits way.first_input w → way.start w ≡ onwards program limits (control_step program control (state_at control m) (standing limits m (later going.acts w)))
+  -- the step from here
+  abbrev pub step_from : Control → CodeMachine → KeptWorld → Run KeptWorld Progress
+  step_from control m w = control_step program control (state_at control m) (standing limits m w)
+
+  from_here : (way : Way) (control : Control) (m : CodeMachine) (going : Going program limits way control m) (w : KeptWorld) → Fits way.first_input w → way.start w ≡ bind (step_from control m (later going.acts w)) (finally program)
   from_here way control m going w fits = going.on w fits ∙ step_right program (state_at control m) (standing limits m (later going.acts w))
+
+  -- the run from a step that is this
+  by_step : (way : Way) (control : Control) (m : CodeMachine) (going : Going program limits way control m) (w : KeptWorld) → Fits way.first_input w → (step : Run KeptWorld Progress) → step_from control m (later going.acts w) ≡ step → way.start w ≡ bind step (finally program)
+  by_step way control m going w fits step is = from_here way control m going w fits ∙ ap (λ r. bind r (finally program)) is
+
+  halts_then : (stop : Stop) (w : KeptWorld) (step : Run KeptWorld Progress) → Halts stop w step → Halts stop w (bind step (finally program))
+  halts_then stop w step halts = record { world = halts.world; is = ap (λ r. bind r (finally program)) halts.is; quiet = halts.quiet }
+
+  finishes_then : (value : Value) (w : KeptWorld) (step : Run KeptWorld Progress) → Finishes (ended value) w step → Finishes value w (bind step (finally program))
+  finishes_then value w step finishes = record { world = finishes.world; is = ap (λ r. bind r (finally program)) finishes.is; quiet = finishes.quiet }
 
   here : (way : Way) (control : Control) (m : CodeMachine) (going : Going program limits way control m) (w : KeptWorld) → Fits way.first_input w → Left program limits (later going.acts w) Memory (way.start w)
   here way control m going w fits = record {
@@ -74,10 +112,17 @@ module _ (program : Program) (limits : Limits) where
   pub no_memory : (way : Way) (control : Control) (m : CodeMachine) → Going program limits way control m → CutOff program limits way Memory
   no_memory way control m going = record { acts = going.acts; came = going.came; on = here way control m going }
 
+  halted : (way : Way) (control : Control) (m : CodeMachine) (stop : Stop) → Going program limits way control m → ((w : KeptWorld) → Halts stop w (step_from control m w)) → Halted program limits way stop
+  halted way control m stop going halts = record {
+    acts = going.acts;
+    came = going.came;
+    on = λ w fits. subst (Halts stop (later going.acts w)) (sym (from_here way control m going w fits)) (halts_then stop (later going.acts w) (step_from control m (later going.acts w)) (halts (later going.acts w)));
+  }
+
   -- a step stops the run
-  pub stopped : (way : Way) (control : Control) (m : CodeMachine) (stop : CodeStop) → Going program limits way control m → ((w : KeptWorld) → HaltsAs stop w (onwards program limits (control_step program control (state_at control m) (standing limits m w)))) → StopsAt program limits way stop
-  stopped way control m (Ends end) going halts = record { acts = going.acts; came = going.came; on = λ w fits. subst (Halts (EndsStop end) (later going.acts w)) (sym (from_here way control m going w fits)) (halts (later going.acts w)) }
-  stopped way control m (Stale line) going halts = record { acts = going.acts; came = going.came; on = λ w fits. subst (Halts (StaleStop line) (later going.acts w)) (sym (from_here way control m going w fits)) (halts (later going.acts w)) }
+  pub stopped : (way : Way) (control : Control) (m : CodeMachine) (stop : CodeStop) → Going program limits way control m → ((w : KeptWorld) → HaltsAs stop w (step_from control m w)) → StopsAt program limits way stop
+  stopped way control m (Ends end) going halts = halted way control m (EndsStop end) going halts
+  stopped way control m (Stale line) going halts = halted way control m (StaleStop line) going halts
   stopped way control m (Cut fault) going halts = subst (CutOff program limits way) (sym (halts nowhere)) (no_memory way control m going)
 
   -- the world has the input that is left
@@ -85,61 +130,76 @@ module _ (program : Program) (limits : Limits) where
   fits_now way a came w fits = ap (drop (getchars a)) fits.1 ∙ sym (came.gave fits.0)
 
   -- a step, and what is done outside behind it
-  pub performed : (way : Way) (control : Control) (m m1 : CodeMachine) (p : CodeProgress) (r : Result CodeNext CodeStop) (input : SourceState) (out : SinkState) → way.input.tells ≡ way.first_input.tells → way.out.tells ≡ way.first_out.tells → Going program limits way control m → ((w : KeptWorld) → LeadsTo program limits p m1 w (onwards program limits (control_step program control (state_at control m) (standing limits m w)))) → ((w : KeptWorld) (run : Run KeptWorld Value) → IsTrue way.input.tells → w.input ≡ way.input.rest → LeadsTo program limits p m1 w run → Performs program limits p r m1 w run) → OnOk r (Took (output (acts_of p)) way.out out) → OnOk r (Gave (acts_of p) way.input input) → OnErr r (Took [] way.out out) → OnErr r (Gave [] way.input input) → Comes program limits (at way input out) r m1
-  performed way control m m1 p (Ok (Onward c)) input out in_tells out_tells going leads performs took gave none_took none_gave = record {
+  pub performed : (way : Way) (control : Control) (m m1 : CodeMachine) (p : CodeProgress) (r : Result CodeNext CodeStop) (input : SourceState) (out : SinkState) → way.input.tells ≡ way.first_input.tells → way.out.tells ≡ way.first_out.tells → Going program limits way control m → ((w : KeptWorld) → IsTrue way.input.tells → w.input ≡ way.input.rest → Performs limits p r m1 w (step_from control m w)) → OnOk r (Took (output (acts_of p)) way.out out) → OnOk r (Gave (acts_of p) way.input input) → OnErr r (Took [] way.out out) → OnErr r (Gave [] way.input input) → Comes program limits (at way input out) r m1
+  performed way control m m1 p (Ok (Onward c)) input out in_tells out_tells going performs took gave none_took none_gave = record {
     acts = going.acts ++ acts_of p;
     came = came_on way going.acts (acts_of p) input out in_tells out_tells going.came took gave;
     on = λ w fits.
-        from_here way control m going w fits
-        ∙ performs (later going.acts w) _ (subst IsTrue (sym in_tells) fits.0) (fits_now way going.acts going.came w fits) (leads (later going.acts w))
+        by_step way control m going w fits _ (performs (later going.acts w) (subst IsTrue (sym in_tells) fits.0) (fits_now way going.acts going.came w fits))
         ∙ ap (λ v. whole program (state_at (control_of c) m1) (standing limits m1 v)) (past_later p going.acts w);
   }
-  performed way control m m1 p (Ok (Ended value)) input out in_tells out_tells going leads performs took gave none_took none_gave = record {
+  performed way control m m1 p (Ok (Ended value)) input out in_tells out_tells going performs took gave none_took none_gave = record {
     acts = going.acts ++ acts_of p;
     came = came_on way going.acts (acts_of p) input out in_tells out_tells going.came took gave;
     on = λ w fits.
         subst (λ v. Finishes (value_of value) v (way.start w)) (past_later p going.acts w)
         (subst (Finishes (value_of value) (past p (later going.acts w))) (sym (from_here way control m going w fits))
-        (performs (later going.acts w) _ (subst IsTrue (sym in_tells) fits.0) (fits_now way going.acts going.came w fits) (leads (later going.acts w))));
+        (finishes_then (value_of value) (past p (later going.acts w)) (step_from control m (later going.acts w))
+        (performs (later going.acts w) (subst IsTrue (sym in_tells) fits.0) (fits_now way going.acts going.came w fits))));
   }
-  performed way control m m1 p (Err (Ends end)) input out in_tells out_tells going leads performs took gave none_took none_gave = record {
+  performed way control m m1 p (Err (Ends end)) input out in_tells out_tells going performs took gave none_took none_gave = record {
     acts = going.acts ++ [];
     came = came_on way going.acts [] input out in_tells out_tells going.came none_took none_gave;
-    on = λ w fits. absurd (performs (later going.acts w) _ (subst IsTrue (sym in_tells) fits.0) (fits_now way going.acts going.came w fits) (leads (later going.acts w)));
+    on = λ w fits. absurd (performs (later going.acts w) (subst IsTrue (sym in_tells) fits.0) (fits_now way going.acts going.came w fits));
   }
-  performed way control m m1 p (Err (Stale line)) input out in_tells out_tells going leads performs took gave none_took none_gave = record {
+  performed way control m m1 p (Err (Stale line)) input out in_tells out_tells going performs took gave none_took none_gave = record {
     acts = going.acts ++ [];
     came = came_on way going.acts [] input out in_tells out_tells going.came none_took none_gave;
-    on = λ w fits. absurd (performs (later going.acts w) _ (subst IsTrue (sym in_tells) fits.0) (fits_now way going.acts going.came w fits) (leads (later going.acts w)));
+    on = λ w fits. absurd (performs (later going.acts w) (subst IsTrue (sym in_tells) fits.0) (fits_now way going.acts going.came w fits));
   }
-  performed way control m m1 p (Err (Cut Memory)) input out in_tells out_tells going leads performs took gave none_took none_gave = record {
+  performed way control m m1 p (Err (Cut Memory)) input out in_tells out_tells going performs took gave none_took none_gave = record {
     acts = going.acts ++ [];
     came = came_on way going.acts [] input out in_tells out_tells going.came none_took none_gave;
-    on = λ w fits. absurd (performs (later going.acts w) _ (subst IsTrue (sym in_tells) fits.0) (fits_now way going.acts going.came w fits) (leads (later going.acts w)));
+    on = λ w fits. absurd (performs (later going.acts w) (subst IsTrue (sym in_tells) fits.0) (fits_now way going.acts going.came w fits));
   }
-  performed way control m m1 p (Err (Cut ReadFault)) input out in_tells out_tells going leads performs took gave none_took none_gave = record {
-    acts = going.acts ++ [];
-    came = came_on way going.acts [] input out in_tells out_tells going.came none_took none_gave;
-    on = λ w fits. record {
-      state = state_at control m;
-      world = standing limits m (later going.acts w);
-      acts = ap (λ l. w.acts ++ l) (sym (append-nil going.acts));
-      on = going.on w fits;
-      at_read = λ is. (standing limits m1 (later going.acts w), ap (λ l. w.acts ++ l) (sym (append-nil going.acts)), ((λ n. state_at (gives (Number n)) m1), from_here way control m going w fits ∙ performs (later going.acts w) _ (subst IsTrue (sym in_tells) fits.0) (fits_now way going.acts going.came w fits) (leads (later going.acts w))));
-      at_write = λ is. absurd cc;
-    };
-  }
-  performed way control m m1 p (Err (Cut WriteFault)) input out in_tells out_tells going leads performs took gave none_took none_gave = record {
+  performed way control m m1 p (Err (Cut ReadFault)) input out in_tells out_tells going performs took gave none_took none_gave = record {
     acts = going.acts ++ [];
     came = came_on way going.acts [] input out in_tells out_tells going.came none_took none_gave;
     on = λ w fits.
-        let cut = performs (later going.acts w) _ (subst IsTrue (sym in_tells) fits.0) (fits_now way going.acts going.came w fits) (leads (later going.acts w)) in
+        let now = standing limits m1 (later going.acts w) in
+        let next : ℤ → State = λ n. state_at (gives (Number n)) m1 in
+        record {
+          state = state_at control m;
+          world = standing limits m (later going.acts w);
+          acts = ap (λ l. w.acts ++ l) (sym (append-nil going.acts));
+          on = going.on w fits;
+          at_read = λ is. (
+            now,
+            ap (λ l. w.acts ++ l) (sym (append-nil going.acts)),
+            (
+              next,
+              by_step way control m going w fits _ (performs (later going.acts w) (subst IsTrue (sym in_tells) fits.0) (fits_now way going.acts going.came w fits))
+                  ∙ assoc (kept.get_byte now) (λ n. Go (onward (next n))) (finally program),
+            ),
+          );
+          at_write = λ is. absurd cc;
+        };
+  }
+  performed way control m m1 p (Err (Cut WriteFault)) input out in_tells out_tells going performs took gave none_took none_gave = record {
+    acts = going.acts ++ [];
+    came = came_on way going.acts [] input out in_tells out_tells going.came none_took none_gave;
+    on = λ w fits.
+        let cut = performs (later going.acts w) (subst IsTrue (sym in_tells) fits.0) (fits_now way going.acts going.came w fits) in
         record {
           state = state_at control m;
           world = standing limits m (later going.acts w);
           acts = ap (λ l. w.acts ++ l) (sym (append-nil going.acts));
           on = going.on w fits;
           at_read = λ is. absurd cc;
-          at_write = λ is. (standing limits m1 (later going.acts w), ap (λ l. w.acts ++ l) (sym (append-nil going.acts)), (cut.0, (state_at (gives (Number (pos cut.0))) m1, from_here way control m going w fits ∙ cut.1)));
+          at_write = λ is. (standing limits m1 (later going.acts w), ap (λ l. w.acts ++ l) (sym (append-nil going.acts)), (cut.0, (state_at (gives (Number (pos cut.0))) m1, by_step way control m going w fits _ cut.1)));
         };
   }
+
+  -- a run that came to the one place came to the other, from wherever it started
+  abbrev pub Reaches : SourceState → SinkState → Control → CodeMachine → SourceState → SinkState → Control → CodeMachine → Type 0
+  Reaches input out control m input1 out1 control1 m1 = (start : KeptWorld → Run KeptWorld Value) (first_input : SourceState) (first_out : SinkState) → input.tells ≡ first_input.tells → out.tells ≡ first_out.tells → Going program limits (way_from start first_input input first_out out) control m → Going program limits (way_from start first_input input1 first_out out1) control1 m1

@@ -9,8 +9,14 @@ pub mod Simulation
 pub mod Keeps
 pub mod Steps
 pub mod Whole
+pub mod Sizes
+pub mod Alone
 pub mod Advances
 pub mod Asked
 pub mod Goings
 pub mod Prefixes
 pub mod WholeAgrees
+pub mod Fallings
+pub mod Beginnings
+pub mod Evaluated
+pub mod Copying

@@ -1,5 +1,5 @@
 -- What is live behind frames, counted from without and from within.
-use Rattle.std.proofs.Common.{◌≡◌, ◌<◌, ◌+◌, ℕ, zero, suc, Bool, true, false, refl, sym, ap, ◌∙◌, arith, subst, List, [], ◌∷◌, ◌++◌, length, map, take, get_or}
+use Rattle.std.proofs.Common.{◌≡◌, ◌<◌, ◌+◌, ℕ, zero, suc, Bool, true, false, refl, ap, ◌∙◌, arith, List, [], ◌∷◌, ◌++◌, length, map, take, get_or}
 use Rattle.std.specs.Prelude.{reverse}
 use Rattle.std.proofs.lemmas.List.{length-map, length-take-le, map-append, reverse-append, take_more}
 use Rattle.rc_core.specs.Programs.{Stmt, block, declare, assign, store, update, copy, evaluate, delete, branch, while, repeat, for, break, continue, return, Stmts, done, then}
@@ -13,7 +13,7 @@ use Rattle.rc_slow.specs.declared.frames.Frame.{Frame}
 use Rattle.rc_slow.specs.declared.frames.Frame.TheVariants.{First as FirstFrame, Second, Argument, Pointer as PointerFrame, Index, Element, Load, Inside}
 use Rattle.rc_slow.specs.declared.value.Value.{Value as CodeValue}
 use Rattle.rc_slow.specs.Values.{value_of}
-use Rattle.rc_slow.specs.Codes.{behind_so_many, rest_behind, stage_of, frame_of, frames_of}
+use Rattle.rc_slow.specs.Codes.{behind_so_many, rest_behind, stage_of, frames_of}
 use Rattle.rc_slow.specs.Frames.{behind_value, behind_test, behind_body, behind_part, through, ways}
 use Rattle.rc_slow.specs.LiveBehind.{value_ways, test_ways, body_ways, head_ways, rest_of, one_ways, stage_ways, frame_ways, frames_ways}
 

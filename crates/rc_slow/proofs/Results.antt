@@ -1,5 +1,5 @@
 -- What an answer's clauses say together.
-use Rattle.std.proofs.Common.{◌≡◌, ℕ, zero, suc, List, [], ◌∷◌, Result, Ok, Err, IfOk, IfErr, refl, sym, ap, ◌∙◌, Option, Some, None}
+use Rattle.std.proofs.Common.{◌≡◌, ℕ, zero, suc, List, [], ◌∷◌, Result, Ok, Err, IfOk, IfErr, refl, sym, ap, ◌∙◌, Some, None}
 use Rattle.std.specs.Prelude.{slice_get}
 use Rattle.rc_base.specs.declared.ends.RunFault.TheVariants.{Memory}
 use Rattle.rc_core.specs.declared.stmt.Stmt.{Stmt as CodeStmt}
@@ -13,7 +13,7 @@ use Rattle.rc_slow.specs.declared.stop.Stop.TheVariants.{Ends, Stale, Cut}
 use Rattle.rc_slow.specs.Codes.{control_of, behind_so_many}
 use Rattle.rc_slow.specs.Coming.{Comes, StopsRun}
 use Rattle.rc_slow.specs.Frames.{Frame}
-use Rattle.rc_slow.specs.KeptWorld.{KeptWorld, with_heap}
+use Rattle.rc_slow.specs.KeptWorld.{KeptWorld}
 use Rattle.rc_slow.specs.Stepping.{Doing, doing, execute, within_step}
 
 pub if_ok_map : {T E : Type 0} (r : Result T E) (P Q : T → Type 0) → ((x : T) → P x → Q x) → IfOk r P → IfOk r Q

@@ -1,16 +1,15 @@
 -- Where a change of world agrees with what is done to it, so does the run of the machine from any state on.
-use Rattle.std.proofs.Common.{◌≡◌, ◌∙◌, ℕ, zero, suc, pos, Bool, true, false, not, List, [], ◌∷◌, ◌++◌, Option, Some, None, refl, sym, ap, subst}
-use Rattle.std.specs.Prelude.{if◌then◌else◌}
+use Rattle.std.proofs.Common.{◌≡◌, ◌∙◌, ℕ, suc, pos, List, [], ◌∷◌, ◌++◌, Option, refl, sym, ap}
 use Rattle.rc_core.specs.Numbers.{byte_of}
-use Rattle.rc_core.specs.Arithmetic.{converted, calculate, calculate_one}
+use Rattle.rc_core.specs.Arithmetic.{calculate, calculate_one}
 use Rattle.rc_core.specs.Types.{struct}
 use Rattle.rc_core.specs.Programs.{Expr, constant, null, string, local, read, address, step, step_from, unary, binary, convert, not_zero, and, or, choose, is_null, same, call, new_region, new_subregion, region_of, allocate, allocate_array, putchar, getchar, Place, global, pointed, indexed, Stmt, block, declare, assign, store, update, copy, evaluate, delete, branch, while, repeat, for, break, continue, return, Function, Program}
 use Rattle.rc_core.specs.Layout.{cells, size}
 use Rattle.rc_core.specs.Heap.{Value, Number}
 use Rattle.rc_core.specs.Live.{Ways, before, while_body, repeat_body, repeat_head, for_third, for_body, either}
-use Rattle.rc_core.specs.Runs.{Run, Go, Stopped, bind, branching, Target, Calls}
-use Rattle.rc_core.specs.Evaluation.{eval, number_in, is_true, toward, aimed, choosing}
-use Rattle.rc_core.specs.Execution.{Flow, Next, Broke, Continued, Returned, held, behind_body as behind_round, behind, calling, value_of, test_of, exec, calls_within}
+use Rattle.rc_core.specs.Runs.{Run, Go, Target, Calls}
+use Rattle.rc_core.specs.Evaluation.{eval, number_in, is_true, toward, aimed}
+use Rattle.rc_core.specs.Execution.{Flow, Next, Broke, Continued, Returned, held, calls_within}
 use Rattle.rc_slow.specs.Change.{mapped, Agree}
 use Rattle.rc_slow.specs.KeptWorld.{KeptWorld, kept}
 use Rattle.rc_slow.specs.Frames.{Frame, first, second, argument, pointer, index, element as element_frame, load, inside, Stage, placed, sourced, valued, stored, within, tested, bodied, headed, thirded, ways}

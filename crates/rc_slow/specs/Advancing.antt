@@ -1,10 +1,10 @@
--- What the evaluator's answer to a step says of the whole run from there on.
-use Rattle.std.specs.Prelude.{◌≡◌, ℕ, pos, Bool, true, false, List, Result, Ok, Err}
+-- What the evaluator's answer to a step says of the step.
+use Rattle.std.specs.Prelude.{◌≡◌, pos, Bool, true, false, Result, Ok, Err}
 use Rattle.rc_base.specs.Acts.{Write}
 use Rattle.rc_base.specs.declared.ends.Limits.{Limits}
 use Rattle.rc_base.specs.declared.ends.RunFault.TheVariants.{Memory}
-use Rattle.rc_core.specs.Heap.{Number, Value}
-use Rattle.rc_core.specs.Programs.{Expr, call, new_region, getchar, Program}
+use Rattle.rc_core.specs.Heap.{Number}
+use Rattle.rc_core.specs.Programs.{Expr, call, new_region, getchar}
 use Rattle.rc_core.specs.Runs.{Stop, Ends, Stale, Run, Go, Stopped, bind}
 use Rattle.rc_slow.specs.declared.frames.Control.{Control as CodeControl}
 use Rattle.rc_slow.specs.declared.machine.Machine.{Machine as CodeMachine}
@@ -17,7 +17,7 @@ use Rattle.rc_slow.specs.KeptWorld.{KeptWorld, kept, doing}
 use Rattle.rc_slow.specs.Standing.{activation_of, callers_of, waiting_of}
 use Rattle.rc_slow.specs.Stepping.{Control, gives}
 use Rattle.rc_slow.specs.Values.{value_of}
-use Rattle.rc_slow.specs.Whole.{State, Progress, whole, finally}
+use Rattle.rc_slow.specs.Whole.{State, Progress, onward, ended}
 
 -- the machine with this to do, and the world as it keeps it; what it doesn't keep is that of w
 abbrev pub state_at : Control → CodeMachine → State
@@ -36,9 +36,9 @@ pub record Halts {A : Type 0} (stop : Stop) (w : KeptWorld) (run : Run KeptWorld
   pub is : run ≡ Stopped stop world
   pub quiet : Quiet w world
 
-pub record Finishes (value : Value) (w : KeptWorld) (run : Run KeptWorld Value) : Type 0 where
+pub record Finishes {A : Type 0} (result : A) (w : KeptWorld) (run : Run KeptWorld A) : Type 0 where
   pub world : KeptWorld
-  pub is : run ≡ Go value world
+  pub is : run ≡ Go result world
   pub quiet : Quiet w world
 
 abbrev pub HaltsAs : {A : Type 0} → CodeStop → KeptWorld → Run KeptWorld A → Type 0
@@ -53,22 +53,18 @@ begins_alone (new_region line) = false
 begins_alone (getchar line) = false
 begins_alone _ = true
 
-module _ (program : Program) (limits : Limits) where
-  -- of a run of the whole
-  abbrev pub Leads : Result CodeControl CodeStop → CodeMachine → KeptWorld → Run KeptWorld Value → Type 0
-  Leads (Ok control) m w run = run ≡ whole program (state_at (control_of control) m) (standing limits m w)
-  Leads (Err stop) m w run = HaltsAs stop w run
+module _ (limits : Limits) where
+  -- of a step that stays inside
+  abbrev pub Leads : Result CodeControl CodeStop → CodeMachine → KeptWorld → Run KeptWorld Progress → Type 0
+  Leads (Ok control) m w step = step ≡ Go (onward (state_at (control_of control) m)) (standing limits m w)
+  Leads (Err stop) m w step = HaltsAs stop w step
 
-  abbrev pub LeadsTo : CodeProgress → CodeMachine → KeptWorld → Run KeptWorld Value → Type 0
-  LeadsTo (Onward control) m w run = run ≡ whole program (state_at (control_of control) m) (standing limits m w)
-  LeadsTo (Ended value) m w run = Finishes (value_of value) w run
-  LeadsTo Asks m w run = run ≡ bind (kept.get_byte (standing limits m w)) (λ n. whole program (state_at (gives (Number n)) m))
-  LeadsTo (Writes byte) m w run = run ≡ whole program (state_at (gives (Number (pos byte))) m) (doing (standing limits m w) (Write byte))
+  abbrev pub LeadsTo : CodeProgress → CodeMachine → KeptWorld → Run KeptWorld Progress → Type 0
+  LeadsTo (Onward control) m w step = step ≡ Go (onward (state_at (control_of control) m)) (standing limits m w)
+  LeadsTo (Ended value) m w step = Finishes (ended (value_of value)) w step
+  LeadsTo Asks m w step = step ≡ bind (kept.get_byte (standing limits m w)) (λ n. Go (onward (state_at (gives (Number n)) m)))
+  LeadsTo (Writes byte) m w step = step ≡ Go (onward (state_at (gives (Number (pos byte))) m)) (doing (standing limits m w) (Write byte))
 
-  abbrev pub Advances : Result CodeProgress CodeStop → CodeMachine → KeptWorld → Run KeptWorld Value → Type 0
-  Advances (Ok progress) m w run = LeadsTo progress m w run
-  Advances (Err stop) m w run = HaltsAs stop w run
-
-  -- the whole run that goes on as a step says
-  abbrev pub onwards : Run KeptWorld Progress → Run KeptWorld Value
-  onwards step = bind step (finally program)
+  abbrev pub Advances : Result CodeProgress CodeStop → CodeMachine → KeptWorld → Run KeptWorld Progress → Type 0
+  Advances (Ok progress) m w step = LeadsTo progress m w step
+  Advances (Err stop) m w step = HaltsAs stop w step

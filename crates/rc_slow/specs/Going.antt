@@ -14,6 +14,7 @@ use Rattle.rc_slow.specs.declared.outside.Next.{Next as CodeNext}
 use Rattle.rc_slow.specs.declared.outside.Next.TheVariants.{Onward, Ended}
 use Rattle.rc_slow.specs.declared.stop.Stop.{Stop as CodeStop}
 use Rattle.rc_slow.specs.declared.stop.Stop.TheVariants.{Ends, Stale, Cut}
+use Rattle.rc_slow.specs.declared.value.Value.{Value as CodeValue}
 use Rattle.rc_slow.specs.Advancing.{Finishes, Halts, standing, state_at}
 use Rattle.rc_slow.specs.Codes.{control_of}
 use Rattle.rc_slow.specs.KeptWorld.{KeptWorld, kept, doing}
@@ -29,6 +30,10 @@ pub record Way : Type 0 where
   pub input : SourceState
   pub first_out : SinkState
   pub out : SinkState
+
+-- a run from a start, and the outside then and now
+abbrev pub way_from : (KeptWorld → Run KeptWorld Value) → (first_input input : SourceState) → (first_out out : SinkState) → Way
+way_from start first_input input first_out out = record { start = start; first_input = first_input; input = input; first_out = first_out; out = out }
 
 -- with the outside as it is now
 abbrev pub at : Way → SourceState → SinkState → Way
@@ -81,3 +86,8 @@ module _ (program : Program) (limits : Limits) where
   Comes way (Ok (Onward control)) m = Going way (control_of control) m
   Comes way (Ok (Ended value)) m = Finished way (value_of value)
   Comes way (Err stop) m = StopsAt way stop
+
+  -- a run to its end
+  abbrev pub Arrives : Way → Result CodeValue CodeStop → Type 0
+  Arrives way (Ok value) = Finished way (value_of value)
+  Arrives way (Err stop) = StopsAt way stop

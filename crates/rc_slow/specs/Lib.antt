@@ -10,6 +10,7 @@ pub mod Frames
 pub mod Machine
 pub mod Stepping
 pub mod Whole
+pub mod Size
 pub mod Prefix
 pub mod Codes
 pub mod Coming
@@ -19,3 +20,6 @@ pub mod Outside
 pub mod Performing
 pub mod Going
 pub mod Leaving
+pub mod Falling
+pub mod Beginning
+pub mod Evaluates

@@ -11,7 +11,7 @@ use Rattle.rc_slow.specs.Machine.{give_on}
 use Rattle.rc_slow.specs.Stepping.{Control, evaluating, executing, going_along, gives, aims, goes, breaks, continues, returns, Doing, doing, control_on, begin, giving_next, first_step, second_step, pointer_step, index_step, along_step, execute, given_step, aimed_step, go_step, continue_step, break_step}
 
 -- a call that runs or waits: its function, what waits in it, its locals, and how many calls may stand inside one another in
--- it; while it waits, whether the called function deletes, and which values waited before the call
+-- it; while it waits, whether the called function deletes, and which values waited before the call, else neither
 pub record Activation : Type 0 where
   pub function : Function
   pub frames : List Frame
@@ -86,10 +86,10 @@ module _ (program : Program) where
   argument_step g vs none s v fs w = call_step g (record s { now = record s.now { frames = fs } }) (vs ++ v ∷ []) w
   argument_step g vs (more e rest) s v fs w = staying s (Go (doing (evaluating e) (argument g (vs ++ v ∷ []) rest ∷ fs) s.now.locals) w)
 
-  -- a call has its value
+  -- a call has its value; what its caller waited with counts no more
   abbrev pub leave_step : Value → List Activation → KeptWorld → Run KeptWorld Progress
   leave_step v [] w = Go (ended v) w
-  leave_step v (a ∷ below) w = Go (onward (record { control = gives v; now = a; below = below })) (left a w)
+  leave_step v (a ∷ below) w = Go (onward (record { control = gives v; now = record a { deletes = false; waits = [] }; below = below })) (left a w)
 
   abbrev pub give_step : List Frame → Value → State → KeptWorld → Run KeptWorld Progress
   give_step [] v s w = leave_step v s.below w

@@ -9,7 +9,8 @@ ghost use Rattle.rc_base.specs.Acts.{Act};
 ghost use Rattle.rc_core.specs.Runs.{bind};
 ghost use Rattle.rc_slow.specs.KeptWorld.{KeptWorld, kept, kept_world};
 ghost use Rattle.rc_slow.specs.Prefix.{behind_acts};
-ghost use Rattle.rc_slow.specs.Whole.{Progress, State, finally, started, steps, whole};
+ghost use Rattle.rc_slow.specs.Size.{Falls};
+ghost use Rattle.rc_slow.specs.Whole.{Progress, State, control_step, finally, started, steps, whole};
 
 /// A law: a run that keeps of a dead region its parent alone, and of a cell's type what it holds and
 /// its annotation, gives and does what the source's run does, and leaves what is kept of its world.
@@ -27,4 +28,9 @@ pub fn the_machine_is_right()
 pub fn acts_stay_done()
     ensures main { (program : Program) (acts : List Act) (w : KeptWorld) → mapped (behind_acts acts) (run_main kept program w) ≡ run_main kept program (behind_acts acts w) }
     ensures anywhere { (program : Program) (acts : List Act) (s : State) (w : KeptWorld) → mapped (behind_acts acts) (whole program s w) ≡ whole program s (behind_acts acts w) }
+{}
+
+/// A law: each step that takes no turn leaves less to do, so that only so many lie between two turns.
+pub fn a_step_leaves_less()
+    ensures { (program : Program) (s : State) (w : KeptWorld) → Falls s w (control_step program s.control s w) }
 {}

@@ -1,15 +1,16 @@
 //! The slow way to run a program: an evaluator that does what the meaning of the program says, node by
 //! node. What waits, in calls and round them, lies in its own lists.
 //!
-//! The evaluator itself is not finished: nothing here runs a program. What stands is proved: the laws
-//! that it rests on, which this crate exports, and the parts that it is made of, which nothing calls yet.
-//! These are arithmetic, values, places, the heap, what is live behind a statement, the calls that wait,
-//! a step of the machine, inside a call and between calls, and what is done outside behind a step. The
-//! loop that makes the steps is not here.
+//! `evaluate` lays out the program's structs, makes the first heap and the call of `main`, and makes step
+//! after step. Where the input tells its bytes, its end and its acts are those of the program's meaning,
+//! and no run comes to a deleted region, which rc_safety shows of the meaning. The laws say why: what is
+//! kept of the world is enough, the steps come to what the run comes to at once, each step leaves less to
+//! do or takes a turn, and what was done stays done.
 #![tactic(auto)]
 
 mod arithmetic;
 mod calls;
+mod evaluating;
 mod expressions;
 mod frames;
 mod heap;
@@ -22,6 +23,7 @@ mod outside;
 mod paths;
 mod places;
 mod region;
+mod run;
 mod statements;
 mod stop;
 mod storing;
@@ -30,8 +32,11 @@ mod value;
 mod values;
 mod waiting;
 
-pub use laws::{acts_stay_done, the_machine_is_right, what_is_kept_is_enough};
+pub use evaluating::evaluate;
+pub use laws::{a_step_leaves_less, acts_stay_done, the_machine_is_right, what_is_kept_is_enough};
 
+#[cfg(test)]
+mod evaluating_tests;
 #[cfg(test)]
 mod heap_tests;
 #[cfg(test)]

@@ -1,13 +1,13 @@
 // The machine: a step at a time, inside a call and between calls.
 
-ghost use Rattle.std.specs.Prelude.{◌≡◌, ◌≤◌, ◌∷◌, List, ℕ, is_some, option_map, slice_get, IfOk, IfErr, IsTrue};
+ghost use Rattle.std.specs.Prelude.{◌≡◌, ◌≤◌, ◌∷◌, List, ℕ, true, is_some, option_map, slice_get, IfOk, IfErr, IsTrue};
 ghost use Rattle.rc_base.specs.declared.ends.Limits.{Limits as RunLimits};
 ghost use Rattle.rc_core.specs.Execution.{held, zero_result};
 ghost use Rattle.rc_core.specs.Heap.{Value as HeapValue};
 ghost use Rattle.rc_core.specs.Programs.{Program, call};
 ghost use Rattle.rc_core.specs.Runs.{Go, Run};
 ghost use Rattle.rc_core.specs.Shapes.{arguments_of, expr_of, function_of, program_of, stmt_of};
-ghost use Rattle.rc_slow.specs.Advancing.{Advances, Leads, LeadsTo, begins_alone, onwards, standing, state_at};
+ghost use Rattle.rc_slow.specs.Advancing.{Advances, Leads, LeadsTo, begins_alone, standing, state_at};
 ghost use Rattle.rc_slow.specs.Codes.{control_of, frame_of, frames_of, stage_of};
 ghost use Rattle.rc_slow.specs.Coming.{Comes, stays_inside, with_turns};
 ghost use Rattle.rc_slow.specs.Frames.{Frame as MachineFrame, ways};
@@ -19,7 +19,7 @@ ghost use Rattle.rc_slow.specs.Values.{value_of};
 ghost use Rattle.rc_slow.specs.declared.machine.Machine.{Machine as CodeMachine};
 ghost use Rattle.rc_slow.specs.declared.stop.Stop.TheVariants.{Cut};
 ghost use Rattle.rc_base.specs.declared.ends.RunFault.TheVariants.{Memory};
-ghost use Rattle.rc_slow.specs.Whole.{State, aim_step, argument_step, breaks_step, call_from, call_step, continues_step, control_step, entered, evaluate_step, give_step, goes_step, leave_step, returns_step, staying};
+ghost use Rattle.rc_slow.specs.Whole.{Progress as MachineProgress, State, aim_step, argument_step, breaks_step, call_from, call_step, continues_step, control_step, entered, evaluate_step, give_step, goes_step, leave_step, returns_step, staying};
 
 use crate::arithmetic::byte_of;
 use crate::calls::{Activation, Callers, first_locals, held_for};
@@ -38,7 +38,7 @@ use crate::target::Target;
 use crate::value::{Value, number_in};
 use crate::values::Values;
 use crate::waiting::Waiting;
-use rc_base::{End, Limits, RunFault};
+use rc_base::{End, Limits};
 use rc_core::expr::Expr;
 use rc_core::parts::{Function, Parts};
 use rc_core::stmt::Stmt;
@@ -77,7 +77,7 @@ pub(crate) enum Progress<'p> {
 
 /// A step inside a call leads on, where it leads anywhere.
 fn onward<'p>(control: Result<Control<'p>, Stop>) -> Result<Progress<'p>, Stop>
-    ensures { (program : Program) (limits : RunLimits) (m : CodeMachine) (w : KeptWorld) (run : Run KeptWorld HeapValue) → Leads program limits control.entry m w run → Advances program limits result m w run }
+    ensures { (limits : RunLimits) (m : CodeMachine) (w : KeptWorld) (step : Run KeptWorld MachineProgress) → Leads limits control.entry m w step → Advances limits result m w step }
 {
     match control {
         Ok(control) => Ok(Progress::Onward(control)),
@@ -102,7 +102,7 @@ fn enter<'p>(
 ) -> Result<Control<'p>, Stop>
     requires calls { 1 ≤ machine.old.now.calls }
     requires turns { 1 ≤ machine.old.turns }
-    ensures { (program : Program) (limits : RunLimits) (k : MachineControl) (w : KeptWorld) → Leads program limits result machine.new w (onwards program limits (call_from program machine.old.now.calls (Some (function_of function.now)) (waiting_of machine.old.below) (state_at k machine.old) arguments (entered program function.now.deletes (state_at k machine.old) (standing limits machine.old w)))) }
+    ensures { (program : Program) (limits : RunLimits) (k : MachineControl) (w : KeptWorld) → Leads limits result machine.new w (call_from program machine.old.now.calls (Some (function_of function.now)) (waiting_of machine.old.below) (state_at k machine.old) arguments (entered program function.now.deletes (state_at k machine.old) (standing limits machine.old w))) }
 {
     let held = holding(alloc, function, &machine.now)?;
     let next = Activation {
@@ -133,7 +133,7 @@ fn call<'p>(
     number: u32,
     arguments: Values,
 ) -> Result<Control<'p>, Stop>
-    ensures { (k : MachineControl) (w : KeptWorld) → Leads (program_of setting.now.parts.now) setting.now.limits result machine.new w (onwards (program_of setting.now.parts.now) setting.now.limits (call_step (program_of setting.now.parts.now) number (state_at k machine.old) arguments (standing setting.now.limits machine.old w))) }
+    ensures { (k : MachineControl) (w : KeptWorld) → Leads setting.now.limits result machine.new w (call_step (program_of setting.now.parts.now) number (state_at k machine.old) arguments (standing setting.now.limits machine.old w)) }
 {
     if machine.now.calls == 0 {
         return Err(Stop::Ends(End::Spent));
@@ -157,7 +157,7 @@ fn begin_call<'p>(
     number: u32,
     arguments: &'p [Expr],
 ) -> Result<Control<'p>, Stop>
-    ensures { (k : MachineControl) (line : ℕ) (w : KeptWorld) → Leads (program_of setting.now.parts.now) setting.now.limits result machine.new w (onwards (program_of setting.now.parts.now) setting.now.limits (evaluate_step (program_of setting.now.parts.now) (call line number (arguments_of arguments.now)) (state_at k machine.old) (standing setting.now.limits machine.old w))) }
+    ensures { (k : MachineControl) (line : ℕ) (w : KeptWorld) → Leads setting.now.limits result machine.new w (evaluate_step (program_of setting.now.parts.now) (call line number (arguments_of arguments.now)) (state_at k machine.old) (standing setting.now.limits machine.old w)) }
 {
     let values = Values::new(setting.alloc);
     let Some((first, rest)) = arguments.split_first() else {
@@ -179,7 +179,7 @@ fn pass<'p>(
     rest: &'p [Expr],
     value: Value,
 ) -> Result<Control<'p>, Stop>
-    ensures { (k : MachineControl) (w : KeptWorld) → Leads (program_of setting.now.parts.now) setting.now.limits result machine.new w (onwards (program_of setting.now.parts.now) setting.now.limits (argument_step (program_of setting.now.parts.now) number values (arguments_of rest.now) (state_at k machine.old) (value_of value) (frames_of machine.old.now.frames) (standing setting.now.limits machine.old w))) }
+    ensures { (k : MachineControl) (w : KeptWorld) → Leads setting.now.limits result machine.new w (argument_step (program_of setting.now.parts.now) number values (arguments_of rest.now) (state_at k machine.old) (value_of value) (frames_of machine.old.now.frames) (standing setting.now.limits machine.old w)) }
 {
     let mut values = values;
     values.push(value)?;
@@ -195,7 +195,7 @@ fn pass<'p>(
 
 /// The call that runs has a value.
 fn leave<'p>(machine: &mut Machine<'p>, value: Value) -> Progress<'p>
-    ensures { (program : Program) (limits : RunLimits) (k : MachineControl) (w : KeptWorld) → LeadsTo program limits result machine.new w (onwards program limits (leave_step program (value_of value) (state_at k machine.old).below (standing limits machine.old w))) }
+    ensures { (program : Program) (limits : RunLimits) (k : MachineControl) (w : KeptWorld) → LeadsTo limits result machine.new w (leave_step program (value_of value) (state_at k machine.old).below (standing limits machine.old w)) }
 {
     match machine.below.pop() {
         None => Progress::Ended(value),
@@ -218,7 +218,7 @@ fn zero_result(function: &Function) -> Value
 
 /// The call that runs comes to its end without a value.
 fn leave_without<'p>(machine: &mut Machine<'p>) -> Progress<'p>
-    ensures { (program : Program) (limits : RunLimits) (k : MachineControl) (w : KeptWorld) → LeadsTo program limits result machine.new w (onwards program limits (leave_step program (zero_result (state_at k machine.old).now.function.result) (state_at k machine.old).below (standing limits machine.old w))) }
+    ensures { (program : Program) (limits : RunLimits) (k : MachineControl) (w : KeptWorld) → LeadsTo limits result machine.new w (leave_step program (zero_result (state_at k machine.old).now.function.result) (state_at k machine.old).below (standing limits machine.old w)) }
 {
     let value = zero_result(machine.now.function);
     leave(machine, value)
@@ -238,29 +238,14 @@ fn begin_in<'p>(
     begin(alloc, parts, &mut now.frames, &now.locals, e)
 }
 
-/// Whether an expression begins without a call, and without a change of the world.
-fn begins_alone(e: &Expr) -> bool
-    ensures { result ≡ begins_alone (expr_of e.now) }
-{
-    match e {
-        Expr::Call { .. } => false,
-        Expr::NewRegion { .. } => false,
-        Expr::Getchar { .. } => false,
-        _ => true,
-    }
-}
-
-/// An expression that begins alone. No other comes here.
+/// An expression that begins alone.
 fn evaluate_alone<'p>(
     setting: &Setting<'p>,
     machine: &mut Machine<'p>,
     e: &'p Expr,
 ) -> Result<Progress<'p>, Stop>
-    ensures { (k : MachineControl) (w : KeptWorld) → AreLaidOut (program_of setting.now.parts.now).structs setting.now.layouts.now → Advances (program_of setting.now.parts.now) setting.now.limits result machine.new w (onwards (program_of setting.now.parts.now) setting.now.limits (evaluate_step (program_of setting.now.parts.now) (expr_of e.now) (state_at k machine.old) (standing setting.now.limits machine.old w))) }
+    ensures { begins_alone (expr_of e.now) ≡ true → (k : MachineControl) (w : KeptWorld) → AreLaidOut (program_of setting.now.parts.now).structs setting.now.layouts.now → Advances setting.now.limits result machine.new w (evaluate_step (program_of setting.now.parts.now) (expr_of e.now) (state_at k machine.old) (standing setting.now.limits machine.old w)) }
 {
-    if !begins_alone(e) {
-        return Err(Stop::Cut(RunFault::Memory));
-    }
     onward(begin_in(setting.alloc, setting.parts, &mut machine.now, e))
 }
 
@@ -270,7 +255,7 @@ fn evaluate<'p>(
     machine: &mut Machine<'p>,
     e: &'p Expr,
 ) -> Result<Progress<'p>, Stop>
-    ensures { (k : MachineControl) (w : KeptWorld) → AreLaidOut (program_of setting.now.parts.now).structs setting.now.layouts.now → Advances (program_of setting.now.parts.now) setting.now.limits result machine.new w (onwards (program_of setting.now.parts.now) setting.now.limits (evaluate_step (program_of setting.now.parts.now) (expr_of e.now) (state_at k machine.old) (standing setting.now.limits machine.old w))) }
+    ensures { (k : MachineControl) (w : KeptWorld) → AreLaidOut (program_of setting.now.parts.now).structs setting.now.layouts.now → Advances setting.now.limits result machine.new w (evaluate_step (program_of setting.now.parts.now) (expr_of e.now) (state_at k machine.old) (standing setting.now.limits machine.old w)) }
 {
     match e {
         Expr::Call {
@@ -289,31 +274,16 @@ fn evaluate<'p>(
     }
 }
 
-/// Whether the value of an expression's first part doesn't lead to the heap or outside.
-fn stays_inside(e: &Expr) -> bool
-    ensures { result ≡ stays_inside (expr_of e.now) }
-{
-    match e {
-        Expr::NewSubregion { .. } => false,
-        Expr::Allocate { .. } => false,
-        Expr::Putchar { .. } => false,
-        _ => true,
-    }
-}
-
-/// The first part of an expression that stays inside has a value. No other comes here.
+/// The first part of an expression that stays inside has a value.
 fn give_inside_first<'p>(
     setting: &Setting<'p>,
     machine: &mut Machine<'p>,
     e: &'p Expr,
     value: Value,
 ) -> Result<Progress<'p>, Stop>
-    ensures { (k : MachineControl) (w : KeptWorld) → AreLaidOut (program_of setting.now.parts.now).structs setting.now.layouts.now → Advances (program_of setting.now.parts.now) setting.now.limits result machine.new w (onwards (program_of setting.now.parts.now) setting.now.limits (staying (program_of setting.now.parts.now) (state_at k machine.old) (first_step (program_of setting.now.parts.now) (expr_of e.now) (value_of value) (frames_of machine.old.now.frames) machine.old.now.locals (standing setting.now.limits machine.old w)))) }
+    ensures { IsTrue (stays_inside (expr_of e.now)) → (k : MachineControl) (w : KeptWorld) → AreLaidOut (program_of setting.now.parts.now).structs setting.now.layouts.now → Advances setting.now.limits result machine.new w (staying (program_of setting.now.parts.now) (state_at k machine.old) (first_step (program_of setting.now.parts.now) (expr_of e.now) (value_of value) (frames_of machine.old.now.frames) machine.old.now.locals (standing setting.now.limits machine.old w))) }
 {
     let _alloc = setting.alloc;
-    if !stays_inside(e) {
-        return Err(Stop::Cut(RunFault::Memory));
-    }
     onward(go_on_inside(&mut machine.now.frames, e, value))
 }
 
@@ -324,7 +294,7 @@ fn give_first<'p>(
     e: &'p Expr,
     value: Value,
 ) -> Result<Progress<'p>, Stop>
-    ensures { (k : MachineControl) (w : KeptWorld) → AreLaidOut (program_of setting.now.parts.now).structs setting.now.layouts.now → Advances (program_of setting.now.parts.now) setting.now.limits result machine.new w (onwards (program_of setting.now.parts.now) setting.now.limits (staying (program_of setting.now.parts.now) (state_at k machine.old) (first_step (program_of setting.now.parts.now) (expr_of e.now) (value_of value) (frames_of machine.old.now.frames) machine.old.now.locals (standing setting.now.limits machine.old w)))) }
+    ensures { (k : MachineControl) (w : KeptWorld) → AreLaidOut (program_of setting.now.parts.now).structs setting.now.layouts.now → Advances setting.now.limits result machine.new w (staying (program_of setting.now.parts.now) (state_at k machine.old) (first_step (program_of setting.now.parts.now) (expr_of e.now) (value_of value) (frames_of machine.old.now.frames) machine.old.now.locals (standing setting.now.limits machine.old w))) }
 {
     match e {
         Expr::NewSubregion { line, .. } => onward(make_subregion(
@@ -356,7 +326,7 @@ fn give_to<'p>(
     frame: Frame<'p>,
     value: Value,
 ) -> Result<Progress<'p>, Stop>
-    ensures { (k : MachineControl) (w : KeptWorld) → AreLaidOut (program_of setting.now.parts.now).structs setting.now.layouts.now → Advances (program_of setting.now.parts.now) setting.now.limits result machine.new w (onwards (program_of setting.now.parts.now) setting.now.limits (give_step (program_of setting.now.parts.now) (frame_of frame.entry ∷ frames_of machine.old.now.frames) (value_of value) (state_at k machine.old) (standing setting.now.limits machine.old w))) }
+    ensures { (k : MachineControl) (w : KeptWorld) → AreLaidOut (program_of setting.now.parts.now).structs setting.now.layouts.now → Advances setting.now.limits result machine.new w (give_step (program_of setting.now.parts.now) (frame_of frame.entry ∷ frames_of machine.old.now.frames) (value_of value) (state_at k machine.old) (standing setting.now.limits machine.old w)) }
 {
     match frame {
         Frame::First(e) => give_first(setting, machine, e, value),
@@ -421,7 +391,7 @@ fn give_inside<'p>(
     stage: Stage,
     value: Value,
 ) -> Result<Control<'p>, Stop>
-    ensures { (k : MachineControl) (w : KeptWorld) → Leads (program_of setting.now.parts.now) setting.now.limits result machine.new w (onwards (program_of setting.now.parts.now) setting.now.limits (staying (program_of setting.now.parts.now) (state_at k machine.old) (given_step (program_of setting.now.parts.now) (stmt_of s.now) (stage_of (stmt_of s.now) stage) (value_of value) (frames_of machine.old.now.frames) machine.old.now.locals (standing setting.now.limits machine.old w)))) }
+    ensures { (k : MachineControl) (w : KeptWorld) → Leads setting.now.limits result machine.new w (staying (program_of setting.now.parts.now) (state_at k machine.old) (given_step (program_of setting.now.parts.now) (stmt_of s.now) (stage_of (stmt_of s.now) stage) (value_of value) (frames_of machine.old.now.frames) machine.old.now.locals (standing setting.now.limits machine.old w))) }
 {
     give_now(
         setting.alloc,
@@ -441,7 +411,7 @@ fn give<'p>(
     machine: &mut Machine<'p>,
     value: Value,
 ) -> Result<Progress<'p>, Stop>
-    ensures { (k : MachineControl) (w : KeptWorld) → AreLaidOut (program_of setting.now.parts.now).structs setting.now.layouts.now → Advances (program_of setting.now.parts.now) setting.now.limits result machine.new w (onwards (program_of setting.now.parts.now) setting.now.limits (give_step (program_of setting.now.parts.now) (frames_of machine.old.now.frames) (value_of value) (state_at k machine.old) (standing setting.now.limits machine.old w))) }
+    ensures { (k : MachineControl) (w : KeptWorld) → AreLaidOut (program_of setting.now.parts.now).structs setting.now.layouts.now → Advances setting.now.limits result machine.new w (give_step (program_of setting.now.parts.now) (frames_of machine.old.now.frames) (value_of value) (state_at k machine.old) (standing setting.now.limits machine.old w)) }
 {
     match machine.now.frames.pop() {
         None => Ok(leave(machine, value)),
@@ -456,7 +426,7 @@ fn aim_to<'p>(
     frame: &Frame<'p>,
     target: Target,
 ) -> Result<Control<'p>, Stop>
-    ensures { (k : MachineControl) (w : KeptWorld) → AreLaidOut (program_of setting.now.parts.now).structs setting.now.layouts.now → Leads (program_of setting.now.parts.now) setting.now.limits result machine.new w (onwards (program_of setting.now.parts.now) setting.now.limits (aim_step (program_of setting.now.parts.now) (frame_of frame.now ∷ frames_of machine.old.now.frames) target (state_at k machine.old) (standing setting.now.limits machine.old w))) }
+    ensures { (k : MachineControl) (w : KeptWorld) → AreLaidOut (program_of setting.now.parts.now).structs setting.now.layouts.now → Leads setting.now.limits result machine.new w (aim_step (program_of setting.now.parts.now) (frame_of frame.now ∷ frames_of machine.old.now.frames) target (state_at k machine.old) (standing setting.now.limits machine.old w)) }
 {
     match frame {
         Frame::Load(line) => load(&machine.heap, *line, target),
@@ -480,14 +450,14 @@ fn aim_from<'p>(
     frame: Frame<'p>,
     target: Target,
 ) -> Result<Control<'p>, Stop>
-    ensures { (k : MachineControl) (w : KeptWorld) → AreLaidOut (program_of setting.now.parts.now).structs setting.now.layouts.now → Leads (program_of setting.now.parts.now) setting.now.limits result machine.new w (onwards (program_of setting.now.parts.now) setting.now.limits (aim_step (program_of setting.now.parts.now) (frame_of frame.entry ∷ frames_of machine.old.now.frames) target (state_at k machine.old) (standing setting.now.limits machine.old w))) }
+    ensures { (k : MachineControl) (w : KeptWorld) → AreLaidOut (program_of setting.now.parts.now).structs setting.now.layouts.now → Leads setting.now.limits result machine.new w (aim_step (program_of setting.now.parts.now) (frame_of frame.entry ∷ frames_of machine.old.now.frames) target (state_at k machine.old) (standing setting.now.limits machine.old w)) }
 {
     aim_to(setting, machine, &frame, target)
 }
 
 /// The call that runs comes to its end by a place, which is no value.
 fn leave_for<'p>(machine: &mut Machine<'p>, _target: Target) -> Progress<'p>
-    ensures { (program : Program) (limits : RunLimits) (k : MachineControl) (w : KeptWorld) → LeadsTo program limits result machine.new w (onwards program limits (leave_step program (zero_result (state_at k machine.old).now.function.result) (state_at k machine.old).below (standing limits machine.old w))) }
+    ensures { (program : Program) (limits : RunLimits) (k : MachineControl) (w : KeptWorld) → LeadsTo limits result machine.new w (leave_step program (zero_result (state_at k machine.old).now.function.result) (state_at k machine.old).below (standing limits machine.old w)) }
 {
     leave_without(machine)
 }
@@ -498,7 +468,7 @@ fn aim<'p>(
     machine: &mut Machine<'p>,
     target: Target,
 ) -> Result<Progress<'p>, Stop>
-    ensures { (k : MachineControl) (w : KeptWorld) → AreLaidOut (program_of setting.now.parts.now).structs setting.now.layouts.now → Advances (program_of setting.now.parts.now) setting.now.limits result machine.new w (onwards (program_of setting.now.parts.now) setting.now.limits (aim_step (program_of setting.now.parts.now) (frames_of machine.old.now.frames) target (state_at k machine.old) (standing setting.now.limits machine.old w))) }
+    ensures { (k : MachineControl) (w : KeptWorld) → AreLaidOut (program_of setting.now.parts.now).structs setting.now.layouts.now → Advances setting.now.limits result machine.new w (aim_step (program_of setting.now.parts.now) (frames_of machine.old.now.frames) target (state_at k machine.old) (standing setting.now.limits machine.old w)) }
 {
     match machine.now.frames.pop() {
         None => Ok(leave_for(machine, target)),
@@ -508,7 +478,7 @@ fn aim<'p>(
 
 /// A statement in what the frame waits for went on.
 fn go_to<'p>(machine: &mut Machine<'p>, frame: &Frame<'p>) -> Result<Control<'p>, Stop>
-    ensures { (program : Program) (limits : RunLimits) (k : MachineControl) (w : KeptWorld) → Leads program limits result machine.new w (onwards program limits (goes_step program (frame_of frame.now ∷ frames_of machine.old.now.frames) (state_at k machine.old) (standing limits machine.old w))) }
+    ensures { (program : Program) (limits : RunLimits) (k : MachineControl) (w : KeptWorld) → Leads limits result machine.new w (goes_step program (frame_of frame.now ∷ frames_of machine.old.now.frames) (state_at k machine.old) (standing limits machine.old w)) }
 {
     match frame {
         Frame::Inside(s, stage) => go_on(&mut machine.turns, &mut machine.now.frames, s, stage),
@@ -518,14 +488,14 @@ fn go_to<'p>(machine: &mut Machine<'p>, frame: &Frame<'p>) -> Result<Control<'p>
 
 /// The same, of a frame that is done with.
 fn go_from<'p>(machine: &mut Machine<'p>, frame: Frame<'p>) -> Result<Control<'p>, Stop>
-    ensures { (program : Program) (limits : RunLimits) (k : MachineControl) (w : KeptWorld) → Leads program limits result machine.new w (onwards program limits (goes_step program (frame_of frame.entry ∷ frames_of machine.old.now.frames) (state_at k machine.old) (standing limits machine.old w))) }
+    ensures { (program : Program) (limits : RunLimits) (k : MachineControl) (w : KeptWorld) → Leads limits result machine.new w (goes_step program (frame_of frame.entry ∷ frames_of machine.old.now.frames) (state_at k machine.old) (standing limits machine.old w)) }
 {
     go_to(machine, &frame)
 }
 
 /// A statement went on.
 fn go<'p>(machine: &mut Machine<'p>) -> Result<Progress<'p>, Stop>
-    ensures { (program : Program) (limits : RunLimits) (k : MachineControl) (w : KeptWorld) → Advances program limits result machine.new w (onwards program limits (goes_step program (frames_of machine.old.now.frames) (state_at k machine.old) (standing limits machine.old w))) }
+    ensures { (program : Program) (limits : RunLimits) (k : MachineControl) (w : KeptWorld) → Advances limits result machine.new w (goes_step program (frames_of machine.old.now.frames) (state_at k machine.old) (standing limits machine.old w)) }
 {
     match machine.now.frames.pop() {
         None => Ok(leave_without(machine)),
@@ -552,7 +522,7 @@ fn break_from<'p>(frame: Frame<'p>) -> Control<'p>
 
 /// A statement broke.
 fn break_out<'p>(machine: &mut Machine<'p>) -> Progress<'p>
-    ensures { (program : Program) (limits : RunLimits) (k : MachineControl) (w : KeptWorld) → LeadsTo program limits result machine.new w (onwards program limits (breaks_step program (frames_of machine.old.now.frames) (state_at k machine.old) (standing limits machine.old w))) }
+    ensures { (program : Program) (limits : RunLimits) (k : MachineControl) (w : KeptWorld) → LeadsTo limits result machine.new w (breaks_step program (frames_of machine.old.now.frames) (state_at k machine.old) (standing limits machine.old w)) }
 {
     match machine.now.frames.pop() {
         None => leave_without(machine),
@@ -562,7 +532,7 @@ fn break_out<'p>(machine: &mut Machine<'p>) -> Progress<'p>
 
 /// A statement in what the frame waits for continued.
 fn continue_to<'p>(machine: &mut Machine<'p>, frame: &Frame<'p>) -> Result<Control<'p>, Stop>
-    ensures { (program : Program) (limits : RunLimits) (k : MachineControl) (w : KeptWorld) → Leads program limits result machine.new w (onwards program limits (continues_step program (frame_of frame.now ∷ frames_of machine.old.now.frames) (state_at k machine.old) (standing limits machine.old w))) }
+    ensures { (program : Program) (limits : RunLimits) (k : MachineControl) (w : KeptWorld) → Leads limits result machine.new w (continues_step program (frame_of frame.now ∷ frames_of machine.old.now.frames) (state_at k machine.old) (standing limits machine.old w)) }
 {
     match frame {
         Frame::Inside(s, stage) => {
@@ -574,14 +544,14 @@ fn continue_to<'p>(machine: &mut Machine<'p>, frame: &Frame<'p>) -> Result<Contr
 
 /// The same, of a frame that is done with.
 fn continue_from<'p>(machine: &mut Machine<'p>, frame: Frame<'p>) -> Result<Control<'p>, Stop>
-    ensures { (program : Program) (limits : RunLimits) (k : MachineControl) (w : KeptWorld) → Leads program limits result machine.new w (onwards program limits (continues_step program (frame_of frame.entry ∷ frames_of machine.old.now.frames) (state_at k machine.old) (standing limits machine.old w))) }
+    ensures { (program : Program) (limits : RunLimits) (k : MachineControl) (w : KeptWorld) → Leads limits result machine.new w (continues_step program (frame_of frame.entry ∷ frames_of machine.old.now.frames) (state_at k machine.old) (standing limits machine.old w)) }
 {
     continue_to(machine, &frame)
 }
 
 /// A statement continued.
 fn continue_on<'p>(machine: &mut Machine<'p>) -> Result<Progress<'p>, Stop>
-    ensures { (program : Program) (limits : RunLimits) (k : MachineControl) (w : KeptWorld) → Advances program limits result machine.new w (onwards program limits (continues_step program (frames_of machine.old.now.frames) (state_at k machine.old) (standing limits machine.old w))) }
+    ensures { (program : Program) (limits : RunLimits) (k : MachineControl) (w : KeptWorld) → Advances limits result machine.new w (continues_step program (frames_of machine.old.now.frames) (state_at k machine.old) (standing limits machine.old w)) }
 {
     match machine.now.frames.pop() {
         None => Ok(leave_without(machine)),
@@ -598,7 +568,7 @@ fn return_from<'p>(_frame: Frame<'p>, value: Value) -> Control<'p>
 
 /// A statement returned a value: what waits in the call waits for nothing any more.
 fn give_back<'p>(machine: &mut Machine<'p>, value: Value) -> Progress<'p>
-    ensures { (program : Program) (limits : RunLimits) (k : MachineControl) (w : KeptWorld) → LeadsTo program limits result machine.new w (onwards program limits (returns_step program (frames_of machine.old.now.frames) (value_of value) (state_at k machine.old) (standing limits machine.old w))) }
+    ensures { (program : Program) (limits : RunLimits) (k : MachineControl) (w : KeptWorld) → LeadsTo limits result machine.new w (returns_step program (frames_of machine.old.now.frames) (value_of value) (state_at k machine.old) (standing limits machine.old w)) }
 {
     match machine.now.frames.pop() {
         None => leave(machine, value),
@@ -627,7 +597,7 @@ pub(crate) fn step<'p>(
     machine: &mut Machine<'p>,
     control: Control<'p>,
 ) -> Result<Progress<'p>, Stop>
-    ensures { (k : MachineControl) (w : KeptWorld) → AreLaidOut (program_of setting.now.parts.now).structs setting.now.layouts.now → Advances (program_of setting.now.parts.now) setting.now.limits result machine.new w (onwards (program_of setting.now.parts.now) setting.now.limits (control_step (program_of setting.now.parts.now) (control_of control.entry) (state_at k machine.old) (standing setting.now.limits machine.old w))) }
+    ensures { (k : MachineControl) (w : KeptWorld) → AreLaidOut (program_of setting.now.parts.now).structs setting.now.layouts.now → Advances setting.now.limits result machine.new w (control_step (program_of setting.now.parts.now) (control_of control.entry) (state_at k machine.old) (standing setting.now.limits machine.old w)) }
 {
     match control {
         Control::Evaluate(e) => evaluate(setting, machine, e),

@@ -5,16 +5,15 @@ ghost use Rattle.rc_base.specs.Acts.{Gave, Getchar, output};
 ghost use Rattle.rc_base.specs.Sinks.{Took};
 ghost use Rattle.rc_base.specs.declared.ends.Limits.{Limits as RunLimits};
 ghost use Rattle.rc_base.specs.declared.ends.RunFault.TheVariants.{ReadFault, WriteFault};
-ghost use Rattle.rc_core.specs.Heap.{Value as HeapValue};
-ghost use Rattle.rc_core.specs.Programs.{Program};
 ghost use Rattle.rc_core.specs.Runs.{Go, Run};
 ghost use Rattle.rc_slow.specs.Advancing.{LeadsTo};
 ghost use Rattle.rc_slow.specs.KeptWorld.{KeptWorld, kept};
 ghost use Rattle.rc_slow.specs.Outside.{HasStopCause, later};
-ghost use Rattle.rc_slow.specs.Performing.{HasFaultCause, Performs, acts_of};
+ghost use Rattle.rc_slow.specs.Performing.{Follows, HasFaultCause, Performs, acts_of};
 ghost use Rattle.rc_slow.specs.declared.machine.Machine.{Machine as CodeMachine};
 ghost use Rattle.rc_slow.specs.declared.machine.Progress.TheVariants.{Asks, Writes};
 ghost use Rattle.rc_slow.specs.declared.stop.Stop.TheVariants.{Cut};
+ghost use Rattle.rc_slow.specs.Whole.{Progress as MachineProgress};
 
 use crate::frames::Control;
 use crate::machine::Progress;
@@ -64,7 +63,8 @@ pub(crate) enum Next<'p> {
 
 /// Asks for the next byte, and goes on with it.
 fn ask_on<'p, S: Source>(input: &mut S) -> Result<Next<'p>, Stop>
-    ensures asks { (program : Program) (limits : RunLimits) (m : CodeMachine) (w : KeptWorld) (run : Run KeptWorld HeapValue) → IsTrue (S.state input.old).tells → w.input ≡ (S.state input.old).rest → LeadsTo program limits Asks m w run → Performs program limits Asks result m w run }
+    ensures asks { (limits : RunLimits) (m : CodeMachine) (w : KeptWorld) (step : Run KeptWorld MachineProgress) → IsTrue (S.state input.old).tells → w.input ≡ (S.state input.old).rest → LeadsTo limits Asks m w step → Performs limits Asks result m w step }
+    ensures follows { IfOk result (Follows Asks) }
     ensures gave { OnOk result (Gave (Getchar ∷ []) (S.state input.old) (S.state input.new)) }
     ensures same { OnErr result (Gave [] (S.state input.old) (S.state input.new)) }
     ensures tells { (S.state input.new).tells ≡ (S.state input.old).tells }
@@ -79,7 +79,8 @@ fn ask_on<'p, S: Source>(input: &mut S) -> Result<Next<'p>, Stop>
 
 /// Writes a byte, and goes on with it.
 fn write_on<'p, O: Sink>(out: &mut O, byte: u8) -> Result<Next<'p>, Stop>
-    ensures writes { (program : Program) (limits : RunLimits) (m : CodeMachine) (w : KeptWorld) (run : Run KeptWorld HeapValue) → LeadsTo program limits (Writes byte) m w run → Performs program limits (Writes byte) result m w run }
+    ensures writes { (limits : RunLimits) (m : CodeMachine) (w : KeptWorld) (step : Run KeptWorld MachineProgress) → LeadsTo limits (Writes byte) m w step → Performs limits (Writes byte) result m w step }
+    ensures follows { IfOk result (Follows (Writes byte)) }
     ensures took { OnOk result (Took (byte ∷ []) (O.state out.old) (O.state out.new)) }
     ensures same { OnErr result (Took [] (O.state out.old) (O.state out.new)) }
     ensures tells { (O.state out.new).tells ≡ (O.state out.old).tells }
@@ -99,7 +100,8 @@ pub(crate) fn perform<'p, S: Source, O: Sink>(
     input: &mut S,
     out: &mut O,
 ) -> Result<Next<'p>, Stop>
-    ensures leads { (program : Program) (limits : RunLimits) (m : CodeMachine) (w : KeptWorld) (run : Run KeptWorld HeapValue) → IsTrue (S.state input.old).tells → w.input ≡ (S.state input.old).rest → LeadsTo program limits progress.entry m w run → Performs program limits progress.entry result m w run }
+    ensures leads { (limits : RunLimits) (m : CodeMachine) (w : KeptWorld) (step : Run KeptWorld MachineProgress) → IsTrue (S.state input.old).tells → w.input ≡ (S.state input.old).rest → LeadsTo limits progress.entry m w step → Performs limits progress.entry result m w step }
+    ensures follows { IfOk result (Follows progress.entry) }
     ensures took { OnOk result (Took (output (acts_of progress.entry)) (O.state out.old) (O.state out.new)) }
     ensures gave { OnOk result (Gave (acts_of progress.entry) (S.state input.old) (S.state input.new)) }
     ensures none_took { OnErr result (Took [] (O.state out.old) (O.state out.new)) }

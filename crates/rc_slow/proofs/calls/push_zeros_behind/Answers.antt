@@ -1,4 +1,4 @@
-use Rattle.std.proofs.Common.{◌≡◌, ◌∙◌, ◌++◌, ap, map, drop, subst, OnOk}
+use Rattle.std.proofs.Common.{◌≡◌, ◌∙◌, ◌++◌, ap, map, subst, OnOk}
 use Rattle.std.proofs.lemmas.List.{take_rest}
 use Rattle.rc_core.specs.Heap.{zero_of}
 use Rattle.rc_core.specs.Shapes.{ty_of}

@@ -4,7 +4,6 @@ use Rattle.std.specs.Prelude.{List, Bool, if◌then◌else◌}
 use Rattle.rc_core.specs.Heap.{Value}
 use Rattle.rc_slow.specs.KeptWorld.{KeptWorld, kept}
 use Rattle.rc_slow.specs.Prefix.{behind_acts}
-use Rattle.rc_slow.specs.Whole.{Activation, left}
 use Rattle.rc_slow.proofs.Prefixes.{acts_agree}
 use Rattle.rc_slow.proofs.Simulation.{main_agrees}
 use Rattle.rc_slow.proofs.WholeAgrees.{whole_same}

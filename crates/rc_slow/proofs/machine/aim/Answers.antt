@@ -1,7 +1,7 @@
-use Rattle.std.proofs.Common.{◌≡◌, ◌∙◌, sym, ap, subst}
+use Rattle.std.proofs.Common.{◌∙◌, sym, ap, subst}
 use Rattle.rc_core.specs.Runs.{Run}
 use Rattle.rc_core.specs.Shapes.{program_of}
-use Rattle.rc_slow.specs.Advancing.{Leads, LeadsTo, onwards, standing, state_at}
+use Rattle.rc_slow.specs.Advancing.{Leads, LeadsTo, standing, state_at}
 use Rattle.rc_slow.specs.Codes.{frame_of, frames_of, CodeFrames}
 use Rattle.rc_slow.specs.KeptWorld.{KeptWorld}
 use Rattle.rc_slow.specs.Whole.{Progress, aim_step}
@@ -13,7 +13,7 @@ returns-in-None c = λ k w laid.
     let program = program_of c.args.setting.now.parts.now in
     let limits = c.args.setting.now.limits in
     let m0 = c.args.machine.now in
-    let P : CodeFrames → Type 0 = λ fs. LeadsTo program limits c.leave_for.result c.leave_for.new.machine w (onwards program limits (aim_step program (frames_of fs) c.args.target (state_at k m0) (standing limits m0 w))) in
+    let P : CodeFrames → Type 0 = λ fs. LeadsTo limits c.leave_for.result c.leave_for.new.machine w (aim_step program (frames_of fs) c.args.target (state_at k m0) (standing limits m0 w)) in
     subst P (sym c.in-None.ensures) (c.leave_for.ensures program limits k w)
 
 pub returns-in-Some : goal.returns-in-Some
@@ -24,8 +24,8 @@ returns-in-Some c = λ k w laid.
     let s = state_at k m0 in
     let W = standing limits m0 w in
     let fs = frames_of c.pop.new.self in
-    let P : Run KeptWorld Progress → Type 0 = λ r. Leads program limits c.aim_from.result c.aim_from.new.machine w (onwards program limits r) in
-    c.onward.ensures program limits c.aim_from.new.machine w _
+    let P : Run KeptWorld Progress → Type 0 = λ r. Leads limits c.aim_from.result c.aim_from.new.machine w (r) in
+    c.onward.ensures limits c.aim_from.new.machine w _
     (subst P
     (sym (aim_any program limits (frame_of c.in-Some.frame) fs c.args.target s fs W)
     ∙ ap (λ l. aim_step program (frames_of l) c.args.target s W) (sym c.in-Some.ensures))

@@ -1,7 +1,7 @@
-use Rattle.std.proofs.Common.{◌≡◌, ◌∷◌, refl, sym, ap, subst}
+use Rattle.std.proofs.Common.{◌∷◌, refl, sym, ap, subst}
 use Rattle.rc_core.specs.Runs.{Run, bind}
 use Rattle.rc_core.specs.Shapes.{program_of}
-use Rattle.rc_slow.specs.Advancing.{Leads, onwards, standing, state_at}
+use Rattle.rc_slow.specs.Advancing.{Leads, standing, state_at}
 use Rattle.rc_slow.specs.Codes.{frame_of, frames_of}
 use Rattle.rc_slow.specs.KeptWorld.{KeptWorld, kept}
 use Rattle.rc_slow.specs.Stepping.{giving_next}
@@ -16,7 +16,7 @@ returns-in-Load c = λ k w laid.
     let m0 = c.args.machine.now in
     let fs = frames_of m0.now.frames in
     let W = standing limits m0 w in
-    let P : Run KeptWorld Progress → Type 0 = λ r. Leads program limits c.load.result m0 w (onwards program limits r) in
+    let P : Run KeptWorld Progress → Type 0 = λ r. Leads limits c.load.result m0 w (r) in
     subst P (sym (ap (λ f. aim_step program (frame_of f ∷ fs) c.args.target (state_at k m0) W) c.in-Load.is))
     (stays program limits c.load.result m0 (state_at k m0) w W
     (bind (kept.load c.in-Load.line c.args.target W) (giving_next program fs m0.now.locals))

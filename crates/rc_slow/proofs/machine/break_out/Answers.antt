@@ -1,12 +1,11 @@
-use Rattle.std.proofs.Common.{◌≡◌, ◌∙◌, sym, ap, subst}
-use Rattle.rc_slow.specs.Advancing.{LeadsTo, onwards, standing, state_at}
+use Rattle.std.proofs.Common.{sym, subst}
+use Rattle.rc_slow.specs.Advancing.{LeadsTo, standing, state_at}
 use Rattle.rc_slow.specs.Codes.{frames_of, CodeFrames}
-use Rattle.rc_slow.specs.Values.{value_of}
 use Rattle.rc_slow.specs.Whole.{breaks_step}
 use Rattle.rc_slow.proofs.machine.break_out.Goals as goal
 
 pub returns-in-None : goal.returns-in-None
 returns-in-None c = λ program limits k w.
     let m0 = c.args.machine.now in
-    let P : CodeFrames → Type 0 = λ fs. LeadsTo program limits c.leave_without.result c.leave_without.new.machine w (onwards program limits (breaks_step program (frames_of fs) (state_at k m0) (standing limits m0 w))) in
+    let P : CodeFrames → Type 0 = λ fs. LeadsTo limits c.leave_without.result c.leave_without.new.machine w (breaks_step program (frames_of fs) (state_at k m0) (standing limits m0 w)) in
     subst P (sym c.in-None.ensures) (c.leave_without.ensures program limits k w)

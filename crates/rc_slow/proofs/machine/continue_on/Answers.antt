@@ -1,6 +1,6 @@
-use Rattle.std.proofs.Common.{◌≡◌, ◌∙◌, sym, ap, subst}
+use Rattle.std.proofs.Common.{◌∙◌, sym, ap, subst}
 use Rattle.rc_core.specs.Runs.{Run}
-use Rattle.rc_slow.specs.Advancing.{Leads, LeadsTo, onwards, standing, state_at}
+use Rattle.rc_slow.specs.Advancing.{Leads, LeadsTo, standing, state_at}
 use Rattle.rc_slow.specs.Codes.{frame_of, frames_of, CodeFrames}
 use Rattle.rc_slow.specs.KeptWorld.{KeptWorld}
 use Rattle.rc_slow.specs.Whole.{Progress, continues_step}
@@ -10,7 +10,7 @@ use Rattle.rc_slow.proofs.machine.continue_on.Goals as goal
 pub returns-in-None : goal.returns-in-None
 returns-in-None c = λ program limits k w.
     let m0 = c.args.machine.now in
-    let P : CodeFrames → Type 0 = λ fs. LeadsTo program limits c.leave_without.result c.leave_without.new.machine w (onwards program limits (continues_step program (frames_of fs) (state_at k m0) (standing limits m0 w))) in
+    let P : CodeFrames → Type 0 = λ fs. LeadsTo limits c.leave_without.result c.leave_without.new.machine w (continues_step program (frames_of fs) (state_at k m0) (standing limits m0 w)) in
     subst P (sym c.in-None.ensures) (c.leave_without.ensures program limits k w)
 
 pub returns-in-Some : goal.returns-in-Some
@@ -19,8 +19,8 @@ returns-in-Some c = λ program limits k w.
     let s = state_at k m0 in
     let W = standing limits m0 w in
     let fs = frames_of c.pop.new.self in
-    let P : Run KeptWorld Progress → Type 0 = λ r. Leads program limits c.continue_from.result c.continue_from.new.machine w (onwards program limits r) in
-    c.onward.ensures program limits c.continue_from.new.machine w _
+    let P : Run KeptWorld Progress → Type 0 = λ r. Leads limits c.continue_from.result c.continue_from.new.machine w (r) in
+    c.onward.ensures limits c.continue_from.new.machine w _
     (subst P
     (sym (continues_any program limits (frame_of c.in-Some.frame) fs s fs W)
     ∙ ap (λ l. continues_step program (frames_of l) s W) (sym c.in-Some.ensures))

@@ -1,4 +1,4 @@
-use Rattle.std.proofs.Common.{rules, ◌≡◌, ◌∙◌, ◌∷◌, ◌-◌, [], suc, false, None, arith, refl, sym, ap}
+use Rattle.std.proofs.Common.{◌≡◌, ◌∙◌, ◌∷◌, ◌-◌, [], false, None, arith, refl, ap}
 use Rattle.rc_core.specs.Execution.{first_locals}
 use Rattle.rc_core.specs.Shapes.{function_of}
 use Rattle.rc_slow.specs.declared.calls.Activation.{Activation as CodeActivation}

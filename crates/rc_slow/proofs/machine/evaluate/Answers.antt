@@ -1,21 +1,15 @@
-use Rattle.std.proofs.Common.{rules, ◌≡◌, ◌∙◌, ◌∷◌, ◌-◌, [], suc, true, false, None, IsTrue, arith, pos, refl, sym, ap, subst}
-use Rattle.rc_core.specs.Runs.{Run, Go, bind}
-use Rattle.rc_core.specs.Execution.{calls_within}
+use Rattle.std.proofs.Common.{◌∙◌, refl, sym, ap, subst}
+use Rattle.rc_core.specs.Runs.{Run}
 use Rattle.rc_core.specs.Programs.{call}
-use Rattle.rc_core.specs.Shapes.{arguments_of, expr_of, function_of, place_of, program_of, stmt_of, path_of}
+use Rattle.rc_core.specs.Shapes.{arguments_of, expr_of, program_of}
 use Rattle.rc_core.proofs.ShapeRows.{call_is}
 use Rattle.rc_slow.specs.declared.machine.Machine.{Machine as CodeMachine}
-use Rattle.rc_slow.specs.declared.calls.Activation.{Activation as CodeActivation}
-use Rattle.rc_slow.specs.Advancing.{Advances, Leads, LeadsTo, begins_alone, onwards, standing, state_at}
-use Rattle.rc_slow.specs.Codes.{control_of, frame_of, frames_of, stage_of, CodeFrames}
-use Rattle.rc_slow.specs.Coming.{Comes, stays_inside, with_turns}
-use Rattle.rc_slow.specs.KeptWorld.{KeptWorld, kept}
-use Rattle.rc_slow.specs.Standing.{activation_of, callers_of}
-use Rattle.rc_slow.specs.Stepping.{Doing, doing, begin, execute, first_step, given_step, pointer_step, second_step, along_step}
-use Rattle.rc_slow.specs.Values.{value_of}
-use Rattle.rc_slow.specs.Whole.{Progress, State, control_step, evaluate_step, give_step, staying, whole}
-use Rattle.rc_slow.proofs.Advances.{alone_needs, alone_step, entered_on, stays}
-use Rattle.rc_slow.proofs.Results.{comes_doing, comes_run, if_ok_map}
+use Rattle.rc_slow.specs.Advancing.{Leads, standing, state_at}
+use Rattle.rc_slow.specs.Codes.{frames_of}
+use Rattle.rc_slow.specs.KeptWorld.{KeptWorld}
+use Rattle.rc_slow.specs.Whole.{Progress, evaluate_step}
+use Rattle.rc_slow.proofs.Alone.{alone_code}
+use Rattle.rc_slow.proofs.Advances.{stays}
 use Rattle.rc_slow.proofs.machine.evaluate.Goals as goal
 
 pub returns-in-Call : goal.returns-in-Call
@@ -27,8 +21,8 @@ returns-in-Call c = λ k w laid.
     let fs = frames_of m0.now.frames in
     let env = m0.now.locals in
     let W = standing limits m0 w in
-    let P : Run KeptWorld Progress → Type 0 = λ r. Leads program limits c.begin_call.result c.begin_call.new.machine w (onwards program limits r) in
-    c.onward.ensures program limits c.begin_call.new.machine w _
+    let P : Run KeptWorld Progress → Type 0 = λ r. Leads limits c.begin_call.result c.begin_call.new.machine w (r) in
+    c.onward.ensures limits c.begin_call.new.machine w _
     (subst P
     (ap (λ l. evaluate_step program (call c.in-Call.line c.in-Call.function (arguments_of l)) s W) c.deref.ensures.value
     ∙ ap (λ e. evaluate_step program e s W) (sym (call_is c.args.e.now c.in-Call.line c.in-Call.function c.in-Call.arguments c.in-Call.is)))
@@ -44,8 +38,12 @@ returns-in-NewRegion c = λ k w laid.
     let env = m0.now.locals in
     let W = standing limits m0 w in
     let m1 : CodeMachine = record m0 { heap = c.make_region.new.heap } in
-    let P : Run KeptWorld Progress → Type 0 = λ r. Leads program limits c.make_region.result m1 w (onwards program limits r) in
-    c.onward-in-NewRegion.ensures program limits m1 w _
+    let P : Run KeptWorld Progress → Type 0 = λ r. Leads limits c.make_region.result m1 w (r) in
+    c.onward-in-NewRegion.ensures limits m1 w _
     (subst P (sym (ap (λ e. evaluate_step program (expr_of e) s W) c.in-NewRegion.is))
     (stays program limits c.make_region.result m1 s w W _ fs env (record { acts = refl; input = refl }) (λ control. refl)
     (c.make_region.ensures program fs env W refl refl)))
+
+pub returns-in_default : goal.returns-in_default
+returns-in_default c =
+    c.evaluate_alone.ensures (alone_code c.args.e.now c.in_default.not-Call c.in_default.not-NewRegion c.in_default.not-Getchar)

@@ -1,7 +1,7 @@
-use Rattle.std.proofs.Common.{◌≡◌, ◌∙◌, sym, ap, subst}
+use Rattle.std.proofs.Common.{◌∙◌, sym, ap, subst}
 use Rattle.rc_core.specs.Runs.{Run}
 use Rattle.rc_core.specs.Shapes.{program_of}
-use Rattle.rc_slow.specs.Advancing.{Advances, LeadsTo, onwards, standing, state_at}
+use Rattle.rc_slow.specs.Advancing.{Advances, LeadsTo, standing, state_at}
 use Rattle.rc_slow.specs.Codes.{frame_of, frames_of, CodeFrames}
 use Rattle.rc_slow.specs.KeptWorld.{KeptWorld}
 use Rattle.rc_slow.specs.Values.{value_of}
@@ -14,7 +14,7 @@ returns-in-None c = λ k w laid.
     let program = program_of c.args.setting.now.parts.now in
     let limits = c.args.setting.now.limits in
     let m0 = c.args.machine.now in
-    let P : CodeFrames → Type 0 = λ fs. LeadsTo program limits c.leave.result c.leave.new.machine w (onwards program limits (give_step program (frames_of fs) (value_of c.args.value) (state_at k m0) (standing limits m0 w))) in
+    let P : CodeFrames → Type 0 = λ fs. LeadsTo limits c.leave.result c.leave.new.machine w (give_step program (frames_of fs) (value_of c.args.value) (state_at k m0) (standing limits m0 w)) in
     subst P (sym c.in-None.ensures) (c.leave.ensures program limits k w)
 
 pub returns-in-Some : goal.returns-in-Some
@@ -25,7 +25,7 @@ returns-in-Some c = λ k w laid.
     let s = state_at k m0 in
     let W = standing limits m0 w in
     let fs = frames_of c.pop.new.self in
-    let P : Run KeptWorld Progress → Type 0 = λ r. Advances program limits c.give_to.result c.give_to.new.machine w (onwards program limits r) in
+    let P : Run KeptWorld Progress → Type 0 = λ r. Advances limits c.give_to.result c.give_to.new.machine w (r) in
     subst P
     (sym (give_any program limits (frame_of c.in-Some.frame) fs (value_of c.args.value) s fs W)
     ∙ ap (λ l. give_step program (frames_of l) (value_of c.args.value) s W) (sym c.in-Some.ensures))

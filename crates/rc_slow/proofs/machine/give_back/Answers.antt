@@ -1,5 +1,5 @@
-use Rattle.std.proofs.Common.{◌≡◌, ◌∙◌, sym, ap, subst}
-use Rattle.rc_slow.specs.Advancing.{LeadsTo, onwards, standing, state_at}
+use Rattle.std.proofs.Common.{sym, subst}
+use Rattle.rc_slow.specs.Advancing.{LeadsTo, standing, state_at}
 use Rattle.rc_slow.specs.Codes.{frames_of, CodeFrames}
 use Rattle.rc_slow.specs.Values.{value_of}
 use Rattle.rc_slow.specs.Whole.{returns_step}
@@ -8,5 +8,5 @@ use Rattle.rc_slow.proofs.machine.give_back.Goals as goal
 pub returns-in-None : goal.returns-in-None
 returns-in-None c = λ program limits k w.
     let m0 = c.args.machine.now in
-    let P : CodeFrames → Type 0 = λ fs. LeadsTo program limits c.leave.result c.leave.new.machine w (onwards program limits (returns_step program (frames_of fs) (value_of c.args.value) (state_at k m0) (standing limits m0 w))) in
+    let P : CodeFrames → Type 0 = λ fs. LeadsTo limits c.leave.result c.leave.new.machine w (returns_step program (frames_of fs) (value_of c.args.value) (state_at k m0) (standing limits m0 w)) in
     subst P (sym c.in-None.ensures) (c.leave.ensures program limits k w)

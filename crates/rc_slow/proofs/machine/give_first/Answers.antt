@@ -1,4 +1,4 @@
-use Rattle.std.proofs.Common.{◌≡◌, pos, refl, sym, ap, subst}
+use Rattle.std.proofs.Common.{refl, sym, ap, subst}
 use Rattle.rc_core.specs.Runs.{Run}
 use Rattle.rc_core.specs.Shapes.{expr_of, program_of}
 use Rattle.rc_slow.specs.declared.machine.Machine.{Machine as CodeMachine}
@@ -8,6 +8,7 @@ use Rattle.rc_slow.specs.Coming.{Comes}
 use Rattle.rc_slow.specs.KeptWorld.{KeptWorld}
 use Rattle.rc_slow.specs.Stepping.{Doing, first_step}
 use Rattle.rc_slow.specs.Values.{value_of}
+use Rattle.rc_slow.proofs.Alone.{inside_code}
 use Rattle.rc_slow.proofs.Advances.{stays}
 use Rattle.rc_slow.proofs.machine.give_first.Goals as goal
 
@@ -21,7 +22,7 @@ returns-in-NewSubregion c = λ k w laid.
     let m1 : CodeMachine = record m0 { heap = c.make_subregion.new.heap } in
     let P : Run KeptWorld Doing → Type 0 = Comes c.make_subregion.result fs m0.now.locals c.make_subregion.new.heap W in
     let comes = subst P (sym (ap (λ e. first_step program (expr_of e) (value_of c.args.value) fs m0.now.locals W) c.in-NewSubregion.is)) (c.make_subregion.ensures program (expr_of c.in-NewSubregion.parent.value) fs m0.now.locals W refl refl) in
-    c.onward.ensures program limits m1 w _
+    c.onward.ensures limits m1 w _
     (stays program limits c.make_subregion.result m1 (state_at k m0) w W (first_step program (expr_of c.args.e.now) (value_of c.args.value) fs m0.now.locals W) fs m0.now.locals (record { acts = refl; input = refl }) (λ control. refl) comes)
 
 pub returns-in-Allocate : goal.returns-in-Allocate
@@ -34,5 +35,9 @@ returns-in-Allocate c = λ k w laid.
     let m1 : CodeMachine = record m0 { heap = c.allocate.new.heap } in
     let P : Run KeptWorld Doing → Type 0 = Comes c.allocate.result fs m0.now.locals c.allocate.new.heap W in
     let comes = subst P (sym (ap (λ e. first_step program (expr_of e) (value_of c.args.value) fs m0.now.locals W) c.in-Allocate.is)) (c.allocate.ensures program fs m0.now.locals W laid refl refl) in
-    c.onward-in-Allocate.ensures program limits m1 w _
+    c.onward-in-Allocate.ensures limits m1 w _
     (stays program limits c.allocate.result m1 (state_at k m0) w W (first_step program (expr_of c.args.e.now) (value_of c.args.value) fs m0.now.locals W) fs m0.now.locals (record { acts = refl; input = refl }) (λ control. refl) comes)
+
+pub returns-in_default : goal.returns-in_default
+returns-in_default c =
+    c.give_inside_first.ensures (inside_code c.args.e.now c.in_default.not-NewSubregion c.in_default.not-Allocate c.in_default.not-Putchar)

@@ -1,21 +1,14 @@
-use Rattle.std.proofs.Common.{rules, ◌≡◌, ◌∙◌, ◌∷◌, ◌-◌, [], suc, true, false, None, IsTrue, arith, pos, refl, sym, ap, subst}
-use Rattle.rc_core.specs.Runs.{Run, Go, bind}
-use Rattle.rc_core.specs.Execution.{calls_within}
-use Rattle.rc_core.specs.Programs.{call}
-use Rattle.rc_core.specs.Shapes.{arguments_of, expr_of, function_of, place_of, program_of, stmt_of, path_of}
-use Rattle.rc_core.proofs.ShapeRows.{call_is}
+use Rattle.std.proofs.Common.{refl, sym, ap}
+use Rattle.rc_core.specs.Shapes.{program_of, stmt_of}
 use Rattle.rc_slow.specs.declared.machine.Machine.{Machine as CodeMachine}
 use Rattle.rc_slow.specs.declared.calls.Activation.{Activation as CodeActivation}
-use Rattle.rc_slow.specs.Advancing.{Advances, Leads, LeadsTo, begins_alone, onwards, standing, state_at}
-use Rattle.rc_slow.specs.Codes.{control_of, frame_of, frames_of, stage_of, CodeFrames}
-use Rattle.rc_slow.specs.Coming.{Comes, stays_inside, with_turns}
-use Rattle.rc_slow.specs.KeptWorld.{KeptWorld, kept}
+use Rattle.rc_slow.specs.Advancing.{standing, state_at}
+use Rattle.rc_slow.specs.Codes.{frames_of, stage_of}
+use Rattle.rc_slow.specs.Coming.{with_turns}
 use Rattle.rc_slow.specs.Standing.{activation_of, callers_of}
-use Rattle.rc_slow.specs.Stepping.{Doing, doing, begin, execute, first_step, given_step, pointer_step, second_step, along_step}
+use Rattle.rc_slow.specs.Stepping.{given_step}
 use Rattle.rc_slow.specs.Values.{value_of}
-use Rattle.rc_slow.specs.Whole.{Progress, State, control_step, evaluate_step, give_step, staying, whole}
-use Rattle.rc_slow.proofs.Advances.{alone_needs, alone_step, entered_on, stays}
-use Rattle.rc_slow.proofs.Results.{comes_doing, comes_run, if_ok_map}
+use Rattle.rc_slow.proofs.Advances.{goes_to, stays}
 use Rattle.rc_slow.proofs.machine.give_inside.Goals as goal
 
 pub returns : goal.returns
@@ -31,5 +24,5 @@ returns c = λ k w.
     stays program limits c.give_now.result m1 s w (with_turns c.give_now.new.turns W)
     (given_step program (stmt_of c.args.s.now) (stage_of (stmt_of c.args.s.now) c.args.stage) (value_of c.args.value) fs env W)
     (frames_of c.give_now.new.now.frames) c.give_now.new.now.locals (record { acts = refl; input = refl })
-    (λ control. ap (λ (a : CodeActivation). whole program (record { control = control; now = activation_of a; below = callers_of m0.below }) (standing limits m1 w)) (sym c.give_now.ensures.same))
+    (λ control. ap (λ (a : CodeActivation). goes_to (record { control = control; now = activation_of a; below = callers_of m0.below }) (standing limits m1 w)) (sym c.give_now.ensures.same))
     (c.give_now.ensures.gives program W refl refl)

@@ -1,21 +1,16 @@
-use Rattle.std.proofs.Common.{rules, ◌≡◌, ◌∙◌, ◌∷◌, ◌-◌, [], suc, true, false, None, IsTrue, arith, pos, refl, sym, ap, subst}
-use Rattle.rc_core.specs.Runs.{Run, Go, bind}
+use Rattle.std.proofs.Common.{◌∙◌, ◌∷◌, refl, sym, ap, subst}
+use Rattle.rc_core.specs.Runs.{Run, Go}
 use Rattle.rc_core.specs.Execution.{calls_within}
-use Rattle.rc_core.specs.Programs.{call}
-use Rattle.rc_core.specs.Shapes.{arguments_of, expr_of, function_of, place_of, program_of, stmt_of, path_of}
-use Rattle.rc_core.proofs.ShapeRows.{call_is}
+use Rattle.rc_core.specs.Shapes.{expr_of, function_of, place_of, program_of}
 use Rattle.rc_slow.specs.declared.machine.Machine.{Machine as CodeMachine}
-use Rattle.rc_slow.specs.declared.calls.Activation.{Activation as CodeActivation}
-use Rattle.rc_slow.specs.Advancing.{Advances, Leads, LeadsTo, begins_alone, onwards, standing, state_at}
-use Rattle.rc_slow.specs.Codes.{control_of, frame_of, frames_of, stage_of, CodeFrames}
-use Rattle.rc_slow.specs.Coming.{Comes, stays_inside, with_turns}
+use Rattle.rc_slow.specs.Advancing.{Advances, Leads, standing, state_at}
+use Rattle.rc_slow.specs.Codes.{frame_of, frames_of}
 use Rattle.rc_slow.specs.KeptWorld.{KeptWorld, kept}
-use Rattle.rc_slow.specs.Standing.{activation_of, callers_of}
-use Rattle.rc_slow.specs.Stepping.{Doing, doing, begin, execute, first_step, given_step, pointer_step, second_step, along_step}
+use Rattle.rc_slow.specs.Stepping.{pointer_step, second_step}
 use Rattle.rc_slow.specs.Values.{value_of}
-use Rattle.rc_slow.specs.Whole.{Progress, State, control_step, evaluate_step, give_step, staying, whole}
-use Rattle.rc_slow.proofs.Advances.{alone_needs, alone_step, entered_on, stays}
-use Rattle.rc_slow.proofs.Results.{comes_doing, comes_run, if_ok_map}
+use Rattle.rc_slow.specs.Whole.{Progress, give_step, staying}
+use Rattle.rc_slow.proofs.Advances.{stays}
+use Rattle.rc_slow.proofs.Results.{comes_doing, if_ok_map}
 use Rattle.rc_slow.proofs.machine.give_to.Goals as goal
 
 pub returns-in-First : goal.returns-in-First
@@ -27,7 +22,7 @@ returns-in-First c = λ k w laid.
     let fs = frames_of m0.now.frames in
     let env = m0.now.locals in
     let W = standing limits m0 w in
-    let P : Run KeptWorld Progress → Type 0 = λ r. Advances program limits c.give_first.result c.give_first.new.machine w (onwards program limits r) in
+    let P : Run KeptWorld Progress → Type 0 = λ r. Advances limits c.give_first.result c.give_first.new.machine w (r) in
     subst P (sym (ap (λ f. give_step program (frame_of f ∷ fs) (value_of c.args.value) s W) c.in-First.is)) (c.give_first.ensures k w laid)
 
 pub returns-in-Second : goal.returns-in-Second
@@ -40,10 +35,10 @@ returns-in-Second c = λ k w laid.
     let env = m0.now.locals in
     let W = standing limits m0 w in
     let m1 : CodeMachine = record m0 { heap = c.go_on_again.new.heap } in
-    let P : Run KeptWorld Progress → Type 0 = λ r. Leads program limits c.go_on_again.result m1 w (onwards program limits r) in
+    let P : Run KeptWorld Progress → Type 0 = λ r. Leads limits c.go_on_again.result m1 w (r) in
     let f = function_of m0.now.function.now in
     let calls = calls_within kept program m0.now.calls in
-    c.onward.ensures program limits m1 w _
+    c.onward.ensures limits m1 w _
     (subst P (sym (ap (λ f. give_step program (frame_of f ∷ fs) (value_of c.args.value) s W) c.in-Second.is))
     (stays program limits c.go_on_again.result m1 s w W (second_step program f calls (expr_of c.in-Second.e.now) (value_of c.in-Second.first) (value_of c.args.value) fs env W) fs env (record { acts = refl; input = refl }) (λ control. refl)
     (c.go_on_again.ensures program f calls fs env W laid refl refl)))
@@ -58,10 +53,10 @@ returns-in-Pointer c = λ k w laid.
     let env = m0.now.locals in
     let W = standing limits m0 w in
     let m1 : CodeMachine = record m0 { now = record m0.now { frames = c.point.new.frames } } in
-    let P : Run KeptWorld Progress → Type 0 = λ r. Leads program limits c.point.result m1 w (onwards program limits r) in
+    let P : Run KeptWorld Progress → Type 0 = λ r. Leads limits c.point.result m1 w (r) in
     let to = pointer_step program (place_of c.in-Pointer.place.now) (value_of c.args.value) fs env in
     let new = frames_of c.point.new.frames in
-    c.onward-in-Pointer.ensures program limits m1 w _
+    c.onward-in-Pointer.ensures limits m1 w _
     (subst P (sym (ap (λ f. give_step program (frame_of f ∷ fs) (value_of c.args.value) s W) c.in-Pointer.is))
     (stays program limits c.point.result m1 s w W (Go to W) new env (record { acts = refl; input = refl }) (λ control. refl)
     (comes_doing c.point.result to new env W (Go to W) refl
@@ -77,8 +72,8 @@ returns-in-Index c = λ k w laid.
     let fs = frames_of m0.now.frames in
     let env = m0.now.locals in
     let W = standing limits m0 w in
-    ap (λ f. onwards program limits (give_step program (frame_of f ∷ fs) (value_of c.args.value) s W)) c.in-Index.is
-    ∙ ap (λ d. onwards program limits (staying program s (Go d W))) (sym (c.shift.ensures program fs env))
+    ap (λ f. (give_step program (frame_of f ∷ fs) (value_of c.args.value) s W)) c.in-Index.is
+    ∙ ap (λ d. (staying program s (Go d W))) (sym (c.shift.ensures program fs env))
 
 pub returns-in-Inside : goal.returns-in-Inside
 returns-in-Inside c = λ k w laid.
@@ -89,6 +84,6 @@ returns-in-Inside c = λ k w laid.
     let fs = frames_of m0.now.frames in
     let env = m0.now.locals in
     let W = standing limits m0 w in
-    let P : Run KeptWorld Progress → Type 0 = λ r. Leads program limits c.give_inside.result c.give_inside.new.machine w (onwards program limits r) in
-    c.onward-in-Inside.ensures program limits c.give_inside.new.machine w _
+    let P : Run KeptWorld Progress → Type 0 = λ r. Leads limits c.give_inside.result c.give_inside.new.machine w (r) in
+    c.onward-in-Inside.ensures limits c.give_inside.new.machine w _
     (subst P (sym (ap (λ f. give_step program (frame_of f ∷ fs) (value_of c.args.value) s W) c.in-Inside.is)) (c.give_inside.ensures k w))

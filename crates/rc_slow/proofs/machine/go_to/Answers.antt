@@ -1,8 +1,8 @@
-use Rattle.std.proofs.Common.{◌≡◌, ◌∷◌, refl, sym, ap, subst}
+use Rattle.std.proofs.Common.{◌∷◌, refl, sym, ap, subst}
 use Rattle.rc_core.specs.Runs.{Run}
 use Rattle.rc_core.specs.Shapes.{stmt_of}
 use Rattle.rc_slow.specs.declared.machine.Machine.{Machine as CodeMachine}
-use Rattle.rc_slow.specs.Advancing.{Leads, onwards, standing, state_at}
+use Rattle.rc_slow.specs.Advancing.{Leads, standing, state_at}
 use Rattle.rc_slow.specs.Codes.{frame_of, frames_of, stage_of}
 use Rattle.rc_slow.specs.Coming.{with_turns}
 use Rattle.rc_slow.specs.KeptWorld.{KeptWorld}
@@ -17,7 +17,7 @@ returns-in-Inside c = λ program limits k w.
     let fs = frames_of m0.now.frames in
     let W = standing limits m0 w in
     let m1 : CodeMachine = record m0 { now = record m0.now { frames = c.go_on.new.frames }; turns = c.go_on.new.turns } in
-    let P : Run KeptWorld Progress → Type 0 = λ r. Leads program limits c.go_on.result m1 w (onwards program limits r) in
+    let P : Run KeptWorld Progress → Type 0 = λ r. Leads limits c.go_on.result m1 w (r) in
     subst P (sym (ap (λ f. goes_step program (frame_of f ∷ fs) (state_at k m0) W) c.in-Inside.is))
     (stays program limits c.go_on.result m1 (state_at k m0) w (with_turns c.go_on.new.turns W)
     (go_step program (stmt_of c.in-Inside.s.now) (stage_of (stmt_of c.in-Inside.s.now) c.in-Inside.stage) fs m0.now.locals W)

@@ -1,4 +1,4 @@
-use Rattle.std.proofs.Common.{◌∙◌, ap}
+use Rattle.std.proofs.Common.{ap}
 use Rattle.rc_core.specs.Shapes.{stmt_of}
 use Rattle.rc_slow.specs.Codes.{frames_of, rest_behind, stage_of}
 use Rattle.rc_slow.specs.Coming.{with_turns}

@@ -1,8 +1,6 @@
-use Rattle.std.proofs.Common.{rules, ◌≡◌, ◌∙◌, ◌+◌, ◌∷◌, suc, ap, sym, add-one, Some, None}
-use Rattle.std.specs.Prelude.{slice_get, option_map}
-use Rattle.rc_core.specs.declared.stmt.Stmt.{Stmt as CodeStmt}
+use Rattle.std.proofs.Common.{rules, ◌≡◌, ◌∙◌, ◌+◌, ◌∷◌, ap, sym, add-one, Some, None}
+use Rattle.std.specs.Prelude.{slice_get}
 use Rattle.rc_core.proofs.ShapeRows.{block_is}
-use Rattle.rc_core.specs.Programs.{block, done, then}
 use Rattle.rc_core.specs.Shapes.{stmt_of, stmts_of}
 use Rattle.rc_slow.specs.Codes.{control_of, behind_so_many, frames_of, rest_behind}
 use Rattle.rc_slow.specs.Frames.{inside, within}

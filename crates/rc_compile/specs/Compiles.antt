@@ -1,0 +1,37 @@
+-- What compiling a text answers, and its parts.
+use Rattle.std.specs.Prelude.{ℕ, List, Result, Ok, Err, Vec}
+use Rattle.std.specs.declared.alloc.Global.{Global}
+use Rattle.rc_syntax.specs.declared.word.Token.{Token as CodeToken}
+use Rattle.rc_syntax.specs.declared.tree.Tree as declared_tree
+use Rattle.rc_syntax.specs.WordShapes.{tokens_of}
+use Rattle.rc_syntax.specs.Tree.{Tree}
+use Rattle.rc_syntax.specs.Shape.{tree_of}
+use Rattle.rc_core.specs.declared.parts.Parts.{Parts}
+use Rattle.rc_core.specs.Shapes.{program_of}
+use Rattle.rc_deletes.specs.Answer.{IsProgramOf}
+use Rattle.rc_compile.specs.Acceptance.{HasWords}
+use Rattle.rc_compile.specs.Answers.{IsOnlyProgram, IsOnlyRefusal, IsOnlyTree}
+use Rattle.rc_compile.specs.declared.fault.CompileFault.{CompileFault}
+use Rattle.rc_compile.specs.declared.fault.CompileFault.TheVariants.{Refused, Memory}
+
+-- a text's one refusal, or want of memory
+abbrev pub IsReason : List ℕ → CompileFault → Type 0
+IsReason text (Refused refusal) = IsOnlyRefusal text refusal
+IsReason text Memory = Unit {0}
+
+-- the text's words, its one tree, its one program: or why there is none
+abbrev pub FindsWords : List ℕ → Result (Vec CodeToken Global) CompileFault → Type 0
+FindsWords text (Ok tokens) = HasWords text (tokens_of tokens.items)
+FindsWords text (Err fault) = IsReason text fault
+
+abbrev pub FindsTree : List ℕ → Result declared_tree.Tree CompileFault → Type 0
+FindsTree text (Ok tree) = IsOnlyTree text (tree_of tree)
+FindsTree text (Err fault) = IsReason text fault
+
+abbrev pub FindsTyping : Tree → List ℕ → Result Parts CompileFault → Type 0
+FindsTyping tree text (Ok program) = IsProgramOf tree (program_of program)
+FindsTyping tree text (Err fault) = IsReason text fault
+
+abbrev pub Compiles : List ℕ → Result Parts CompileFault → Type 0
+Compiles text (Ok program) = IsOnlyProgram text (program_of program)
+Compiles text (Err fault) = IsReason text fault

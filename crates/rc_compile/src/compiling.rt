@@ -1,0 +1,128 @@
+// The program of a text: its words, its tree, the rules of types, and the counts of what it needs.
+ghost use Rattle.std.specs.Prelude.{◌≡◌, ◌≤◌, length};
+ghost use Rattle.rc_syntax.specs.Shape.{tree_of};
+ghost use Rattle.rc_syntax.specs.WordShapes.{tokens_of};
+ghost use Rattle.rc_core.specs.Shapes.{program_of};
+ghost use Rattle.rc_deletes.specs.Answer.{IsProgramOf};
+ghost use Rattle.rc_deletes.specs.Answer as rules;
+ghost use Rattle.rc_compile.specs.Acceptance.{HasWords, rule_refusal};
+ghost use Rattle.rc_compile.specs.Answers.{IsOnlyTree};
+ghost use Rattle.rc_compile.specs.Compiles.{Compiles, FindsTree, FindsTyping, FindsWords};
+
+use crate::fault::CompileFault;
+use crate::refusal::Refusal;
+use rc_core::program::Program;
+use rc_deletes::{DeletesFault, Refusal as NodeRefusal};
+use rc_elab::{ElabFault, count};
+use rc_lexer::fault::LexFault;
+use rc_lexer::lex::lex;
+use rc_parser::parse;
+use rc_syntax::fault::ParseFault;
+use rc_syntax::tree::Tree;
+use rc_syntax::word::Token;
+use rc_typing::{TypeFault, check};
+use std::alloc::Global;
+
+/// The words of a text.
+fn words(alloc: Global, text: &[u8]) -> Result<Vec<Token>, CompileFault>
+    ensures { FindsWords text.now result }
+{
+    match lex(alloc, text) {
+        Ok(tokens) => Ok(tokens),
+        Err(LexFault::TooLong) => Err(CompileFault::Refused(Refusal::TooLong)),
+        Err(LexFault::Byte(line)) => Err(CompileFault::Refused(Refusal::Byte(line))),
+        Err(LexFault::Token(line)) => Err(CompileFault::Refused(Refusal::Token(line))),
+        Err(LexFault::Memory) => Err(CompileFault::Memory),
+    }
+}
+
+/// The tree of the words of a text.
+fn tree_behind(alloc: Global, _text: &[u8], tokens: &[Token]) -> Result<Tree, CompileFault>
+    requires { HasWords _text.now (tokens_of tokens.now) }
+    ensures { FindsTree _text.now result }
+{
+    match parse(alloc, tokens) {
+        Ok(tree) => Ok(tree),
+        Err(ParseFault::Syntax(line)) => Err(CompileFault::Refused(Refusal::Syntax(line))),
+        Err(ParseFault::Deep(line)) => Err(CompileFault::Refused(Refusal::Deep(line))),
+        Err(ParseFault::Memory) => Err(CompileFault::Memory),
+    }
+}
+
+/// The tree of a text.
+fn tree(alloc: Global, text: &[u8]) -> Result<Tree, CompileFault>
+    ensures { FindsTree text.now result }
+{
+    let tokens = words(alloc, text)?;
+    tree_behind(alloc, text, tokens.as_slice())
+}
+
+/// The refusal of a rule that fails at a node on this line.
+fn at_node(refusal: NodeRefusal, line: u32) -> Refusal
+    ensures { result ≡ rule_refusal (rules.at_node refusal line) }
+{
+    match refusal {
+        NodeRefusal::Unknown => Refusal::Unknown(line),
+        NodeRefusal::Twice => Refusal::Twice(line),
+        NodeRefusal::Mistyped => Refusal::Mistyped(line),
+        NodeRefusal::Arity => Refusal::Arity(line),
+        NodeRefusal::TooBig => Refusal::TooBig(line),
+    }
+}
+
+/// The refusal of a place where regions are deleted or pointers annotated.
+fn at_place(fault: DeletesFault) -> Refusal
+    ensures { result ≡ rule_refusal (rules.at_place fault) }
+{
+    match fault {
+        DeletesFault::AnnotationPlace(line) => Refusal::AnnotationPlace(line),
+        DeletesFault::NotDeletes(line) => Refusal::NotDeletes(line),
+        DeletesFault::DeletesPlace(line) => Refusal::DeletesPlace(line),
+    }
+}
+
+/// The program of the tree of a text by the rules of types, of `main` and of deletions.
+fn typed(alloc: Global, _text: &[u8], tree: &Tree) -> Result<Program, CompileFault>
+    requires { IsOnlyTree _text.now (tree_of tree.now) }
+    ensures { FindsTyping (tree_of tree.now) _text.now result }
+{
+    match check(alloc, tree) {
+        Ok(program) => Ok(program),
+        Err(TypeFault::Rule(refusal, line)) => Err(CompileFault::Refused(at_node(refusal, line))),
+        Err(TypeFault::Main(line)) => Err(CompileFault::Refused(Refusal::Main(line))),
+        Err(TypeFault::Place(fault)) => Err(CompileFault::Refused(at_place(fault))),
+        Err(TypeFault::Memory) => Err(CompileFault::Memory),
+    }
+}
+
+/// The program, if it needs no more than one may.
+fn within_bounds(
+    alloc: Global,
+    _text: &[u8],
+    _tree: &Tree,
+    program: Program,
+) -> Result<Program, CompileFault>
+    requires tree { IsOnlyTree _text.now (tree_of _tree.now) }
+    requires typed { IsProgramOf (tree_of _tree.now) (program_of program) }
+    ensures { Compiles _text.now result }
+{
+    match count(alloc, &program) {
+        Ok(()) => Ok(program),
+        Err(ElabFault::Variables(line)) => Err(CompileFault::Refused(Refusal::Variables(line))),
+        Err(ElabFault::Points) => Err(CompileFault::Refused(Refusal::Points)),
+        Err(ElabFault::Memory) => Err(CompileFault::Memory),
+    }
+}
+
+/// The program of a text, or why it has none.
+///
+/// A text goes through its words, its tree, the rules of types, of `main` and of deletions, and the
+/// counts of what its translation needs. It is refused by the first of these that it fails, and at no
+/// other place: a text has one program or one refusal. Want of memory is the one other answer.
+pub fn program(alloc: Global, text: &[u8]) -> Result<Program, CompileFault>
+    ensures { Compiles text.now result }
+{
+    let tree = tree(alloc, text)?;
+    let program = typed(alloc, text, &tree)?;
+    within_bounds(alloc, text, &tree, program)
+}

@@ -1,0 +1,10 @@
+#include "regions.h"
+
+/* A trap: the region is still named by a local that is read later. */
+int main(void) deletes {
+    region r = newregion();
+    int *p = ralloc(r, int);
+    *p = 7;
+    deleteregion(r);
+    return *p;
+}

@@ -1,0 +1,4 @@
+int main(void) {
+    putchar(72);
+    return 0;
+}

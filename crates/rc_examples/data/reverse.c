@@ -1,0 +1,27 @@
+#include "regions.h"
+
+/* Writes what it reads, from the last byte to the first. */
+struct letter {
+    char byte;
+    struct letter *sameregion before;
+};
+
+int main(void) deletes {
+    region r = newregion();
+    struct letter *last = NULL, *l;
+    int c = getchar();
+    while (c != EOF) {
+        l = ralloc(r, struct letter);
+        l->byte = c;
+        l->before = last;
+        last = l;
+        c = getchar();
+    }
+    while (last) {
+        putchar(last->byte);
+        last = last->before;
+    }
+    putchar('\n');
+    deleteregion(r);
+    return 0;
+}

@@ -1,0 +1,49 @@
+//! Runs each example by its name, and says which status it ends with. What an example writes on the
+//! error stream stands behind what it writes on the output.
+#![tactic(auto)]
+
+use rc_driver::{Folder, StdSink, StdSource, rc_main, status_of};
+use std::io;
+use std::process::ExitCode;
+
+const EXAMPLES: [&str; 9] = [
+    "hello.c",
+    "list.c",
+    "tree.c",
+    "ring.c",
+    "scratch.c",
+    "reverse.c",
+    "dangling.c",
+    "overflow.c",
+    "refused.c",
+];
+
+/// Runs an example, and answers its status.
+fn run(rt: &HostRuntime, name: &str) -> io::Result<u8> {
+    let alloc = rt.alloc();
+    let mut words = Vec::new(alloc);
+    words.push(String::from_str(alloc, "run")?)?;
+    words.push(String::from_str(alloc, name)?)?;
+    let mut files = Folder::new(rt.clone()?);
+    let mut input = StdSource::new(rt.stdin());
+    let mut out = StdSink::new(rt.stdout());
+    let mut err = StdSink::new(rt.stdout());
+    let answer = rc_main(alloc, &words, &mut files, &mut input, &mut out, &mut err);
+    Ok(status_of(&answer))
+}
+
+fn run_all(rt: &HostRuntime) -> io::Result<()> {
+    for name in EXAMPLES {
+        println!(rt; "{name}")?;
+        let status = run(rt, name)?;
+        println!(rt; "\nstatus {status}")?;
+    }
+    Ok(())
+}
+
+fn main(rt: HostRuntime) -> ExitCode {
+    match run_all(&rt) {
+        Ok(()) => ExitCode::SUCCESS,
+        Err(_) => ExitCode::FAILURE,
+    }
+}

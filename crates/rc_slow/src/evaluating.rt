@@ -1,0 +1,178 @@
+// Runs a program.
+
+ghost use Rattle.std.specs.Prelude.{◌≡◌, ◌≤◌, IfOk, IfErr, IsTrue, Some, map, option_map, slice_get};
+ghost use Rattle.rc_base.specs.declared.ends.RunFault.TheVariants.{ReadFault, WriteFault, Memory};
+ghost use Rattle.rc_core.specs.Arithmetic.{as_int};
+ghost use Rattle.rc_core.specs.Deletes.{DeletesInPlace};
+ghost use Rattle.rc_core.specs.Evaluation.{number_in};
+ghost use Rattle.rc_core.specs.Shapes.{function_of, program_of};
+ghost use Rattle.rc_slow.specs.Beginning.{Begins, from_beginning};
+ghost use Rattle.rc_slow.specs.Evaluates.{Evaluates};
+ghost use Rattle.rc_slow.specs.Going.{Arrives, way_from};
+ghost use Rattle.rc_slow.specs.Laid.{AreLaidOut};
+ghost use Rattle.rc_slow.specs.Performing.{HasFaultCause};
+ghost use Rattle.rc_slow.specs.Values.{value_of};
+ghost use Rattle.rc_slow.specs.declared.stop.Stop.TheVariants.{Cut};
+
+use crate::calls::{Activation, Callers, first_locals};
+use crate::frames::Control;
+use crate::heap::Heap;
+use crate::layouts::Layouts;
+use crate::machine::{Machine, Setting};
+use crate::run::run_on;
+use crate::stop::Stop;
+use crate::value::{Value, number_in};
+use crate::values::Values;
+use crate::waiting::Waiting;
+use rc_base::{End, Limits, RunFault, Sink, Source};
+use rc_core::parts::{Function, Parts};
+use rc_core::program::Program;
+use std::alloc::Global;
+
+/// The function of that number, where there is one.
+fn main_of(parts: &Parts) -> Option<&Function>
+    ensures { option_map (λ f. function_of f.now) result ≡ slice_get (program_of parts.now).functions (program_of parts.now).main }
+{
+    parts.functions.as_slice().get(parts.main as usize)
+}
+
+/// The machine where `main` begins, behind its turn.
+fn begin<'p>(setting: &Setting<'p>, function: &'p Function) -> Result<Machine<'p>, Stop>
+    requires laid { AreLaidOut (program_of setting.now.parts.now).structs setting.now.layouts.now }
+    requires turn { 1 ≤ setting.now.limits.turns }
+    ensures begins { IfOk result (Begins (program_of setting.now.parts.now) setting.now.limits (function_of function.now)) }
+    ensures memory { IfErr result (λ stop. stop ≡ Cut Memory) }
+{
+    let alloc = setting.alloc;
+    let locals = first_locals(function, Values::new(alloc))?;
+    let heap = Heap::new(alloc, setting.layouts, setting.parts)?;
+    Ok(Machine {
+        now: Activation {
+            function,
+            frames: Waiting::new(alloc),
+            locals,
+            calls: setting.limits.turns,
+            held: None,
+        },
+        below: Callers::new(alloc),
+        heap,
+        turns: setting.limits.turns - 1,
+    })
+}
+
+/// Runs `main`, whose turn was taken.
+fn run_function<'p, S: Source, O: Sink>(
+    setting: &Setting<'p>,
+    function: &'p Function,
+    input: &mut S,
+    out: &mut O,
+) -> Result<Value, Stop>
+    requires laid { AreLaidOut (program_of setting.now.parts.now).structs setting.now.layouts.now }
+    requires turn { 1 ≤ setting.now.limits.turns }
+    requires main { slice_get (program_of setting.now.parts.now).functions (program_of setting.now.parts.now).main ≡ Some (function_of function.now) }
+    ensures arrives { Arrives (program_of setting.now.parts.now) setting.now.limits (way_from (from_beginning (program_of setting.now.parts.now) setting.now.limits) (S.state input.old) (S.state input.new) (O.state out.old) (O.state out.new)) result }
+    ensures input_tells { (S.state input.new).tells ≡ (S.state input.old).tells }
+    ensures out_tells { (O.state out.new).tells ≡ (O.state out.old).tells }
+    ensures flushed { IsTrue (O.state out.old).tells → (O.state out.new).flushed ≡ (O.state out.old).flushed }
+    ensures read_cause { HasFaultCause ReadFault (S.state input.old).faults (S.state input.new).faults result }
+    ensures write_cause { HasFaultCause WriteFault (O.state out.old).faults (O.state out.new).faults result }
+{
+    let mut machine = begin(setting, function)?;
+    run_on(
+        setting,
+        &mut machine,
+        Control::Execute(&function.body),
+        input,
+        out,
+    )
+}
+
+/// Runs `main`, which takes a turn as every call does.
+fn run_main<'p, S: Source, O: Sink>(
+    setting: &Setting<'p>,
+    input: &mut S,
+    out: &mut O,
+) -> Result<Value, Stop>
+    requires laid { AreLaidOut (program_of setting.now.parts.now).structs setting.now.layouts.now }
+    ensures arrives { Arrives (program_of setting.now.parts.now) setting.now.limits (way_from (from_beginning (program_of setting.now.parts.now) setting.now.limits) (S.state input.old) (S.state input.new) (O.state out.old) (O.state out.new)) result }
+    ensures input_tells { (S.state input.new).tells ≡ (S.state input.old).tells }
+    ensures out_tells { (O.state out.new).tells ≡ (O.state out.old).tells }
+    ensures flushed { IsTrue (O.state out.old).tells → (O.state out.new).flushed ≡ (O.state out.old).flushed }
+    ensures read_cause { HasFaultCause ReadFault (S.state input.old).faults (S.state input.new).faults result }
+    ensures write_cause { HasFaultCause WriteFault (O.state out.old).faults (O.state out.new).faults result }
+{
+    if setting.limits.turns == 0 {
+        return Err(Stop::Ends(End::Spent));
+    }
+    match main_of(setting.parts) {
+        None => Ok(Value::Null),
+        Some(function) => run_function(setting, function, input, out),
+    }
+}
+
+/// The exit value, where `main` gave this one.
+fn exit_value(value: Value) -> i32
+    ensures { result ≡ as_int (number_in (value_of value)) }
+{
+    let bits = number_in(value).rem_euclid(4_294_967_296);
+    if bits < 2_147_483_648 {
+        bits as i32
+    } else {
+        (bits - 4_294_967_296) as i32
+    }
+}
+
+/// What is answered where a deleted region was touched. No run comes to that over an input that tells
+/// its bytes; of any other input nothing is known.
+fn unforeseen<S: Source>(input: &S) -> RunFault
+    requires untold { ¬ IsTrue (S.state input.now).tells }
+    ensures { result ≡ Memory }
+{
+    let _input = input;
+    RunFault::Memory
+}
+
+/// Runs the program of a setting.
+fn evaluate_in<'p, S: Source, O: Sink>(
+    setting: &Setting<'p>,
+    input: &mut S,
+    out: &mut O,
+) -> Result<End, RunFault>
+    requires laid { AreLaidOut (program_of setting.now.parts.now).structs setting.now.layouts.now }
+    requires deleting { DeletesInPlace (program_of setting.now.parts.now) }
+    ensures { Evaluates (program_of setting.now.parts.now) setting.now.limits (S.state input.old) (S.state input.new) (O.state out.old) (O.state out.new) result }
+{
+    match run_main(setting, input, out) {
+        Ok(value) => Ok(End::Exit(exit_value(value))),
+        Err(Stop::Ends(end)) => Ok(end),
+        Err(Stop::Stale(_)) => Err(unforeseen(input)),
+        Err(Stop::Cut(fault)) => Err(fault),
+    }
+}
+
+/// Runs a program, and answers how the run ends. Its end and its acts are those that the program means
+/// on the bytes of the input, where the input tells them; a read or a write that fails, or want of
+/// memory, leaves a front of the acts. It makes no flush.
+pub fn evaluate<S: Source, O: Sink>(
+    alloc: Global,
+    program: &Program,
+    limits: &Limits,
+    input: &mut S,
+    out: &mut O,
+) -> Result<End, RunFault>
+    ensures { Evaluates (program_of program.now) limits.now (S.state input.old) (S.state input.new) (O.state out.old) (O.state out.new) result }
+{
+    let parts = program.parts();
+    match Layouts::new(alloc, parts.structs.as_slice()) {
+        Err(_) => Err(RunFault::Memory),
+        Ok(layouts) => {
+            let setting = Setting {
+                alloc,
+                parts,
+                layouts: &layouts,
+                limits: *limits,
+            };
+            evaluate_in(&setting, input, out)
+        }
+    }
+}

@@ -1,0 +1,65 @@
+-- A global whose parts are judged.
+use Rattle.std.proofs.Common.{◌≡◌, ◌≤◌, ◌+◌, ℕ, refl, ap, sym, ◌∙◌, subst, arith, List, [], ◌∷◌, ◌++◌, Option, Some, None, Bor, option_map, Bool, true, false, ◌||◌}
+use Rattle.std.specs.Prelude.{ℤ, nat_lt, is_none, is_some}
+use Rattle.std.proofs.lemmas.Bool.Decides.{nat_tests}
+use Rattle.rc_syntax.specs.declared.tree.Spot.{Spot}
+use Rattle.rc_syntax.specs.declared.tree.Name.{Name}
+use Rattle.rc_syntax.specs.declared.tree.Constant.{Constant}
+use Rattle.rc_syntax.specs.Tree as t
+use Rattle.rc_core.specs.Types.{Ty}
+use Rattle.rc_deletes.specs.declared.fault.Refusal.TheVariants.{Mistyped, TooBig}
+use Rattle.rc_deletes.specs.Judged.{Judged, Holds, ruled, failing}
+use Rattle.rc_deletes.specs.Kinds.{written_type}
+use Rattle.rc_deletes.specs.Scopes.{Context, Scope, type_names, meaning_in}
+use Rattle.rc_deletes.specs.Items.{Outside, Made, item, cell_type, once, cells_of_global, global_made, global_of, initial_of, is_empty, value_or_zero}
+use Rattle.rc_rules.specs.declared.stop.Stop.{Stop}
+use Rattle.rc_rules.specs.Stops.{StopsAt}
+use Rattle.rc_rules.specs.declared.meanings.Meaning.{Meaning as CodeMeaning}
+use Rattle.rc_rules.specs.Shapes.{meaning_of}
+use Rattle.rc_typing.specs.Contexts.{scope_of}
+use Rattle.rc_typing.specs.Sizes.{SameUpTo}
+use Rattle.rc_typing.proofs.Stops.{both_ruled}
+
+is_few : (at : Spot) (b e l : Bool) (a m : Made) → ruled at (failing b Mistyped ++ failing (e || l) TooBig) a ≡ Holds m → l ≡ false
+is_few at true e l a m h = absurd cc
+is_few at false true l a m h = absurd cc
+is_few at false false true a m h = absurd cc
+is_few at false false false a m h = refl
+
+no_more : (n : ℕ) → nat_lt 1048576 n ≡ false → n ≤ 1048576
+no_more n h = grind (arith, nat_tests)
+
+pub total_few : (context : Context) (at : Spot) (n : t.TypeName) (count : Option ℕ) (total : ℕ) (initial : Option ℤ) (m : Made) → global_made context at n count total initial ≡ Holds m → total ≤ 1048576
+total_few context at n count total initial m h = no_more total (is_few at (is_none initial) (is_empty count) (nat_lt 1048576 total) _ m h)
+
+module _ (context : Context) (o : Outside) (at : Spot) (n : t.TypeName) (name : Name) (count : Option ℕ) (c : Option Constant) (ty : Ty) (total : ℕ)
+    (typed : cell_type context o.structs n ≡ Holds tt) (is : ty ≡ written_type (type_names context) n) (new : once name (is_some (meaning_in o.names name.text)) ≡ Holds tt)
+    (same : SameUpTo 1048576 total (o.cells + cells_of_global context n count)) where
+  abbrev made : Bool → Option ℤ → Judged Made
+  made many initial = ruled at (failing (is_none initial) Mistyped ++ failing (is_empty count || many) TooBig) (record { globals = global_of context n count (value_or_zero initial) ∷ []; functions = [] })
+
+  pub item_is : item context o (t.global at n name count c) ≡ global_made context at n count total (initial_of ty count c)
+  item_is =
+      both_ruled (cell_type context o.structs n) tt (once name (is_some (meaning_in o.names name.text))) tt (λ u v. global_made context at n count (o.cells + cells_of_global context n count) (initial_of (written_type (type_names context) n) count c)) _ typed new refl
+      ∙ ap (λ b. made b (initial_of (written_type (type_names context) n) count c)) (sym same.0)
+      ∙ ap (λ u. made (nat_lt 1048576 total) (initial_of u count c)) (sym is)
+
+  pub global_stops : (s : Stop) → StopsAt (global_made context at n count total (initial_of ty count c)) s → StopsAt (item context o (t.global at n name count c)) s
+  global_stops s h = subst (λ (x : Judged Made). StopsAt x s) (sym item_is) h
+
+  pub global_held : (z : ℤ) → global_made context at n count total (initial_of ty count c) ≡ Holds (record { globals = global_of context n count z ∷ []; functions = [] }) →
+      item context o (t.global at n name count c) ≡ Holds (record { globals = record { ty = ty; count = count; initial = z } ∷ []; functions = [] })
+  global_held z h = item_is ∙ h ∙ ap (λ u. Holds (record { globals = record { ty = u; count = count; initial = z } ∷ []; functions = [] })) (sym is)
+
+pub is_known : (names : List (List ℕ × CodeMeaning)) (name : List ℕ) (r : Option (Bor CodeMeaning)) → option_map (λ m. meaning_of m.now) r ≡ meaning_in (scope_of names) name → is_some r ≡ is_some (meaning_in (scope_of names) name)
+is_known names name None h = ap is_some h
+is_known names name (Some m) h = ap is_some h
+
+pub known_typed : (context : Context) (n : t.TypeName) (now count : ℕ) → now ≡ count → cell_type context count n ≡ Holds tt → cell_type context now n ≡ Holds tt
+known_typed context n now count e h = subst (λ k. cell_type context k n ≡ Holds tt) (sym e) h
+
+pub known_new : (name : Name) (names scope : Scope) (twice : Bool) → names ≡ scope → twice ≡ is_some (meaning_in scope name.text) → once name twice ≡ Holds tt → once name (is_some (meaning_in names name.text)) ≡ Holds tt
+known_new name names scope twice e h k = subst (λ s. once name (is_some (meaning_in s name.text)) ≡ Holds tt) (sym e) (subst (λ b. once name b ≡ Holds tt) h k)
+
+pub known_total : (context : Context) (n : t.TypeName) (count : Option ℕ) (total now before : ℕ) → now ≡ before → SameUpTo 1048576 total (before + cells_of_global context n count) → SameUpTo 1048576 total (now + cells_of_global context n count)
+known_total context n count total now before e h = subst (λ k. SameUpTo 1048576 total (k + cells_of_global context n count)) (sym e) h

@@ -1,0 +1,96 @@
+-- A parameter, and the rest of the parameters.
+use Rattle.std.proofs.Common.{◌≡◌, ◌<◌, ◌≤◌, ◌+◌, ℕ, refl, ap, sym, ◌∙◌, subst, List, [], ◌∷◌, ◌++◌, append_assoc, length, drop, map, Option, Some, Bool, true, ◌&&◌, ◌||◌}
+use Rattle.std.specs.Prelude.{get_or, is_none}
+use Rattle.std.proofs.lemmas.List.{map-append}
+use Rattle.rc_syntax.specs.declared.tree.Param.{Param}
+use Rattle.rc_syntax.specs.declared.tree.TypeName.{TypeName}
+use Rattle.rc_syntax.specs.Shape as written
+use Rattle.rc_syntax.specs.Tree as t
+use Rattle.rc_core.specs.declared.ty.Ty.{Ty as CodeTy}
+use Rattle.rc_core.specs.Types.{Ty}
+use Rattle.rc_core.specs.Shapes.{ty_of}
+use Rattle.rc_core.specs.Typing.{is_struct}
+use Rattle.rc_deletes.specs.declared.fault.Refusal.TheVariants.{Mistyped}
+use Rattle.rc_deletes.specs.Judged.{Judged, Holds, Faulty, with_part, with_parts, ruled, failing}
+use Rattle.rc_deletes.specs.Kinds.{written_type}
+use Rattle.rc_deletes.specs.Scopes.{Context, type_names}
+use Rattle.rc_deletes.specs.Statements.{Here}
+use Rattle.rc_deletes.specs.Expressions.{base_rule}
+use Rattle.rc_deletes.specs.Items.{param_name, param_rule, params_rule, with_param, with_params, type_option}
+use Rattle.rc_rules.specs.declared.stop.Stop.{Stop}
+use Rattle.rc_rules.specs.declared.stop.Stop.TheVariants.{Rule}
+use Rattle.rc_rules.specs.Stops.{StopsAt}
+use Rattle.rc_typing.specs.declared.context.Context.{Context as CodeContext}
+use Rattle.rc_typing.specs.Contexts.{context_of}
+use Rattle.rc_typing.proofs.Contexts.{types_are}
+use Rattle.rc_typing.proofs.Ruled.{ruled_broken}
+use Rattle.rc_typing.proofs.Walks.{front, none_left}
+use Rattle.rc_typing.proofs.Stops.{left_stops, right_stops, both_stop}
+
+unit_part : (y : Judged (Unit {0})) → with_part y (λ v. Holds tt) ≡ y
+unit_part (Holds v) = refl
+unit_part (Faulty f fs) = refl
+
+append_end : {A : Type 0} (xs : List A) → xs ++ [] ≡ xs
+append_end [] = refl
+append_end (x ∷ xs) = ap (λ ys. x ∷ ys) (append_end xs)
+
+abbrev pub takes : List (List ℕ) → List Param → List Ty
+takes types qs = map (λ q. written_type types q.type_name) (map written.param_of qs)
+
+module _ (types : List (List ℕ)) (qs : List Param) (i : ℕ) (before : List CodeTy) where
+  pub taken_step : (q : Param) (ty : CodeTy) → i < length qs → q ≡ get_or qs i q → ty_of ty ≡ written_type types (written.type_of q.type_name) →
+      map ty_of before ++ takes types (drop i qs) ≡ map ty_of (before ++ ty ∷ []) ++ takes types (drop (i + 1) qs)
+  taken_step q ty l h e =
+      let rest = takes types (drop (i + 1) qs) in
+      ap (λ xs. map ty_of before ++ takes types xs) (front qs i q l h)
+      ∙ ap (λ u. map ty_of before ++ u ∷ rest) (sym e)
+      ∙ sym (append_assoc (map ty_of before) (ty_of ty ∷ []) rest)
+      ∙ ap (λ xs. xs ++ rest) (sym (map-append ty_of before (ty ∷ [])))
+
+  pub taken_end : length qs ≤ i → map ty_of before ++ takes types (drop i qs) ≡ map ty_of before
+  taken_end l = ap (λ xs. map ty_of before ++ takes types xs) (none_left qs i l) ∙ append_end (map ty_of before)
+
+-- the rule of one parameter
+module _ (context : Context) (has_body : Bool) (here : Here) (q : t.Param) (typed : base_rule context q.type_name.base ≡ Holds tt) where
+  abbrev own : Unit {0} → Unit {0} → Judged (Unit {0})
+  own u v = ruled q.spot (failing (is_struct (written_type (type_names context) q.type_name) || (has_body && is_none q.name)) Mistyped) tt
+
+  pub name_stops : (s : Stop) → StopsAt (param_name here q.name) s → StopsAt (param_rule context has_body here q) s
+  name_stops s h = right_stops (base_rule context q.type_name.base) tt (param_name here q.name) own s typed h
+
+  pub own_stops : (ty : Ty) (b : Bool) (s : Stop) → param_name here q.name ≡ Holds tt → ty ≡ written_type (type_names context) q.type_name → b ≡ (is_struct ty || (has_body && is_none q.name)) → b ≡ true → s ≡ Rule (record { at = q.spot; refusal = Mistyped }) → StopsAt (param_rule context has_body here q) s
+  own_stops ty b s named is e t r =
+      subst (λ s. StopsAt (param_rule context has_body here q) s) (sym r)
+      (both_stop (base_rule context q.type_name.base) tt (param_name here q.name) tt own (Rule (record { at = q.spot; refusal = Mistyped })) typed named
+      (ruled_broken q.spot (is_struct (written_type (type_names context) q.type_name) || (has_body && is_none q.name)) Mistyped (tt {0}) (ap (λ u. is_struct u || (has_body && is_none q.name)) (sym is) ∙ sym e ∙ t)))
+
+pub given_is : (c : CodeContext) (gives : Option TypeName) (n : TypeName) (ty : Ty) → gives ≡ Some n → ty ≡ written_type c.types (written.type_of n) → Some ty ≡ type_option (context_of c) (written.mapped written.type_of gives)
+given_is c gives n ty e h =
+    ap Some (h ∙ ap (λ ns. written_type ns (written.type_of n)) (sym (types_are c)))
+    ∙ ap (λ g. type_option (context_of c) (written.mapped written.type_of g)) (sym e)
+
+module _ (context : Context) (has_body : Bool) (here : Here) (qs : List Param) (i : ℕ) where
+  pub param_stops : (q : Param) (s : Stop) → i < length qs → q ≡ get_or qs i q → StopsAt (param_rule context has_body here (written.param_of q)) s → StopsAt (params_rule context has_body here (map written.param_of (drop i qs))) s
+  param_stops q s l h stops = rw (front qs i q l h) (left_stops (param_rule context has_body here (written.param_of q)) (params_rule context has_body (with_param context here (written.param_of q)) (map written.param_of (drop (i + 1) qs))) (λ u v. Holds tt) s stops)
+
+  pub param_step : (q : Param) (next : Here) → i < length qs → q ≡ get_or qs i q → param_rule context has_body here (written.param_of q) ≡ Holds tt → next ≡ with_param context here (written.param_of q) →
+      params_rule context has_body here (map written.param_of (drop i qs)) ≡ params_rule context has_body next (map written.param_of (drop (i + 1) qs))
+  param_step q next l h held n =
+      let rest = params_rule context has_body (with_param context here (written.param_of q)) (map written.param_of (drop (i + 1) qs)) in
+      ap (λ xs. params_rule context has_body here (map written.param_of xs)) (front qs i q l h)
+      ∙ ap (λ (x : Judged (Unit {0})). with_parts x rest (λ u v. Holds tt)) held ∙ unit_part rest
+      ∙ ap (λ x. params_rule context has_body x (map written.param_of (drop (i + 1) qs))) (sym n)
+
+  pub params_end : length qs ≤ i → params_rule context has_body here (map written.param_of (drop i qs)) ≡ Holds tt
+  params_end l = ap (λ xs. params_rule context has_body here (map written.param_of xs)) (none_left qs i l)
+
+module _ (context : Context) (here : Here) (qs : List Param) (i : ℕ) where
+  pub behind_step : (q : Param) (next : Here) → i < length qs → q ≡ get_or qs i q → next ≡ with_param context here (written.param_of q) →
+      with_params context here (map written.param_of (drop i qs)) ≡ with_params context next (map written.param_of (drop (i + 1) qs))
+  behind_step q next l h n =
+      ap (λ xs. with_params context here (map written.param_of xs)) (front qs i q l h)
+      ∙ ap (λ x. with_params context x (map written.param_of (drop (i + 1) qs))) (sym n)
+
+  pub behind_end : length qs ≤ i → with_params context here (map written.param_of (drop i qs)) ≡ here
+  behind_end l = ap (λ xs. with_params context here (map written.param_of xs)) (none_left qs i l)

@@ -1,0 +1,20 @@
+use Rattle.std.proofs.Common.{◌≡◌, ◌≤◌, true, length, map}
+use Rattle.rc_syntax.specs.Shape.{item_of}
+use Rattle.rc_deletes.specs.Judged.{Holds}
+use Rattle.rc_deletes.specs.Items.{items, behind_items, at_the_start}
+use Rattle.rc_typing.specs.Contexts.{context_of}
+use Rattle.rc_typing.specs.Outside.{outside_of, all_made}
+use Rattle.rc_typing.specs.Groups.{before_globals}
+use Rattle.rc_typing.proofs.Whole.{after_made}
+use Rattle.rc_typing.proofs.items.items.Given as goal
+
+abbrev pub invariant-loop-rest : goal.invariant-loop-rest
+invariant-loop-rest l = record {
+  same : items (context_of l.context) at_the_start (map item_of l.is) ≡ after_made (all_made l.globals.items l.functions.items) (items (context_of l.context) (outside_of l.names l.counts l.strings.items) (map item_of l.rest));
+  moved : behind_items (context_of l.context) at_the_start (map item_of l.is) ≡ behind_items (context_of l.context) (outside_of l.names l.counts l.strings.items) (map item_of l.rest);
+  few : l.counts.cells ≤ 1048576;
+  known : l.is_known ≡ true → before_globals (context_of l.context) l.counts.structs (map item_of l.rest) ≡ Holds tt;
+}
+
+abbrev pub decreases-loop-rest : goal.decreases-loop-rest
+decreases-loop-rest l = length l.rest

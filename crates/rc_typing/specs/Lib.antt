@@ -1,0 +1,13 @@
+pub mod Alone
+pub mod Building
+pub mod Checks
+pub mod Contexts
+pub mod Fields
+pub mod Firsts
+pub mod Groups
+pub mod Here
+pub mod Loops
+pub mod Main
+pub mod Outside
+pub mod Pointed
+pub mod Sizes

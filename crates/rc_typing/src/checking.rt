@@ -1,0 +1,195 @@
+// Whole texts.
+ghost use Rattle.std.specs.Prelude.{◌≡◌, ◌&&◌, List, ◌∷◌, true, map, IfOk, IfErr};
+ghost use Rattle.std.specs.Str.{bytes_eq};
+ghost use Rattle.rc_core.specs.Shapes.{struct_of, program_of};
+ghost use Rattle.rc_deletes.specs.Answer as answer;
+ghost use Rattle.rc_deletes.specs.Answer.{main_fault};
+ghost use Rattle.rc_deletes.specs.Items.{main_name, judged};
+ghost use Rattle.rc_deletes.specs.Judged.{Holds};
+ghost use Rattle.rc_deletes.specs.Kinds.{place_of, number_or};
+ghost use Rattle.rc_deletes.specs.Scopes.{structs_in};
+ghost use Rattle.rc_rules.specs.Stops.{StopsAt};
+ghost use Rattle.rc_syntax.specs.Shape as written;
+ghost use Rattle.rc_syntax.specs.Shape.{tree_of};
+ghost use Rattle.rc_syntax.specs.Tree as t;
+ghost use Rattle.rc_typing.specs.Checks.{Checks, IsWritten, Refuses};
+ghost use Rattle.rc_typing.specs.Contexts.{context_of};
+ghost use Rattle.rc_typing.specs.Fields.{struct_in};
+ghost use Rattle.rc_typing.specs.Main.{is_definition_of_main};
+
+use crate::bounds::numbers;
+use crate::building::context;
+use crate::context::Context;
+use crate::fault::TypeFault;
+use crate::fields::Fields;
+use crate::items::{Whole, items};
+use rc_core::parts::{Field, Parts, Struct};
+use rc_core::program::Program;
+use rc_deletes::check_deletes;
+use rc_deletes::laws::{fits_together, keeps_limits};
+use rc_rules::Stop;
+use rc_rules::items::{gives_int, main_shape, takes_nothing};
+use rc_rules::kinds::copy_of;
+use rc_rules::stop::add;
+use rc_syntax::tree::{Item, Name, Param, Spot, Tree, TypeName};
+use std::alloc::Global;
+
+const MAIN: &[u8] = b"main";
+
+/// Whether a name is that of the function that a program begins with.
+fn is_main(name: &Name) -> bool
+    ensures { result ≡ bytes_eq name.now.text main_name }
+{
+    name.text.as_slice() == MAIN
+}
+
+/// What is wrong with a definition of `main`.
+fn shape_of_main(at: Spot, gives: &Option<TypeName>, params: &[Param]) -> Option<u32>
+    ensures { result ≡ answer.main_shape at (answer.takes_nothing (map written.param_of params.now) && answer.gives_int (written.mapped written.type_of gives.now)) }
+{
+    if takes_nothing(params) {
+        return main_shape(at, gives_int(gives));
+    }
+    main_shape(at, false)
+}
+
+/// Whether an item defines `main`.
+fn defines_main(item: &Item) -> bool
+    ensures { result ≡ is_definition_of_main (written.item_of item.now) }
+{
+    match item {
+        Item::Function(_, _, _, name, _, Some(_)) => is_main(name),
+        _ => false,
+    }
+}
+
+/// What is wrong with `main` where an item defines it.
+#[tactic(auto, using(crate::proofs::Mains::alike))]
+fn fault_in(item: &Item) -> Option<u32>
+    ensures { (rest : List t.Item) → is_definition_of_main (written.item_of item.now) ≡ true → result ≡ main_fault (written.item_of item.now ∷ rest) }
+{
+    match item {
+        Item::Function(at, _, gives, _, params, Some(_)) => shape_of_main(*at, gives, params),
+        _ => None,
+    }
+}
+
+/// The line of a `main` that has parameters or another result than `int`, and 1 where there is
+/// none.
+#[tactic(auto, using(crate::proofs::Mains::main_step, crate::proofs::Mains::main_here, crate::proofs::Mains::main_nowhere))]
+fn fault_of_main(items: &[Item]) -> Option<u32>
+    ensures { result ≡ main_fault (map written.item_of items.now) }
+{
+    for item in items {
+        if defines_main(item) {
+            return fault_in(item);
+        }
+    }
+    Some(1)
+}
+
+/// A struct as programs have it.
+fn structure(alloc: Global, s: &Fields) -> Result<Struct, Stop>
+    ensures ok { IfOk result (λ r. struct_of r ≡ struct_in s.now) }
+    ensures err { IfErr result (λ s. s ≡ Stop.Memory) }
+{
+    let mut fields = Vec::new(alloc);
+    for named in &s.fields {
+        let ty = copy_of(alloc, &named.field.ty)?;
+        add(
+            &mut fields,
+            Field {
+                ty,
+                length: named.field.length,
+            },
+        )?;
+    }
+    Ok(Struct { fields })
+}
+
+/// The structs of a program.
+fn structs_of(alloc: Global, context: &Context) -> Result<Vec<Struct>, Stop>
+    ensures ok { IfOk result (λ structs. map struct_of structs.items ≡ structs_in (context_of context.now)) }
+    ensures err { IfErr result (λ s. s ≡ Stop.Memory) }
+{
+    let mut structs = Vec::new(alloc);
+    for s in &context.structs {
+        let s = structure(alloc, s)?;
+        add(&mut structs, s)?;
+    }
+    Ok(structs)
+}
+
+/// The number of `main`, and 0 where there is none.
+fn number_of_main(context: &Context) -> u32
+    ensures { result ≡ number_or (place_of (context_of context.now).functions main_name) 0 }
+{
+    match context.functions.find(MAIN) {
+        Some(number) => number,
+        None => 0,
+    }
+}
+
+/// The parts of the program of a tree.
+fn parts_of(alloc: Global, tree: &Tree) -> Result<Parts, Stop>
+    ensures ok { IfOk result (λ parts. judged (tree_of tree.now) ≡ Holds (program_of parts)) }
+    ensures err { IfErr result (StopsAt (judged (tree_of tree.now))) }
+{
+    let context = context(alloc, &tree.items)?;
+    let Whole {
+        globals,
+        functions,
+        strings,
+    } = items(&tree.items, alloc, &context)?;
+    let structs = structs_of(alloc, &context)?;
+    Ok(Parts {
+        structs,
+        globals,
+        strings,
+        functions,
+        main: number_of_main(&context),
+    })
+}
+
+fn fault_of(stop: Stop) -> TypeFault
+    ensures { (tree : t.Tree) → StopsAt (judged tree) stop → Refuses tree result }
+{
+    match stop {
+        Stop::Rule(fault) => TypeFault::Rule(fault.refusal, fault.at.line),
+        Stop::Memory => TypeFault::Memory,
+    }
+}
+
+/// The program with the parts that a tree is judged to have.
+fn program_with(tree: &Tree, parts: Parts) -> Result<Program, TypeFault>
+    requires written { IsWritten (tree_of tree.now) }
+    requires judged { judged (tree_of tree.now) ≡ Holds (program_of parts) }
+    ensures { Checks (tree_of tree.now) result }
+{
+    if let Some(line) = fault_of_main(&tree.items) {
+        return Err(TypeFault::Main(line));
+    }
+    numbers(&tree.items);
+    keeps_limits(tree);
+    fits_together(tree);
+    match check_deletes(tree, &parts) {
+        Ok(()) => Ok(Program::new(parts)),
+        Err(fault) => Err(TypeFault::Place(fault)),
+    }
+}
+
+/// The program of a tree by the typing rules, where nothing refuses the tree.
+///
+/// # Errors
+///
+/// The first refusal: of a node where a rule on names, types, arities and sizes fails; where none
+/// does, of `main`; and then of the places of deletions and annotations. Or memory is wanting.
+pub fn check(alloc: Global, tree: &Tree) -> Result<Program, TypeFault>
+    requires { IsWritten (tree_of tree.now) }
+    ensures { Checks (tree_of tree.now) result }
+{
+    match parts_of(alloc, tree) {
+        Ok(parts) => program_with(tree, parts),
+        Err(stop) => Err(fault_of(stop)),
+    }
+}

@@ -1,0 +1,210 @@
+// Structs and globals.
+ghost use Rattle.std.specs.Prelude.{◌≡◌, ◌≤◌, ◌+◌, false, [], ◌∷◌, ◌++◌, map, IfOk, IfErr, OnOk, nat_lt, is_some};
+ghost use Rattle.rc_core.specs.Shapes.{ty_of, global_of};
+ghost use Rattle.rc_deletes.specs.Items as rule;
+ghost use Rattle.rc_deletes.specs.Judged.{Holds};
+ghost use Rattle.rc_deletes.specs.Kinds.{written_type};
+ghost use Rattle.rc_deletes.specs.Scopes.{type_names, a_global, meaning_in};
+ghost use Rattle.rc_rules.specs.Shapes.{meaning_of};
+ghost use Rattle.rc_rules.specs.Stops.{StopsAt};
+ghost use Rattle.rc_syntax.specs.Shape as written;
+ghost use Rattle.rc_syntax.specs.Tree as t;
+ghost use Rattle.rc_typing.specs.Contexts.{context_of, scope_of};
+ghost use Rattle.rc_typing.specs.Sizes.{SameUpTo};
+
+use crate::by_value::{before_field, cell_type, shares_with_next};
+use crate::context::Context;
+use crate::names::meaning;
+use crate::sizes::{cells_of, size_by};
+use rc_core::parts::Global as GlobalPart;
+use rc_core::ty::Ty;
+use rc_deletes::Refusal;
+use rc_rules::items::{global_rule, initial_of, is_defined_before, is_empty, once};
+use rc_rules::kinds::copy_of;
+use rc_rules::stop::refuse_where;
+use rc_rules::{Meaning, Stop};
+use rc_scope::{Names, Scopes};
+use rc_syntax::tree::{Constant, Field, Name, Spot, TypeName};
+use std::alloc::Global;
+
+/// Whether a name is among others.
+fn is_among(names: &Names, name: &Name) -> bool
+    ensures { result ≡ rule.is_among names.now name.now.text }
+{
+    names.find(name.text.as_slice()).is_some()
+}
+
+/// A name behind those before it.
+fn add_name(names: &mut Names, name: &Name) -> Result<(), Stop>
+    ensures ok { rule.is_among names.old name.now.text ≡ false → OnOk result (names.new ≡ names.old ++ name.now.text ∷ []) }
+    ensures err { IfErr result (λ s. s ≡ Stop.Memory) }
+{
+    if names.len() >= u32::MAX as usize {
+        return Err(Stop::Memory);
+    }
+    match names.number(name.text.as_slice()) {
+        Ok(_) => Ok(()),
+        Err(_) => Err(Stop::Memory),
+    }
+}
+
+/// A field of a struct, behind the earlier ones.
+#[tactic(auto, using(crate::proofs::Stops::left_stops, crate::proofs::Stops::right_stops, crate::proofs::Stops::both_stop, crate::proofs::Stops::both_ruled, crate::proofs::Ruled::ruled_kept, crate::proofs::Ruled::ruled_broken))]
+fn field(
+    f: &Field,
+    alloc: Global,
+    context: &Context,
+    count: u32,
+    earlier: &mut Names,
+) -> Result<(), Stop>
+    ensures ok { OnOk result (rule.field_rule (context_of context.now) count earlier.old (written.field_of f.now) ≡ Holds tt) }
+    ensures behind { OnOk result (earlier.new ≡ earlier.old ++ f.now.name.text ∷ []) }
+    ensures err { IfErr result (StopsAt (rule.field_rule (context_of context.now) count earlier.old (written.field_of f.now))) }
+{
+    cell_type(alloc, context, count, &f.type_name)?;
+    once(&f.name, is_among(earlier, &f.name))?;
+    refuse_where(is_empty(f.length), f.spot, Refusal::TooBig)?;
+    add_name(earlier, &f.name)
+}
+
+/// The fields of a struct.
+fn fields(fs: &[Field], alloc: Global, context: &Context, count: u32) -> Result<(), Stop>
+    ensures ok { OnOk result (rule.fields_rule (context_of context.now) count [] (map written.field_of fs.now) ≡ Holds tt) }
+    ensures err { IfErr result (StopsAt (rule.fields_rule (context_of context.now) count [] (map written.field_of fs.now))) }
+{
+    let mut earlier = Names::new(alloc);
+    let mut is_known = false;
+    let mut rest = fs;
+    while let [f, after @ ..] = rest {
+        before_field(is_known, context, count, f, after)?;
+        field(f, alloc, context, count, &mut earlier)?;
+        is_known = shares_with_next(f, after);
+        rest = after;
+    }
+    Ok(())
+}
+
+/// Whether a struct that is defined has over 4,096 cells.
+#[tactic(auto, using(crate::proofs::Totals::big_tells))]
+fn is_too_big(context: &Context, number: Option<u32>) -> bool
+    ensures { result ≡ nat_lt 4096 (rule.cells_of_struct (context_of context.now) number) }
+{
+    match number {
+        Some(number) => size_by(context.sizes.as_slice(), &Ty::Struct(number)) > 4096,
+        None => false,
+    }
+}
+
+/// A struct with its fields, where so many are defined before.
+pub(crate) fn structure(
+    at: Spot,
+    name: &Name,
+    fs: &[Field],
+    alloc: Global,
+    context: &Context,
+    count: u32,
+) -> Result<(), Stop>
+    ensures ok { (o : rule.Outside) → o.structs ≡ count → OnOk result (rule.item (context_of context.now) o (t.struct at name.now (map written.field_of fs.now)) ≡ Holds rule.nothing_made) }
+    ensures err { (o : rule.Outside) → o.structs ≡ count → IfErr result (StopsAt (rule.item (context_of context.now) o (t.struct at name.now (map written.field_of fs.now)))) }
+{
+    let number = context.structure(name);
+    once(name, is_defined_before(count, number))?;
+    fields(fs, alloc, context, count)?;
+    refuse_where(is_too_big(context, number), at, Refusal::TooBig)
+}
+
+/// How many are defined behind the definition with this number.
+pub(crate) fn behind_definition(count: u32, number: Option<u32>) -> Result<u32, Stop>
+    ensures ok { IfOk result (λ n. n ≡ rule.behind_definition count number) }
+    ensures err { IfErr result (λ s. s ≡ Stop.Memory) }
+{
+    match number {
+        None => Ok(count),
+        Some(number) => {
+            if number < count {
+                return Ok(count);
+            }
+            if number == u32::MAX {
+                return Err(Stop::Memory);
+            }
+            Ok(number + 1)
+        }
+    }
+}
+
+/// A name keeps its first meaning.
+pub(crate) fn add_meaning(
+    names: &mut Scopes<Meaning>,
+    name: &Name,
+    stands_for: Meaning,
+) -> Result<(), Stop>
+    ensures ok { OnOk result (scope_of names.new ≡ rule.with_name (scope_of names.old) name.now.text (meaning_of stands_for)) }
+    ensures err { IfErr result (λ s. s ≡ Stop.Memory) }
+{
+    if is_known(names, name) {
+        return Ok(());
+    }
+    match names.push(name.text.as_slice(), stands_for) {
+        Ok(()) => Ok(()),
+        Err(_) => Err(Stop::Memory),
+    }
+}
+
+/// The cells of the globals, with one more behind those before it.
+#[tactic(auto, using(crate::proofs::Totals::total_same))]
+fn cells_with(context: &Context, cells: u64, ty: &Ty, length: Option<u32>) -> u64
+    requires { cells ≤ 1048576 }
+    ensures { (n : t.TypeName) → ty_of ty.now ≡ written_type (type_names (context_of context.now)) n → SameUpTo 1048576 result (cells + rule.cells_of_global (context_of context.now) n length) }
+{
+    cells + cells_of(size_by(context.sizes.as_slice(), ty), length)
+}
+
+/// A global of a program.
+fn part(ty: Ty, length: Option<u32>, initial: i64) -> GlobalPart
+    ensures { global_of result ≡ record { ty = ty_of ty; count = length; initial = initial } }
+{
+    GlobalPart {
+        ty,
+        length,
+        initial,
+    }
+}
+
+/// Whether a name stands for something.
+#[tactic(auto, using(crate::proofs::Globals::is_known))]
+fn is_known(names: &Scopes<Meaning>, name: &Name) -> bool
+    ensures { result ≡ is_some (meaning_in (scope_of names.now) name.now.text) }
+{
+    meaning(names, name).is_some()
+}
+
+/// A global behind those before it, which have so many cells. Its own cells are added to them.
+pub(crate) fn global(
+    at: Spot,
+    n: &TypeName,
+    name: &Name,
+    length: Option<u32>,
+    constant: &Option<Constant>,
+    alloc: Global,
+    context: &Context,
+    names: &mut Scopes<Meaning>,
+    structs: u32,
+    number: u32,
+    cells: &mut u64,
+) -> Result<GlobalPart, Stop>
+    requires { cells.old ≤ 1048576 }
+    ensures ok { (o : rule.Outside) → o.names ≡ scope_of names.old → o.structs ≡ structs → o.cells ≡ cells.old → IfOk result (λ g. rule.item (context_of context.now) o (t.global at (written.type_of n.now) name.now length constant.now) ≡ Holds (record { globals = global_of g ∷ []; functions = [] })) }
+    ensures names { OnOk result (scope_of names.new ≡ rule.with_name (scope_of names.old) name.now.text (a_global number (written_type (type_names (context_of context.now)) (written.type_of n.now)) length)) }
+    ensures cells { OnOk result (cells.new ≡ cells.old + rule.cells_of_global (context_of context.now) (written.type_of n.now) length) }
+    ensures bound { OnOk result (cells.new ≤ 1048576) }
+    ensures err { (o : rule.Outside) → o.names ≡ scope_of names.old → o.structs ≡ structs → o.cells ≡ cells.old → IfErr result (StopsAt (rule.item (context_of context.now) o (t.global at (written.type_of n.now) name.now length constant.now))) }
+{
+    let ty = cell_type(alloc, context, structs, n)?;
+    once(name, is_known(names, name))?;
+    let total = cells_with(context, *cells, &ty, length);
+    let initial = global_rule(at, length, total, initial_of(&ty, length, constant))?;
+    let again = copy_of(alloc, &ty)?;
+    add_meaning(names, name, Meaning::Global(number, again, length))?;
+    *cells = total;
+    Ok(part(ty, length, initial))
+}

@@ -1,0 +1,167 @@
+// Locals.
+ghost use Rattle.std.specs.Prelude.{◌≡◌, ◌++◌, ◌∷◌, [], List, map, length, option_map, IfOk, IfErr, OnOk};
+ghost use Rattle.rc_core.specs.Shapes.{bytes_of, ty_of, stmt_of, stmts_of};
+ghost use Rattle.rc_core.specs.Types.{Ty};
+ghost use Rattle.rc_deletes.specs.Judged.{Holds};
+ghost use Rattle.rc_deletes.specs.Scopes.{a_local};
+ghost use Rattle.rc_deletes.specs.Statements as rule;
+ghost use Rattle.rc_rules.specs.Stops.{StopsAt};
+ghost use Rattle.rc_syntax.specs.Shape as written;
+ghost use Rattle.rc_typing.specs.Contexts.{context_of, scope_of};
+ghost use Rattle.rc_typing.specs.Here.{here_of};
+
+use crate::context::Context;
+use crate::defined::defined_type;
+use crate::names::meaning;
+use crate::steps::{empty_block, simple, value_option};
+use rc_core::stmt::Stmt as Step;
+use rc_core::ty::Ty;
+use rc_deletes::Refusal;
+use rc_rules::kinds::copy_of;
+use rc_rules::statements::{declaration, is_twice};
+use rc_rules::stop::{add, fails, fitting};
+use rc_rules::{Meaning, Stop};
+use rc_scope::Scopes;
+use rc_syntax::tree::{ForStart, Local, Name};
+use std::alloc::Global;
+
+/// The number of the local that comes next.
+pub(crate) fn next_local(locals: &[Ty]) -> Result<u32, Stop>
+    ensures ok { IfOk result (λ n. n ≡ length locals.now) }
+    ensures err { IfErr result (λ s. s ≡ Stop.Memory) }
+{
+    if locals.len() < 4294967295 {
+        return Ok(locals.len() as u32);
+    }
+    Err(Stop::Memory)
+}
+
+/// A declared name is new in the scope whose first local is `first`.
+pub(crate) fn new_name(names: &Scopes<Meaning>, first: u32, name: &Name) -> Result<(), Stop>
+    ensures ok { OnOk result (rule.new_name first (scope_of names.now) name.now ≡ Holds tt) }
+    ensures err { IfErr result (StopsAt (rule.new_name first (scope_of names.now) name.now)) }
+{
+    if is_twice(first, meaning(names, name)) {
+        return fails(name.spot, Refusal::Twice);
+    }
+    Ok(())
+}
+
+/// A name stands for a local.
+#[tactic(auto, using(crate::proofs::Meanings::scope_more))]
+fn name_local(
+    alloc: Global,
+    names: &mut Scopes<Meaning>,
+    number: u32,
+    ty: &Ty,
+    name: &Name,
+) -> Result<(), Stop>
+    ensures ok { OnOk result (scope_of names.new ≡ (name.now.text, a_local number (ty_of ty.now)) ∷ scope_of names.old) }
+    ensures err { IfErr result (λ s. s ≡ Stop.Memory) }
+{
+    let ty = copy_of(alloc, ty)?;
+    match names.push(name.text.as_slice(), Meaning::Local(number, ty)) {
+        Ok(()) => Ok(()),
+        Err(_) => Err(Stop::Memory),
+    }
+}
+
+/// A local of a type behind those before it.
+#[tactic(auto, using(crate::proofs::Lists::map_push))]
+pub(crate) fn add_local(alloc: Global, locals: &mut Vec<Ty>, ty: &Ty) -> Result<(), Stop>
+    ensures ok { OnOk result (map ty_of locals.new.items ≡ map ty_of locals.old.items ++ ty_of ty.now ∷ []) }
+    ensures err { IfErr result (λ s. s ≡ Stop.Memory) }
+{
+    let ty = copy_of(alloc, ty)?;
+    add(locals, ty)
+}
+
+/// A local with a name, which holds from here on.
+pub(crate) fn named_local(
+    alloc: Global,
+    names: &mut Scopes<Meaning>,
+    locals: &mut Vec<Ty>,
+    number: u32,
+    ty: &Ty,
+    name: &Name,
+) -> Result<(), Stop>
+    requires { number ≡ length locals.old.items }
+    ensures names { OnOk result (scope_of names.new ≡ (name.now.text, a_local number (ty_of ty.now)) ∷ scope_of names.old) }
+    ensures locals { OnOk result (map ty_of locals.new.items ≡ map ty_of locals.old.items ++ ty_of ty.now ∷ []) }
+    ensures err { IfErr result (λ s. s ≡ Stop.Memory) }
+{
+    name_local(alloc, names, number, ty, name)?;
+    add_local(alloc, locals, ty)
+}
+
+/// A declarator of a local.
+#[tactic(auto, using(crate::proofs::Stops::left_stops, crate::proofs::Stops::second_stops, crate::proofs::Stops::third_stops, crate::proofs::Stops::all_stop, crate::proofs::Stops::all_ruled))]
+pub(crate) fn local(
+    l: &Local,
+    alloc: Global,
+    context: &Context,
+    names: &mut Scopes<Meaning>,
+    locals: &mut Vec<Ty>,
+    first: u32,
+    strings: &mut Vec<Vec<u8>>,
+) -> Result<Step, Stop>
+    ensures ok { IfOk result (λ s. rule.local (context_of context.now) (here_of names.old locals.old.items first strings.old.items) (written.local_of l.now) ≡ Holds (stmt_of s)) }
+    ensures behind { OnOk result (here_of names.new locals.new.items first strings.new.items ≡ rule.behind_local (context_of context.now) (here_of names.old locals.old.items first strings.old.items) (written.local_of l.now)) }
+    ensures err { IfErr result (StopsAt (rule.local (context_of context.now) (here_of names.old locals.old.items first strings.old.items) (written.local_of l.now))) }
+{
+    let ty = defined_type(alloc, context, &l.type_name)?;
+    new_name(names, first, &l.name)?;
+    let number = next_local(locals)?;
+    named_local(alloc, names, locals, number, &ty, &l.name)?;
+    let initial = value_option(&l.initial, alloc, context, names, strings)?;
+    let step = declaration(alloc, l.spot.line, number, &ty, initial)?;
+    fitting(l.spot, step)
+}
+
+/// The declarators of locals, in their order.
+#[tactic(auto, using(crate::proofs::Walks::after_steps_nil, crate::proofs::Walks::locals_step, crate::proofs::Walks::locals_end, crate::proofs::Walks::locals_stop, crate::proofs::Walks::locals_behind, crate::proofs::Walks::locals_behind_end, crate::proofs::Lists::map_push))]
+pub(crate) fn locals_of(
+    ls: &[Local],
+    alloc: Global,
+    context: &Context,
+    names: &mut Scopes<Meaning>,
+    locals: &mut Vec<Ty>,
+    first: u32,
+    strings: &mut Vec<Vec<u8>>,
+) -> Result<Vec<Step>, Stop>
+    ensures ok { IfOk result (λ steps. rule.locals (context_of context.now) (here_of names.old locals.old.items first strings.old.items) (map written.local_of ls.now) ≡ Holds (stmts_of steps.items)) }
+    ensures behind { OnOk result (here_of names.new locals.new.items first strings.new.items ≡ rule.behind_locals (context_of context.now) (here_of names.old locals.old.items first strings.old.items) (map written.local_of ls.now)) }
+    ensures err { IfErr result (StopsAt (rule.locals (context_of context.now) (here_of names.old locals.old.items first strings.old.items) (map written.local_of ls.now))) }
+{
+    let mut steps = Vec::new(alloc);
+    for l in ls {
+        let step = local(l, alloc, context, names, locals, first, strings)?;
+        add(&mut steps, step)?;
+    }
+    Ok(steps)
+}
+
+/// The first part of the head of a `for`.
+#[tactic(auto, using(crate::proofs::Stops::part_stops, crate::proofs::Stops::part_held, rc_core::proofs::ShapeRows::made_block))]
+pub(crate) fn for_start(
+    start: &ForStart,
+    alloc: Global,
+    context: &Context,
+    names: &mut Scopes<Meaning>,
+    locals: &mut Vec<Ty>,
+    first: u32,
+    strings: &mut Vec<Vec<u8>>,
+) -> Result<Step, Stop>
+    ensures ok { IfOk result (λ s. rule.for_start (context_of context.now) (here_of names.old locals.old.items first strings.old.items) (written.start_of start.now) ≡ Holds (stmt_of s)) }
+    ensures behind { OnOk result (here_of names.new locals.new.items first strings.new.items ≡ rule.behind_start (context_of context.now) (here_of names.old locals.old.items first strings.old.items) (written.start_of start.now)) }
+    ensures err { IfErr result (StopsAt (rule.for_start (context_of context.now) (here_of names.old locals.old.items first strings.old.items) (written.start_of start.now))) }
+{
+    match start {
+        ForStart::Nothing => Ok(empty_block(alloc)),
+        ForStart::Simple(s) => simple(s, alloc, context, names, strings),
+        ForStart::Locals(ls) => {
+            let body = locals_of(ls, alloc, context, names, locals, first, strings)?;
+            Ok(Step::Block { body })
+        }
+    }
+}
