@@ -1,5 +1,5 @@
 -- A function whose parts are judged one behind another.
-use Rattle.std.proofs.Common.{◌≡◌, refl, ap, sym, ◌∙◌, subst, ℕ, List, [], ◌∷◌, Option, Some, None, Bool, true, false, length}
+use Rattle.std.proofs.Common.{◌≡◌, refl, ap, sym, ◌∙◌, subst, ℕ, List, [], ◌∷◌, ◌++◌, append_assoc, Option, Some, None, Bool, true, false, length}
 use Rattle.rc_syntax.specs.declared.tree.Spot.{Spot}
 use Rattle.rc_syntax.specs.declared.tree.Name.{Name}
 use Rattle.rc_syntax.specs.Tree as t
@@ -7,13 +7,15 @@ use Rattle.rc_core.specs.Types.{Ty}
 use Rattle.rc_core.specs.Programs as p
 use Rattle.rc_deletes.specs.declared.fault.Refusal.TheVariants.{Mistyped}
 use Rattle.rc_deletes.specs.Judged.{Judged, Holds, ruled, failing}
-use Rattle.rc_deletes.specs.Scopes.{Context, Scope, meaning_in}
-use Rattle.rc_deletes.specs.Statements.{Here, stmts, behind_stmts}
-use Rattle.rc_deletes.specs.Items.{Outside, Made, nothing_made, result_rule, function_name, signature_of, params_rule, head_rule, before_params, with_function, with_params, item, type_option, is_struct_option, function_made, behind_body}
+use Rattle.rc_deletes.specs.Kinds.{place_of}
+use Rattle.rc_deletes.specs.Scopes.{Context, meaning_in}
+use Rattle.rc_deletes.specs.Statements.{Here, outside, stmts, behind_stmts}
+use Rattle.rc_deletes.specs.Items.{Outside, Made, nothing_made, behind_item, behind_definition, result_rule, function_name, signature_of, params_rule, head_rule, before_params, with_function, with_params, item, type_option, is_struct_option, function_made, behind_body}
 use Rattle.rc_rules.specs.declared.stop.Stop.{Stop}
 use Rattle.rc_rules.specs.Stops.{StopsAt}
 use Rattle.rc_typing.proofs.Stops.{part_stops, left_stops, both_ruled, third_stops, all_ruled}
 use Rattle.rc_typing.proofs.Ruled.{ruled_kept}
+use Rattle.rc_typing.proofs.Kept.{Grown, on_params, on_stmts, params_strings}
 
 module _ (context : Context) (o : Outside) (has_body deletes : Bool) (gives : Option t.TypeName) (name : Name) (params : List t.Param) (here : Here)
     (is : here ≡ before_params (with_function context o deletes gives name params))
@@ -62,12 +64,33 @@ module _ (context : Context) (o : Outside) (at : Spot) (deletes : Bool) (gives :
               functions = record { parameters = length params; locals = (behind_stmts context (with_params context x params) body).locals; result = type_option context gives; deletes = deletes; line = at.line; body = p.block made } ∷ [];
             })) (sym is)
 
-pub entering : (context : Context) (o : Outside) (deletes : Bool) (gives : Option t.TypeName) (name : Name) (params : List t.Param) (names : Scope) → names ≡ (with_function context o deletes gives name params).names →
-    record { names = names; locals = []; first = 0; strings = o.strings } ≡ before_params (with_function context o deletes gives name params)
-entering context o deletes gives name params names h = ap (λ (ns : Scope). record { names = ns; locals = []; first = 0; strings = o.strings }) h
+-- the names that a function adds hold inside those before it
+pub own_names : (context : Context) (here inner end : Here) (params : List t.Param) (body : t.Stmts) → inner ≡ with_params context here params → end ≡ behind_stmts context inner body → Grown here.names end.names
+own_names context here inner end params body walked ended =
+    let a = on_params context here params in
+    let b = on_stmts context inner body in
+    (b.0 ++ a.0, ap (λ (h : Here). h.names) ended ∙ b.1 ∙ ap (λ (h : Here). b.0 ++ h.names) walked ∙ ap (λ ns. b.0 ++ ns) a.1 ∙ sym (append_assoc b.0 a.0 here.names))
 
-pub renamed : (o : Outside) (a b : Scope) → a ≡ b → record o { names = a } ≡ record o { names = b }
-renamed o a b h = ap (λ ns. record o { names = ns }) h
+-- what stands behind a function
+module _ (context : Context) (o declared entered left : Outside) (at : Spot) (deletes : Bool) (gives : Option t.TypeName) (name : Name) (params : List t.Param) (here end : Here)
+    (named : declared ≡ with_function context o deletes gives name params) (begun : here ≡ before_params declared) (rest : entered ≡ record declared { names = []; strings = [] }) (back : left ≡ record entered { names = end.names; strings = end.strings }) where
+  pub declared_behind : (inner : Here) → inner ≡ with_params context here params → end ≡ outside here inner → left ≡ behind_item context o (t.function at deletes gives name params None)
+  declared_behind inner walked ended =
+      back ∙ ap (λ (h : Here). record entered { names = h.names; strings = h.strings }) (ended ∙ ap (outside here) walked)
+      ∙ ap (λ ss. record entered { names = here.names; strings = ss }) (params_strings context here params)
+      ∙ ap (λ (e : Outside). record e { names = here.names; strings = here.strings }) rest
+      ∙ ap (λ (h : Here). record declared { names = h.names; strings = h.strings }) begun
+      ∙ named
+
+  pub defined_behind : (body : t.Stmts) (functions : ℕ) → end ≡ outside here (behind_stmts context (with_params context here params) body) → functions ≡ behind_definition left.functions (place_of context.functions name.text) →
+      record left { functions = functions } ≡ behind_item context o (t.function at deletes gives name params (Some body))
+  defined_behind body functions ended counted =
+      let count : left.functions ≡ o.functions = ap (λ (l : Outside). l.functions) back ∙ ap (λ (l : Outside). l.functions) rest ∙ ap (λ (l : Outside). l.functions) named in
+      ap (λ n. record left { functions = n }) (counted ∙ ap (λ n. behind_definition n (place_of context.functions name.text)) count)
+      ∙ ap (λ (l : Outside). record l { functions = behind_definition o.functions (place_of context.functions name.text) }) (back ∙ ap (λ (h : Here). record entered { names = h.names; strings = h.strings }) ended)
+      ∙ ap (λ (e : Outside). record e { functions = behind_definition o.functions (place_of context.functions name.text); names = here.names; strings = (behind_stmts context (with_params context here params) body).strings }) rest
+      ∙ ap (λ (h : Here). record declared { functions = behind_definition o.functions (place_of context.functions name.text); names = h.names; strings = (behind_stmts context (with_params context h params) body).strings }) begun
+      ∙ ap (λ (d : Outside). record d { functions = behind_definition o.functions (place_of context.functions name.text); strings = (behind_stmts context (with_params context (before_params d) params) body).strings }) named
 
 abbrev function_of : (parameters : ℕ) → List Ty → Option Ty → (deletes : Bool) → (line : ℕ) → p.Stmt → Judged Made
 function_of parameters locals result deletes line body = Holds (record {

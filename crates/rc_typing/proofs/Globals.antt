@@ -1,5 +1,5 @@
 -- A global whose parts are judged.
-use Rattle.std.proofs.Common.{◌≡◌, ◌≤◌, ◌+◌, ℕ, refl, ap, sym, ◌∙◌, subst, arith, List, [], ◌∷◌, ◌++◌, Option, Some, None, Bor, option_map, Bool, true, false, ◌||◌}
+use Rattle.std.proofs.Common.{◌≡◌, ◌≤◌, ◌+◌, ℕ, suc, refl, ap, sym, ◌∙◌, subst, arith, List, [], ◌∷◌, ◌++◌, Option, Some, None, Bor, option_map, Bool, true, false, ◌||◌}
 use Rattle.std.specs.Prelude.{ℤ, nat_lt, is_none, is_some}
 use Rattle.std.proofs.lemmas.Bool.Decides.{nat_tests}
 use Rattle.rc_syntax.specs.declared.tree.Spot.{Spot}
@@ -10,8 +10,8 @@ use Rattle.rc_core.specs.Types.{Ty}
 use Rattle.rc_deletes.specs.declared.fault.Refusal.TheVariants.{Mistyped, TooBig}
 use Rattle.rc_deletes.specs.Judged.{Judged, Holds, ruled, failing}
 use Rattle.rc_deletes.specs.Kinds.{written_type}
-use Rattle.rc_deletes.specs.Scopes.{Context, Scope, type_names, meaning_in}
-use Rattle.rc_deletes.specs.Items.{Outside, Made, item, cell_type, once, cells_of_global, global_made, global_of, initial_of, is_empty, value_or_zero}
+use Rattle.rc_deletes.specs.Scopes.{Context, Scope, type_names, a_global, meaning_in}
+use Rattle.rc_deletes.specs.Items.{Outside, Made, item, behind_item, with_name, cell_type, once, cells_of_global, global_made, global_of, initial_of, is_empty, value_or_zero}
 use Rattle.rc_rules.specs.declared.stop.Stop.{Stop}
 use Rattle.rc_rules.specs.Stops.{StopsAt}
 use Rattle.rc_rules.specs.declared.meanings.Meaning.{Meaning as CodeMeaning}
@@ -55,11 +55,13 @@ pub is_known : (names : List (List ℕ × CodeMeaning)) (name : List ℕ) (r : O
 is_known names name None h = ap is_some h
 is_known names name (Some m) h = ap is_some h
 
-pub known_typed : (context : Context) (n : t.TypeName) (now count : ℕ) → now ≡ count → cell_type context count n ≡ Holds tt → cell_type context now n ≡ Holds tt
-known_typed context n now count e h = subst (λ k. cell_type context k n ≡ Holds tt) (sym e) h
+pub known_new : (name : Name) (names : Scope) (twice : Bool) → twice ≡ is_some (meaning_in names name.text) → once name twice ≡ Holds tt → once name (is_some (meaning_in names name.text)) ≡ Holds tt
+known_new name names twice h k = subst (λ b. once name b ≡ Holds tt) h k
 
-pub known_new : (name : Name) (names scope : Scope) (twice : Bool) → names ≡ scope → twice ≡ is_some (meaning_in scope name.text) → once name twice ≡ Holds tt → once name (is_some (meaning_in names name.text)) ≡ Holds tt
-known_new name names scope twice e h k = subst (λ s. once name (is_some (meaning_in s name.text)) ≡ Holds tt) (sym e) (subst (λ b. once name b ≡ Holds tt) h k)
-
-pub known_total : (context : Context) (n : t.TypeName) (count : Option ℕ) (total now before : ℕ) → now ≡ before → SameUpTo 1048576 total (before + cells_of_global context n count) → SameUpTo 1048576 total (now + cells_of_global context n count)
-known_total context n count total now before e h = subst (λ k. SameUpTo 1048576 total (k + cells_of_global context n count)) (sym e) h
+pub global_behind : (context : Context) (o : Outside) (at : Spot) (n : t.TypeName) (name : Name) (count : Option ℕ) (c : Option Constant) (ty again : Ty) (names : Scope) (next total : ℕ) →
+    ty ≡ written_type (type_names context) n → again ≡ ty → names ≡ with_name o.names name.text (a_global o.globals again count) → next ≡ suc o.globals → total ≡ o.cells + cells_of_global context n count →
+    record o { names = names; globals = next; cells = total } ≡ behind_item context o (t.global at n name count c)
+global_behind context o at n name count c ty again names next total is same named counted summed =
+    ap (λ ns. record o { names = ns; globals = next; cells = total }) (named ∙ ap (λ u. with_name o.names name.text (a_global o.globals u count)) (same ∙ is))
+    ∙ ap (λ k. record o { names = with_name o.names name.text (a_global o.globals (written_type (type_names context) n) count); globals = k; cells = total }) counted
+    ∙ ap (λ k. record o { names = with_name o.names name.text (a_global o.globals (written_type (type_names context) n) count); globals = suc o.globals; cells = k }) summed

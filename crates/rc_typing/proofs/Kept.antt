@@ -1,13 +1,21 @@
 -- The names behind a statement are those before it, with more inside them.
-use Rattle.std.proofs.Common.{◌≡◌, ◌-◌, ◌+◌, ℕ, refl, ap, sym, ◌∙◌, arith, List, [], ◌∷◌, ◌++◌, length, drop, append_assoc, length-append}
+use Rattle.std.proofs.Common.{◌≡◌, ◌-◌, ◌+◌, ℕ, refl, ap, sym, ◌∙◌, arith, List, [], ◌∷◌, ◌++◌, length, drop, map, append_assoc, length-append, Option, Some, None, Vec}
+use Rattle.std.specs.declared.alloc.Global.{Global as Alloc}
 use Rattle.std.specs.List.{drop-map}
 use Rattle.std.proofs.lemmas.List.{length-map}
+use Rattle.rc_syntax.specs.declared.tree.Spot.{Spot}
+use Rattle.rc_syntax.specs.declared.tree.Name.{Name}
 use Rattle.rc_syntax.specs.Tree as t
+use Rattle.rc_core.specs.Shapes.{ty_of, bytes_of}
 use Rattle.rc_deletes.specs.Scopes.{Context, Scope}
-use Rattle.rc_deletes.specs.Statements.{Here, behind, behind_local, behind_locals, behind_start, behind_stmt, behind_stmts}
+use Rattle.rc_deletes.specs.Statements.{Here, outside, behind, behind_strings, behind_local, behind_locals, behind_start, behind_stmt, behind_stmts}
+use Rattle.rc_deletes.specs.Items.{with_param, with_params}
 use Rattle.rc_rules.specs.declared.meanings.Meaning.{Meaning}
 use Rattle.rc_rules.specs.Shapes.{meaning_of}
+use Rattle.rc_typing.specs.declared.here.Here.{Here as CodeHere}
+use Rattle.rc_typing.specs.declared.here.Outer.{Outer}
 use Rattle.rc_typing.specs.Contexts.{scope_of}
+use Rattle.rc_typing.specs.Here.{here_of, outer_of}
 
 abbrev pub Grown : Scope → Scope → Type 0
 Grown a b = (more : Scope) × (b ≡ more ++ a)
@@ -15,7 +23,7 @@ Grown a b = (more : Scope) × (b ≡ more ++ a)
 grown_self : (a : Scope) → Grown a a
 grown_self a = ([], refl)
 
-grown_on : (a b c : Scope) → Grown a b → Grown b c → Grown a c
+pub grown_on : (a b c : Scope) → Grown a b → Grown b c → Grown a c
 grown_on a b c h k = (k.0 ++ h.0, k.1 ∙ ap (λ s. k.0 ++ s) h.1 ∙ sym (append_assoc k.0 h.0 a))
 
 module _ (context : Context) where
@@ -53,12 +61,40 @@ module _ (context : Context) where
     on_stmts here t.done = grown_self here.names
     on_stmts here (t.next s rest) = grown_on here.names (behind_stmt context here s).names (behind_stmts context (behind_stmt context here s) rest).names (on_stmt here s) (on_stmts (behind_stmt context here s) rest)
 
+  on_name : (here : Here) (spot : Spot) (n : t.TypeName) (name : Option Name) → Grown here.names (with_param context here (record { spot = spot; type_name = n; name = name })).names
+  on_name here spot n None = grown_self here.names
+  on_name here spot n (Some name) = (_ ∷ [], refl)
+
+  pub on_params : (here : Here) (qs : List t.Param) → Grown here.names (with_params context here qs).names
+  on_params here [] = grown_self here.names
+  on_params here (q ∷ qs) = grown_on here.names (with_param context here q).names (with_params context (with_param context here q) qs).names (on_name here q.spot q.type_name q.name) (on_params (with_param context here q) qs)
+
+  name_strings : (here : Here) (spot : Spot) (n : t.TypeName) (name : Option Name) → (with_param context here (record { spot = spot; type_name = n; name = name })).strings ≡ here.strings
+  name_strings here spot n None = refl
+  name_strings here spot n (Some name) = refl
+
+  pub params_strings : (here : Here) (qs : List t.Param) → (with_params context here qs).strings ≡ here.strings
+  params_strings here [] = refl
+  params_strings here (q ∷ qs) = params_strings (with_param context here q) qs ∙ name_strings here q.spot q.type_name q.name
+
 dropped : (more a : Scope) → drop (length more) (more ++ a) ≡ a
 dropped [] a = refl
 dropped (m ∷ more) a = dropped more a
 
-pub left_is : (old now : List (List ℕ × Meaning)) (depth : ℕ) (end : Scope) → depth ≡ length old → scope_of now ≡ end → Grown (scope_of old) end → scope_of (drop (length now - depth) now) ≡ scope_of old
-left_is old now depth end d e g =
-    let count : length now ≡ length g.0 + length old = sym (length-map now (λ (n : List ℕ × Meaning). (n.0, meaning_of n.1))) ∙ ap length (e ∙ g.1) ∙ length-append g.0 (scope_of old) ∙ ap (λ n. length g.0 + n) (length-map old (λ (n : List ℕ × Meaning). (n.0, meaning_of n.1))) in
-    let k : length now - depth ≡ length g.0 = omega arith in
-    sym (drop-map (λ (n : List ℕ × Meaning). (n.0, meaning_of n.1)) (length now - depth) now) ∙ ap (λ n. drop n (scope_of now)) k ∙ ap (drop (length g.0)) (e ∙ g.1) ∙ dropped g.0 (scope_of old)
+left_is : (old now : List (List ℕ × Meaning)) (depth : ℕ) (own : Scope) → depth ≡ length old → scope_of now ≡ own ++ scope_of old → scope_of (drop (length now - depth) now) ≡ scope_of old
+left_is old now depth own d e =
+    let count : length now ≡ length own + length old = sym (length-map now (λ (n : List ℕ × Meaning). (n.0, meaning_of n.1))) ∙ ap length e ∙ length-append own (scope_of old) ∙ ap (λ n. length own + n) (length-map old (λ (n : List ℕ × Meaning). (n.0, meaning_of n.1))) in
+    let k : length now - depth ≡ length own = omega arith in
+    sym (drop-map (λ (n : List ℕ × Meaning). (n.0, meaning_of n.1)) (length now - depth) now) ∙ ap (λ n. drop n (scope_of now)) k ∙ ap (drop (length own)) e ∙ dropped own (scope_of old)
+
+-- behind a scope that began there
+pub left_behind : (before now : CodeHere) (names : List (List ℕ × Meaning)) (outer : Outer) (own : Scope) → outer ≡ outer_of before → names ≡ drop (length now.names - outer.depth) now.names → scope_of now.names ≡ own ++ scope_of before.names →
+    here_of (record now { names = names; first = outer.first }) ≡ outside (here_of before) (here_of now)
+left_behind before now names outer own o n e =
+    let there : Scope → ℕ → Here = λ ns first. record { names = ns; locals = map ty_of now.locals.items; first = first; strings = map bytes_of now.strings.items } in
+    ap (λ ns. there ns outer.first) (ap scope_of n ∙ left_is before.names now.names outer.depth own (ap (λ (o : Outer). o.depth) o) e)
+    ∙ ap (there (scope_of before.names)) (ap (λ (o : Outer). o.first) o)
+
+-- behind a part that has only strings
+pub more_strings : (here : CodeHere) (strings : Vec (Vec ℕ Alloc) Alloc) (more : List (List ℕ)) → map bytes_of strings.items ≡ map bytes_of here.strings.items ++ more → here_of (record here { strings = strings }) ≡ behind_strings (here_of here) more
+more_strings here strings more e = ap (λ ss. record { names = scope_of here.names; locals = map ty_of here.locals.items; first = here.first; strings = ss }) e

@@ -28,6 +28,5 @@ pub mod Functions
 pub mod Whole
 pub mod Totals
 pub mod Globals
-pub mod Left
 pub mod Alones
 pub mod Programs

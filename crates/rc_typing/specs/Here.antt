@@ -1,11 +1,14 @@
 -- Where the walk over statements stands.
-use Rattle.std.specs.Prelude.{ℕ, List, Vec, map}
-use Rattle.std.specs.declared.alloc.Global.{Global as Alloc}
-use Rattle.rc_core.specs.declared.ty.Ty.{Ty}
+use Rattle.std.specs.Prelude.{length, map}
 use Rattle.rc_core.specs.Shapes.{ty_of, bytes_of}
 use Rattle.rc_deletes.specs.Statements.{Here}
-use Rattle.rc_rules.specs.declared.meanings.Meaning.{Meaning}
+use Rattle.rc_typing.specs.declared.here.Here.{Here as CodeHere}
+use Rattle.rc_typing.specs.declared.here.Outer.{Outer}
 use Rattle.rc_typing.specs.Contexts.{scope_of}
 
-abbrev pub here_of : List (List ℕ × Meaning) → List Ty → ℕ → List (Vec ℕ Alloc) → Here
-here_of names locals first strings = record { names = scope_of names; locals = map ty_of locals; first = first; strings = map bytes_of strings }
+abbrev pub here_of : CodeHere → Here
+here_of h = record { names = scope_of h.names; locals = map ty_of h.locals.items; first = h.first; strings = map bytes_of h.strings.items }
+
+-- what a scope that begins there puts back at its end
+abbrev pub outer_of : CodeHere → Outer
+outer_of h = record { depth = length h.names; first = h.first }

@@ -9,5 +9,6 @@ pub mod Here
 pub mod Loops
 pub mod Main
 pub mod Outside
+pub mod Parts
 pub mod Pointed
 pub mod Sizes

@@ -11,6 +11,7 @@ ghost use Rattle.rc_typing.specs.Sizes.{HasSizes};
 
 use crate::context::Context;
 use crate::fields::{Fields, NamedField};
+use crate::names::add_name;
 use crate::sizes::sizes_of;
 use rc_core::parts::Field;
 use rc_core::ty::Ty;
@@ -20,20 +21,6 @@ use rc_rules::stop::add;
 use rc_scope::Names;
 use rc_syntax::tree::{Base, Field as WrittenField, Item, Name, Param, TypeName};
 use std::alloc::Global;
-
-/// A name behind others, where it is not among them.
-fn add_name(names: &mut Names, name: &Name) -> Result<(), Stop>
-    ensures ok { OnOk result (names.new ≡ rule.with_new names.old name.now.text) }
-    ensures err { IfErr result (λ s. s ≡ Stop.Memory) }
-{
-    if names.len() >= u32::MAX as usize {
-        return Err(Stop::Memory);
-    }
-    match names.number(name.text.as_slice()) {
-        Ok(_) => Ok(()),
-        Err(_) => Err(Stop::Memory),
-    }
-}
 
 /// The name of the struct that an item defines, behind those before it.
 fn add_struct_name(names: &mut Names, item: &Item) -> Result<(), Stop>

@@ -1,20 +1,24 @@
 // Structs and globals.
-ghost use Rattle.std.specs.Prelude.{◌≡◌, ◌≤◌, ◌+◌, false, [], ◌∷◌, ◌++◌, map, IfOk, IfErr, OnOk, nat_lt, is_some};
+ghost use Rattle.std.specs.Prelude.{◌≡◌, ◌≤◌, ◌+◌, suc, [], ◌∷◌, ◌++◌, map, IfOk, IfErr, OnOk, nat_lt, is_some};
 ghost use Rattle.rc_core.specs.Shapes.{ty_of, global_of};
 ghost use Rattle.rc_deletes.specs.Items as rule;
 ghost use Rattle.rc_deletes.specs.Judged.{Holds};
 ghost use Rattle.rc_deletes.specs.Kinds.{written_type};
-ghost use Rattle.rc_deletes.specs.Scopes.{type_names, a_global, meaning_in};
+ghost use Rattle.rc_deletes.specs.Scopes.{type_names, meaning_in};
 ghost use Rattle.rc_rules.specs.Shapes.{meaning_of};
 ghost use Rattle.rc_rules.specs.Stops.{StopsAt};
 ghost use Rattle.rc_syntax.specs.Shape as written;
 ghost use Rattle.rc_syntax.specs.Tree as t;
 ghost use Rattle.rc_typing.specs.Contexts.{context_of, scope_of};
+ghost use Rattle.rc_typing.specs.Outside.{outside_of};
+ghost use Rattle.rc_typing.specs.Parts.{written_global};
 ghost use Rattle.rc_typing.specs.Sizes.{SameUpTo};
 
 use crate::by_value::{before_field, cell_type, shares_with_next};
 use crate::context::Context;
-use crate::names::meaning;
+use crate::names::{add_name, meaning};
+use crate::outside::Outside;
+use crate::parts::WrittenGlobal;
 use crate::sizes::{cells_of, size_by};
 use rc_core::parts::Global as GlobalPart;
 use rc_core::ty::Ty;
@@ -24,7 +28,7 @@ use rc_rules::kinds::copy_of;
 use rc_rules::stop::refuse_where;
 use rc_rules::{Meaning, Stop};
 use rc_scope::{Names, Scopes};
-use rc_syntax::tree::{Constant, Field, Name, Spot, TypeName};
+use rc_syntax::tree::{Field, Name, Spot};
 use std::alloc::Global;
 
 /// Whether a name is among others.
@@ -32,20 +36,6 @@ fn is_among(names: &Names, name: &Name) -> bool
     ensures { result ≡ rule.is_among names.now name.now.text }
 {
     names.find(name.text.as_slice()).is_some()
-}
-
-/// A name behind those before it.
-fn add_name(names: &mut Names, name: &Name) -> Result<(), Stop>
-    ensures ok { rule.is_among names.old name.now.text ≡ false → OnOk result (names.new ≡ names.old ++ name.now.text ∷ []) }
-    ensures err { IfErr result (λ s. s ≡ Stop.Memory) }
-{
-    if names.len() >= u32::MAX as usize {
-        return Err(Stop::Memory);
-    }
-    match names.number(name.text.as_slice()) {
-        Ok(_) => Ok(()),
-        Err(_) => Err(Stop::Memory),
-    }
 }
 
 /// A field of a struct, behind the earlier ones.
@@ -95,21 +85,21 @@ fn is_too_big(context: &Context, number: Option<u32>) -> bool
     }
 }
 
-/// A struct with its fields, where so many are defined before.
+/// A struct with its fields.
 pub(crate) fn structure(
     at: Spot,
     name: &Name,
     fs: &[Field],
     alloc: Global,
     context: &Context,
-    count: u32,
+    outside: &Outside,
 ) -> Result<(), Stop>
-    ensures ok { (o : rule.Outside) → o.structs ≡ count → OnOk result (rule.item (context_of context.now) o (t.struct at name.now (map written.field_of fs.now)) ≡ Holds rule.nothing_made) }
-    ensures err { (o : rule.Outside) → o.structs ≡ count → IfErr result (StopsAt (rule.item (context_of context.now) o (t.struct at name.now (map written.field_of fs.now)))) }
+    ensures ok { OnOk result (rule.item (context_of context.now) (outside_of outside.now) (t.struct at name.now (map written.field_of fs.now)) ≡ Holds rule.nothing_made) }
+    ensures err { IfErr result (StopsAt (rule.item (context_of context.now) (outside_of outside.now) (t.struct at name.now (map written.field_of fs.now)))) }
 {
     let number = context.structure(name);
-    once(name, is_defined_before(count, number))?;
-    fields(fs, alloc, context, count)?;
+    once(name, is_defined_before(outside.structs, number))?;
+    fields(fs, alloc, context, outside.structs)?;
     refuse_where(is_too_big(context, number), at, Refusal::TooBig)
 }
 
@@ -178,33 +168,36 @@ fn is_known(names: &Scopes<Meaning>, name: &Name) -> bool
     meaning(names, name).is_some()
 }
 
-/// A global behind those before it, which have so many cells. Its own cells are added to them.
+/// The number of globals behind one more.
+fn next_global(globals: u32) -> Result<u32, Stop>
+    ensures ok { IfOk result (λ n. n ≡ suc globals) }
+    ensures err { IfErr result (λ s. s ≡ Stop.Memory) }
+{
+    if globals == u32::MAX {
+        return Err(Stop::Memory);
+    }
+    Ok(globals + 1)
+}
+
+/// A global behind those before it.
 pub(crate) fn global(
-    at: Spot,
-    n: &TypeName,
-    name: &Name,
-    length: Option<u32>,
-    constant: &Option<Constant>,
+    g: &WrittenGlobal<'_>,
     alloc: Global,
     context: &Context,
-    names: &mut Scopes<Meaning>,
-    structs: u32,
-    number: u32,
-    cells: &mut u64,
+    outside: &mut Outside,
 ) -> Result<GlobalPart, Stop>
-    requires { cells.old ≤ 1048576 }
-    ensures ok { (o : rule.Outside) → o.names ≡ scope_of names.old → o.structs ≡ structs → o.cells ≡ cells.old → IfOk result (λ g. rule.item (context_of context.now) o (t.global at (written.type_of n.now) name.now length constant.now) ≡ Holds (record { globals = global_of g ∷ []; functions = [] })) }
-    ensures names { OnOk result (scope_of names.new ≡ rule.with_name (scope_of names.old) name.now.text (a_global number (written_type (type_names (context_of context.now)) (written.type_of n.now)) length)) }
-    ensures cells { OnOk result (cells.new ≡ cells.old + rule.cells_of_global (context_of context.now) (written.type_of n.now) length) }
-    ensures bound { OnOk result (cells.new ≤ 1048576) }
-    ensures err { (o : rule.Outside) → o.names ≡ scope_of names.old → o.structs ≡ structs → o.cells ≡ cells.old → IfErr result (StopsAt (rule.item (context_of context.now) o (t.global at (written.type_of n.now) name.now length constant.now))) }
+    ensures ok { IfOk result (λ made. rule.item (context_of context.now) (outside_of outside.old) (written_global g.now) ≡ Holds (record { globals = global_of made ∷ []; functions = [] })) }
+    ensures behind { OnOk result (outside_of outside.new ≡ rule.behind_item (context_of context.now) (outside_of outside.old) (written_global g.now)) }
+    ensures err { IfErr result (StopsAt (rule.item (context_of context.now) (outside_of outside.old) (written_global g.now))) }
 {
-    let ty = cell_type(alloc, context, structs, n)?;
-    once(name, is_known(names, name))?;
-    let total = cells_with(context, *cells, &ty, length);
-    let initial = global_rule(at, length, total, initial_of(&ty, length, constant))?;
-    let again = copy_of(alloc, &ty)?;
-    add_meaning(names, name, Meaning::Global(number, again, length))?;
-    *cells = total;
-    Ok(part(ty, length, initial))
+    let ty = cell_type(alloc, context, outside.structs, g.type_name)?;
+    once(g.name, is_known(&outside.names, g.name))?;
+    let total = cells_with(context, outside.cells, &ty, g.length);
+    let initial = global_rule(g.at, g.length, total, initial_of(&ty, g.length, g.constant))?;
+    let next = next_global(outside.globals)?;
+    let stands_for = Meaning::Global(outside.globals, copy_of(alloc, &ty)?, g.length);
+    add_meaning(&mut outside.names, g.name, stands_for)?;
+    outside.globals = next;
+    outside.cells = total;
+    Ok(part(ty, g.length, initial))
 }

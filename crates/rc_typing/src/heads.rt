@@ -1,30 +1,34 @@
 // Heads of functions.
-ghost use Rattle.std.specs.Prelude.{◌≡◌, ◌&&◌, ◌||◌, List, ℕ, [], map, option_map, is_none, IfOk, IfErr, OnOk};
+ghost use Rattle.std.specs.Prelude.{◌≡◌, ◌&&◌, ◌||◌, map, option_map, is_none, IfOk, IfErr, OnOk};
 ghost use Rattle.rc_core.specs.Shapes.{ty_of};
 ghost use Rattle.rc_core.specs.Typing as typing;
 ghost use Rattle.rc_deletes.specs.Items as rule;
 ghost use Rattle.rc_deletes.specs.Judged.{Holds};
-ghost use Rattle.rc_deletes.specs.Kinds.{place_of, written_type};
-ghost use Rattle.rc_deletes.specs.Scopes.{type_names, a_function, meaning_in};
+ghost use Rattle.rc_deletes.specs.Kinds.{written_type};
+ghost use Rattle.rc_deletes.specs.Scopes.{type_names, meaning_in};
 ghost use Rattle.rc_rules.specs.Shapes.{signature_of};
 ghost use Rattle.rc_rules.specs.Stops.{StopsAt};
 ghost use Rattle.rc_syntax.specs.Shape as written;
 ghost use Rattle.rc_typing.specs.Contexts.{context_of, scope_of};
-ghost use Rattle.rc_typing.specs.Outside.{among_params};
+ghost use Rattle.rc_typing.specs.Here.{here_of};
+ghost use Rattle.rc_typing.specs.Outside.{outside_of};
+ghost use Rattle.rc_typing.specs.Parts.{written_params, written_result, written_signature, with_function};
 
 use crate::building::type_in;
 use crate::context::Context;
 use crate::defined::defined_type;
 use crate::definitions::add_meaning;
-use crate::locals::{add_local, named_local, new_name, next_local};
+use crate::here::Here;
+use crate::locals::{add_local, named_local, new_name};
 use crate::names::meaning;
+use crate::outside::Outside;
+use crate::parts::Head;
 use rc_core::ty::Ty;
 use rc_deletes::Refusal;
 use rc_rules::items::function_name;
 use rc_rules::kinds::is_struct;
 use rc_rules::stop::{add, refuse_where};
 use rc_rules::{Meaning, Signature, Stop};
-use rc_scope::Scopes;
 use rc_syntax::tree::{Name, Param, TypeName};
 use std::alloc::Global;
 
@@ -62,22 +66,16 @@ pub(crate) fn given(
 }
 
 /// What declarations of a function agree in.
-fn signature(
-    alloc: Global,
-    context: &Context,
-    deletes: bool,
-    gives: &Option<TypeName>,
-    params: &[Param],
-) -> Result<Signature, Stop>
-    ensures ok { IfOk result (λ s. signature_of s ≡ rule.signature_of (context_of context.now) deletes (written.mapped written.type_of gives.now) (map written.param_of params.now)) }
+fn signature(alloc: Global, context: &Context, head: &Head<'_>) -> Result<Signature, Stop>
+    ensures ok { IfOk result (λ s. signature_of s ≡ written_signature (context_of context.now) head.now) }
     ensures err { IfErr result (λ s. s ≡ Stop.Memory) }
 {
-    let takes = taken(alloc, context, params)?;
-    let gives = given(alloc, context, gives)?;
+    let takes = taken(alloc, context, head.params)?;
+    let gives = given(alloc, context, head.gives)?;
     Ok(Signature {
         takes,
         gives,
-        deletes,
+        deletes: head.deletes,
     })
 }
 
@@ -96,13 +94,13 @@ fn result_rule(alloc: Global, context: &Context, gives: &Option<TypeName>) -> Re
 }
 
 /// The name of a parameter is new among those before it.
-fn param_name(names: &Scopes<Meaning>, name: &Option<Name>) -> Result<(), Stop>
-    ensures ok { (locals : List Ty) → (strings : List (List ℕ)) → OnOk result (rule.param_name (among_params names.now locals strings) name.now ≡ Holds tt) }
-    ensures err { (locals : List Ty) → (strings : List (List ℕ)) → IfErr result (StopsAt (rule.param_name (among_params names.now locals strings) name.now)) }
+fn param_name(here: &Here, name: &Option<Name>) -> Result<(), Stop>
+    ensures ok { OnOk result (rule.param_name (here_of here.now) name.now ≡ Holds tt) }
+    ensures err { IfErr result (StopsAt (rule.param_name (here_of here.now) name.now)) }
 {
     match name {
         None => Ok(()),
-        Some(name) => new_name(names, 0, name),
+        Some(name) => new_name(here, name),
     }
 }
 
@@ -120,21 +118,15 @@ fn is_unfit(ty: &Ty, has_body: bool, name: &Option<Name>) -> bool
 }
 
 /// A parameter is a local, which may have no name.
-fn add_param(
-    alloc: Global,
-    names: &mut Scopes<Meaning>,
-    locals: &mut Vec<Ty>,
-    ty: &Ty,
-    q: &Param,
-) -> Result<(), Stop>
-    ensures ok { (context : Context) → (strings : List (List ℕ)) → ty_of ty.now ≡ written_type (type_names (context_of context)) (written.type_of q.now.type_name) → OnOk result (among_params names.new locals.new.items strings ≡ rule.with_param (context_of context) (among_params names.old locals.old.items strings) (written.param_of q.now)) }
+fn add_param(alloc: Global, here: &mut Here, ty: &Ty, q: &Param) -> Result<(), Stop>
+    ensures ok { (context : Context) → ty_of ty.now ≡ written_type (type_names (context_of context)) (written.type_of q.now.type_name) → OnOk result (here_of here.new ≡ rule.with_param (context_of context) (here_of here.old) (written.param_of q.now)) }
     ensures err { IfErr result (λ s. s ≡ Stop.Memory) }
 {
     match &q.name {
-        None => add_local(alloc, locals, ty),
+        None => add_local(alloc, &mut here.locals, ty),
         Some(name) => {
-            let number = next_local(locals)?;
-            named_local(alloc, names, locals, number, ty, name)
+            named_local(alloc, here, ty, name)?;
+            Ok(())
         }
     }
 }
@@ -146,82 +138,70 @@ fn param(
     alloc: Global,
     context: &Context,
     has_body: bool,
-    names: &mut Scopes<Meaning>,
-    locals: &mut Vec<Ty>,
+    here: &mut Here,
 ) -> Result<(), Stop>
-    ensures ok { (strings : List (List ℕ)) → OnOk result (rule.param_rule (context_of context.now) has_body (among_params names.old locals.old.items strings) (written.param_of q.now) ≡ Holds tt) }
-    ensures behind { (strings : List (List ℕ)) → OnOk result (among_params names.new locals.new.items strings ≡ rule.with_param (context_of context.now) (among_params names.old locals.old.items strings) (written.param_of q.now)) }
-    ensures err { (strings : List (List ℕ)) → IfErr result (StopsAt (rule.param_rule (context_of context.now) has_body (among_params names.old locals.old.items strings) (written.param_of q.now))) }
+    ensures ok { OnOk result (rule.param_rule (context_of context.now) has_body (here_of here.old) (written.param_of q.now) ≡ Holds tt) }
+    ensures behind { OnOk result (here_of here.new ≡ rule.with_param (context_of context.now) (here_of here.old) (written.param_of q.now)) }
+    ensures err { IfErr result (StopsAt (rule.param_rule (context_of context.now) has_body (here_of here.old) (written.param_of q.now))) }
 {
     let ty = defined_type(alloc, context, &q.type_name)?;
-    param_name(names, &q.name)?;
+    param_name(here, &q.name)?;
     refuse_where(is_unfit(&ty, has_body, &q.name), q.spot, Refusal::Mistyped)?;
-    add_param(alloc, names, locals, &ty, q)
+    add_param(alloc, here, &ty, q)
 }
 
-/// The parameters of a function: the types of its first locals. Their names are put behind those
-/// before them.
+/// The parameters of a function, which are its first locals.
 pub(crate) fn params_of(
     qs: &[Param],
     alloc: Global,
     context: &Context,
     has_body: bool,
-    names: &mut Scopes<Meaning>,
-) -> Result<Vec<Ty>, Stop>
-    ensures ok { (strings : List (List ℕ)) → OnOk result (rule.params_rule (context_of context.now) has_body (among_params names.old [] strings) (map written.param_of qs.now) ≡ Holds tt) }
-    ensures behind { (strings : List (List ℕ)) → IfOk result (λ locals. among_params names.new locals.items strings ≡ rule.with_params (context_of context.now) (among_params names.old [] strings) (map written.param_of qs.now)) }
-    ensures err { (strings : List (List ℕ)) → IfErr result (StopsAt (rule.params_rule (context_of context.now) has_body (among_params names.old [] strings) (map written.param_of qs.now))) }
+    here: &mut Here,
+) -> Result<(), Stop>
+    ensures ok { OnOk result (rule.params_rule (context_of context.now) has_body (here_of here.old) (map written.param_of qs.now) ≡ Holds tt) }
+    ensures behind { OnOk result (here_of here.new ≡ rule.with_params (context_of context.now) (here_of here.old) (map written.param_of qs.now)) }
+    ensures err { IfErr result (StopsAt (rule.params_rule (context_of context.now) has_body (here_of here.old) (map written.param_of qs.now))) }
 {
-    let mut locals = Vec::new(alloc);
     for q in qs {
-        param(q, alloc, context, has_body, names, &mut locals)?;
+        param(q, alloc, context, has_body, here)?;
     }
-    Ok(locals)
+    Ok(())
 }
 
 /// The name of a function stands for it, unless it stood for something before.
-fn declare(
+fn declare_name(
+    head: &Head<'_>,
+    has_body: bool,
     alloc: Global,
     context: &Context,
-    functions: u32,
-    has_body: bool,
-    deletes: bool,
-    gives: &Option<TypeName>,
-    name: &Name,
-    params: &[Param],
-    names: &mut Scopes<Meaning>,
+    outside: &mut Outside,
 ) -> Result<(), Stop>
-    ensures ok { OnOk result (rule.function_name name.now has_body functions (meaning_in (scope_of names.old) name.now.text) (rule.signature_of (context_of context.now) deletes (written.mapped written.type_of gives.now) (map written.param_of params.now)) ≡ Holds tt) }
-    ensures behind { OnOk result (scope_of names.new ≡ rule.with_name (scope_of names.old) name.now.text (a_function (place_of (context_of context.now).functions name.now.text) (rule.signature_of (context_of context.now) deletes (written.mapped written.type_of gives.now) (map written.param_of params.now)))) }
-    ensures err { IfErr result (StopsAt (rule.function_name name.now has_body functions (meaning_in (scope_of names.old) name.now.text) (rule.signature_of (context_of context.now) deletes (written.mapped written.type_of gives.now) (map written.param_of params.now)))) }
+    ensures ok { OnOk result (rule.function_name head.now.name.now has_body outside.old.functions (meaning_in (scope_of outside.old.names) head.now.name.now.text) (written_signature (context_of context.now) head.now) ≡ Holds tt) }
+    ensures behind { OnOk result (outside_of outside.new ≡ with_function (context_of context.now) (outside_of outside.old) head.now) }
+    ensures err { IfErr result (StopsAt (rule.function_name head.now.name.now has_body outside.old.functions (meaning_in (scope_of outside.old.names) head.now.name.now.text) (written_signature (context_of context.now) head.now))) }
 {
-    let signature = signature(alloc, context, deletes, gives, params)?;
-    function_name(name, has_body, functions, meaning(names, name), &signature)?;
-    let number = context.functions.find(name.text.as_slice());
-    add_meaning(names, name, Meaning::Function(number, signature))
+    let signature = signature(alloc, context, head)?;
+    let known = meaning(&outside.names, head.name);
+    function_name(head.name, has_body, outside.functions, known, &signature)?;
+    let number = context.functions.find(head.name.text.as_slice());
+    let stands_for = Meaning::Function(number, signature);
+    add_meaning(&mut outside.names, head.name, stands_for)
 }
 
-/// The result and the name of a function, where so many functions are defined before. The name is
-/// put behind those before it.
+/// The result and the name of a function, which is declared from here on.
 #[tactic(auto, using(crate::proofs::Stops::left_stops, crate::proofs::Stops::second_stops))]
-pub(crate) fn head(
+pub(crate) fn declare(
+    head: &Head<'_>,
+    has_body: bool,
     alloc: Global,
     context: &Context,
-    functions: u32,
-    has_body: bool,
-    deletes: bool,
-    gives: &Option<TypeName>,
-    name: &Name,
-    params: &[Param],
-    names: &mut Scopes<Meaning>,
+    outside: &mut Outside,
 ) -> Result<(), Stop>
-    ensures result_type { OnOk result (rule.result_rule (context_of context.now) (written.mapped written.type_of gives.now) ≡ Holds tt) }
-    ensures name { OnOk result (rule.function_name name.now has_body functions (meaning_in (scope_of names.old) name.now.text) (rule.signature_of (context_of context.now) deletes (written.mapped written.type_of gives.now) (map written.param_of params.now)) ≡ Holds tt) }
-    ensures behind { OnOk result (scope_of names.new ≡ rule.with_name (scope_of names.old) name.now.text (a_function (place_of (context_of context.now).functions name.now.text) (rule.signature_of (context_of context.now) deletes (written.mapped written.type_of gives.now) (map written.param_of params.now)))) }
-    ensures err { (o : rule.Outside) → o.names ≡ scope_of names.old → o.functions ≡ functions → IfErr result (StopsAt (rule.head_rule (context_of context.now) o has_body deletes (written.mapped written.type_of gives.now) name.now (map written.param_of params.now))) }
+    ensures result_type { OnOk result (rule.result_rule (context_of context.now) (written_result head.now) ≡ Holds tt) }
+    ensures name { OnOk result (rule.function_name head.now.name.now has_body outside.old.functions (meaning_in (scope_of outside.old.names) head.now.name.now.text) (written_signature (context_of context.now) head.now) ≡ Holds tt) }
+    ensures behind { OnOk result (outside_of outside.new ≡ with_function (context_of context.now) (outside_of outside.old) head.now) }
+    ensures err { IfErr result (StopsAt (rule.head_rule (context_of context.now) (outside_of outside.old) has_body head.now.deletes (written_result head.now) head.now.name.now (written_params head.now))) }
 {
-    result_rule(alloc, context, gives)?;
-    declare(
-        alloc, context, functions, has_body, deletes, gives, name, params, names,
-    )
+    result_rule(alloc, context, head.gives)?;
+    declare_name(head, has_body, alloc, context, outside)
 }

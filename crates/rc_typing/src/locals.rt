@@ -1,7 +1,6 @@
 // Locals.
-ghost use Rattle.std.specs.Prelude.{◌≡◌, ◌++◌, ◌∷◌, [], List, map, length, option_map, IfOk, IfErr, OnOk};
-ghost use Rattle.rc_core.specs.Shapes.{bytes_of, ty_of, stmt_of, stmts_of};
-ghost use Rattle.rc_core.specs.Types.{Ty};
+ghost use Rattle.std.specs.Prelude.{◌≡◌, ◌++◌, ◌∷◌, [], map, length, IfOk, IfErr, OnOk};
+ghost use Rattle.rc_core.specs.Shapes.{ty_of, stmt_of, stmts_of};
 ghost use Rattle.rc_deletes.specs.Judged.{Holds};
 ghost use Rattle.rc_deletes.specs.Scopes.{a_local};
 ghost use Rattle.rc_deletes.specs.Statements as rule;
@@ -12,6 +11,7 @@ ghost use Rattle.rc_typing.specs.Here.{here_of};
 
 use crate::context::Context;
 use crate::defined::defined_type;
+use crate::here::Here;
 use crate::names::meaning;
 use crate::steps::{empty_block, simple, value_option};
 use rc_core::stmt::Stmt as Step;
@@ -25,23 +25,12 @@ use rc_scope::Scopes;
 use rc_syntax::tree::{ForStart, Local, Name};
 use std::alloc::Global;
 
-/// The number of the local that comes next.
-pub(crate) fn next_local(locals: &[Ty]) -> Result<u32, Stop>
-    ensures ok { IfOk result (λ n. n ≡ length locals.now) }
-    ensures err { IfErr result (λ s. s ≡ Stop.Memory) }
+/// A declared name is new in its scope.
+pub(crate) fn new_name(here: &Here, name: &Name) -> Result<(), Stop>
+    ensures ok { OnOk result (rule.new_name here.now.first (scope_of here.now.names) name.now ≡ Holds tt) }
+    ensures err { IfErr result (StopsAt (rule.new_name here.now.first (scope_of here.now.names) name.now)) }
 {
-    if locals.len() < 4294967295 {
-        return Ok(locals.len() as u32);
-    }
-    Err(Stop::Memory)
-}
-
-/// A declared name is new in the scope whose first local is `first`.
-pub(crate) fn new_name(names: &Scopes<Meaning>, first: u32, name: &Name) -> Result<(), Stop>
-    ensures ok { OnOk result (rule.new_name first (scope_of names.now) name.now ≡ Holds tt) }
-    ensures err { IfErr result (StopsAt (rule.new_name first (scope_of names.now) name.now)) }
-{
-    if is_twice(first, meaning(names, name)) {
+    if is_twice(here.first, meaning(&here.names, name)) {
         return fails(name.spot, Refusal::Twice);
     }
     Ok(())
@@ -76,22 +65,16 @@ pub(crate) fn add_local(alloc: Global, locals: &mut Vec<Ty>, ty: &Ty) -> Result<
     add(locals, ty)
 }
 
-/// A local with a name, which holds from here on.
-pub(crate) fn named_local(
-    alloc: Global,
-    names: &mut Scopes<Meaning>,
-    locals: &mut Vec<Ty>,
-    number: u32,
-    ty: &Ty,
-    name: &Name,
-) -> Result<(), Stop>
-    requires { number ≡ length locals.old.items }
-    ensures names { OnOk result (scope_of names.new ≡ (name.now.text, a_local number (ty_of ty.now)) ∷ scope_of names.old) }
-    ensures locals { OnOk result (map ty_of locals.new.items ≡ map ty_of locals.old.items ++ ty_of ty.now ∷ []) }
+/// A local with a name, which holds from here on. Its number.
+pub(crate) fn named_local(alloc: Global, here: &mut Here, ty: &Ty, name: &Name) -> Result<u32, Stop>
+    ensures ok { IfOk result (λ n. n ≡ length (here_of here.old).locals) }
+    ensures behind { OnOk result (here_of here.new ≡ rule.with_local (here_of here.old) (ty_of ty.now) name.now.text) }
     ensures err { IfErr result (λ s. s ≡ Stop.Memory) }
 {
-    name_local(alloc, names, number, ty, name)?;
-    add_local(alloc, locals, ty)
+    let number = here.next_local()?;
+    name_local(alloc, &mut here.names, number, ty, name)?;
+    add_local(alloc, &mut here.locals, ty)?;
+    Ok(number)
 }
 
 /// A declarator of a local.
@@ -100,20 +83,16 @@ pub(crate) fn local(
     l: &Local,
     alloc: Global,
     context: &Context,
-    names: &mut Scopes<Meaning>,
-    locals: &mut Vec<Ty>,
-    first: u32,
-    strings: &mut Vec<Vec<u8>>,
+    here: &mut Here,
 ) -> Result<Step, Stop>
-    ensures ok { IfOk result (λ s. rule.local (context_of context.now) (here_of names.old locals.old.items first strings.old.items) (written.local_of l.now) ≡ Holds (stmt_of s)) }
-    ensures behind { OnOk result (here_of names.new locals.new.items first strings.new.items ≡ rule.behind_local (context_of context.now) (here_of names.old locals.old.items first strings.old.items) (written.local_of l.now)) }
-    ensures err { IfErr result (StopsAt (rule.local (context_of context.now) (here_of names.old locals.old.items first strings.old.items) (written.local_of l.now))) }
+    ensures ok { IfOk result (λ s. rule.local (context_of context.now) (here_of here.old) (written.local_of l.now) ≡ Holds (stmt_of s)) }
+    ensures behind { OnOk result (here_of here.new ≡ rule.behind_local (context_of context.now) (here_of here.old) (written.local_of l.now)) }
+    ensures err { IfErr result (StopsAt (rule.local (context_of context.now) (here_of here.old) (written.local_of l.now))) }
 {
     let ty = defined_type(alloc, context, &l.type_name)?;
-    new_name(names, first, &l.name)?;
-    let number = next_local(locals)?;
-    named_local(alloc, names, locals, number, &ty, &l.name)?;
-    let initial = value_option(&l.initial, alloc, context, names, strings)?;
+    new_name(here, &l.name)?;
+    let number = named_local(alloc, here, &ty, &l.name)?;
+    let initial = value_option(&l.initial, alloc, context, &here.names, &mut here.strings)?;
     let step = declaration(alloc, l.spot.line, number, &ty, initial)?;
     fitting(l.spot, step)
 }
@@ -124,18 +103,15 @@ pub(crate) fn locals_of(
     ls: &[Local],
     alloc: Global,
     context: &Context,
-    names: &mut Scopes<Meaning>,
-    locals: &mut Vec<Ty>,
-    first: u32,
-    strings: &mut Vec<Vec<u8>>,
+    here: &mut Here,
 ) -> Result<Vec<Step>, Stop>
-    ensures ok { IfOk result (λ steps. rule.locals (context_of context.now) (here_of names.old locals.old.items first strings.old.items) (map written.local_of ls.now) ≡ Holds (stmts_of steps.items)) }
-    ensures behind { OnOk result (here_of names.new locals.new.items first strings.new.items ≡ rule.behind_locals (context_of context.now) (here_of names.old locals.old.items first strings.old.items) (map written.local_of ls.now)) }
-    ensures err { IfErr result (StopsAt (rule.locals (context_of context.now) (here_of names.old locals.old.items first strings.old.items) (map written.local_of ls.now))) }
+    ensures ok { IfOk result (λ steps. rule.locals (context_of context.now) (here_of here.old) (map written.local_of ls.now) ≡ Holds (stmts_of steps.items)) }
+    ensures behind { OnOk result (here_of here.new ≡ rule.behind_locals (context_of context.now) (here_of here.old) (map written.local_of ls.now)) }
+    ensures err { IfErr result (StopsAt (rule.locals (context_of context.now) (here_of here.old) (map written.local_of ls.now))) }
 {
     let mut steps = Vec::new(alloc);
     for l in ls {
-        let step = local(l, alloc, context, names, locals, first, strings)?;
+        let step = local(l, alloc, context, here)?;
         add(&mut steps, step)?;
     }
     Ok(steps)
@@ -147,20 +123,17 @@ pub(crate) fn for_start(
     start: &ForStart,
     alloc: Global,
     context: &Context,
-    names: &mut Scopes<Meaning>,
-    locals: &mut Vec<Ty>,
-    first: u32,
-    strings: &mut Vec<Vec<u8>>,
+    here: &mut Here,
 ) -> Result<Step, Stop>
-    ensures ok { IfOk result (λ s. rule.for_start (context_of context.now) (here_of names.old locals.old.items first strings.old.items) (written.start_of start.now) ≡ Holds (stmt_of s)) }
-    ensures behind { OnOk result (here_of names.new locals.new.items first strings.new.items ≡ rule.behind_start (context_of context.now) (here_of names.old locals.old.items first strings.old.items) (written.start_of start.now)) }
-    ensures err { IfErr result (StopsAt (rule.for_start (context_of context.now) (here_of names.old locals.old.items first strings.old.items) (written.start_of start.now))) }
+    ensures ok { IfOk result (λ s. rule.for_start (context_of context.now) (here_of here.old) (written.start_of start.now) ≡ Holds (stmt_of s)) }
+    ensures behind { OnOk result (here_of here.new ≡ rule.behind_start (context_of context.now) (here_of here.old) (written.start_of start.now)) }
+    ensures err { IfErr result (StopsAt (rule.for_start (context_of context.now) (here_of here.old) (written.start_of start.now))) }
 {
     match start {
         ForStart::Nothing => Ok(empty_block(alloc)),
-        ForStart::Simple(s) => simple(s, alloc, context, names, strings),
+        ForStart::Simple(s) => simple(s, alloc, context, &here.names, &mut here.strings),
         ForStart::Locals(ls) => {
-            let body = locals_of(ls, alloc, context, names, locals, first, strings)?;
+            let body = locals_of(ls, alloc, context, here)?;
             Ok(Step::Block { body })
         }
     }

@@ -10,7 +10,8 @@ ghost use Rattle.rc_typing.specs.Here.{here_of};
 ghost use Rattle.rc_typing.specs.Loops.{in_a_loop};
 
 use crate::context::Context;
-use crate::locals::{for_start, local, next_local};
+use crate::here::Here;
+use crate::locals::{for_start, local};
 use crate::nodes::{branch, do_loop, for_loop, while_loop};
 use crate::steps::{condition, condition_option, empty_block, simple, simple_option, value_option};
 use rc_core::stmt::Stmt as Step;
@@ -63,72 +64,60 @@ pub(crate) fn stmt(
     context: &Context,
     gives: &Option<Ty>,
     looping: bool,
-    names: &mut Scopes<Meaning>,
-    locals: &mut Vec<Ty>,
-    first: u32,
-    strings: &mut Vec<Vec<u8>>,
+    here: &mut Here,
 ) -> Result<Step, Stop>
-    ensures ok { IfOk result (λ r. rule.stmt (context_of context.now) (option_map ty_of gives.now) looping (here_of names.old locals.old.items first strings.old.items) (written.stmt_of s.now) ≡ Holds (stmt_of r)) }
-    ensures behind { OnOk result (here_of names.new locals.new.items first strings.new.items ≡ rule.behind_stmt (context_of context.now) (here_of names.old locals.old.items first strings.old.items) (written.stmt_of s.now)) }
-    ensures err { IfErr result (StopsAt (rule.stmt (context_of context.now) (option_map ty_of gives.now) looping (here_of names.old locals.old.items first strings.old.items) (written.stmt_of s.now))) }
+    ensures ok { IfOk result (λ r. rule.stmt (context_of context.now) (option_map ty_of gives.now) looping (here_of here.old) (written.stmt_of s.now) ≡ Holds (stmt_of r)) }
+    ensures behind { OnOk result (here_of here.new ≡ rule.behind_stmt (context_of context.now) (here_of here.old) (written.stmt_of s.now)) }
+    ensures err { IfErr result (StopsAt (rule.stmt (context_of context.now) (option_map ty_of gives.now) looping (here_of here.old) (written.stmt_of s.now))) }
 {
     match s {
-        Stmt::Local(l) => local(l, alloc, context, names, locals, first, strings),
+        Stmt::Local(l) => local(l, alloc, context, here),
         Stmt::Block(_, body) => {
-            let depth = names.len();
-            let inner = next_local(locals)?;
-            let body = stmts(
-                body, alloc, context, gives, looping, names, locals, inner, strings,
-            )?;
-            names.leave(depth);
+            let outer = here.outer();
+            here.enter()?;
+            let body = stmts(body, alloc, context, gives, looping, here)?;
+            here.leave(outer);
             Ok(Step::Block { body })
         }
         Stmt::Empty(_) => Ok(empty_block(alloc)),
-        Stmt::Simple(_, e) => simple(e, alloc, context, names, strings),
+        Stmt::Simple(_, e) => simple(e, alloc, context, &here.names, &mut here.strings),
         Stmt::If(at, c, a, b) => {
-            let test = condition(c, alloc, context, names, strings)?;
-            let yes = stmt(
-                a, alloc, context, gives, looping, names, locals, first, strings,
-            )?;
+            let test = condition(c, alloc, context, &here.names, &mut here.strings)?;
+            let yes = stmt(a, alloc, context, gives, looping, here)?;
             match b {
                 None => branch(alloc, at.line, test, yes, empty_block(alloc)),
                 Some(b) => {
-                    let no = stmt(
-                        b, alloc, context, gives, looping, names, locals, first, strings,
-                    )?;
+                    let no = stmt(b, alloc, context, gives, looping, here)?;
                     branch(alloc, at.line, test, yes, no)
                 }
             }
         }
         Stmt::While(at, c, a) => {
-            let test = condition(c, alloc, context, names, strings)?;
-            let body = stmt(
-                a, alloc, context, gives, true, names, locals, first, strings,
-            )?;
+            let test = condition(c, alloc, context, &here.names, &mut here.strings)?;
+            let body = stmt(a, alloc, context, gives, true, here)?;
             while_loop(alloc, at.line, test, body)
         }
         Stmt::Do(at, a, c) => {
-            let body = stmt(
-                a, alloc, context, gives, true, names, locals, first, strings,
-            )?;
-            let test = condition(c, alloc, context, names, strings)?;
+            let body = stmt(a, alloc, context, gives, true, here)?;
+            let test = condition(c, alloc, context, &here.names, &mut here.strings)?;
             do_loop(alloc, at.line, body, test)
         }
         Stmt::For(at, start, c, next, a) => {
-            let depth = names.len();
-            let inner = next_local(locals)?;
-            let begin = for_start(start, alloc, context, names, locals, inner, strings)?;
-            let test = condition_option(c, alloc, context, names, strings)?;
-            let third = simple_option(next, alloc, context, names, strings)?;
-            let body = stmt(
-                a, alloc, context, gives, true, names, locals, inner, strings,
-            )?;
-            names.leave(depth);
+            let outer = here.outer();
+            here.enter()?;
+            let begin = for_start(start, alloc, context, here)?;
+            let test = condition_option(c, alloc, context, &here.names, &mut here.strings)?;
+            let third = simple_option(next, alloc, context, &here.names, &mut here.strings)?;
+            let body = stmt(a, alloc, context, gives, true, here)?;
+            here.leave(outer);
             for_loop(alloc, at.line, begin, test, third, body)
         }
         Stmt::Break(at) => in_loop(looping, *at, Step::Break { line: at.line }),
         Stmt::Continue(at) => in_loop(looping, *at, Step::Continue { line: at.line }),
-        Stmt::Return(at, e) => returning(*at, e, alloc, context, gives, names, strings),
+        Stmt::Return(at, e) => {
+            let strings = &mut here.strings;
+            returning(*at, e, alloc, context, gives, &here.names, strings)
+        }
     }
 }
 
@@ -141,20 +130,15 @@ pub(crate) fn stmts(
     context: &Context,
     gives: &Option<Ty>,
     looping: bool,
-    names: &mut Scopes<Meaning>,
-    locals: &mut Vec<Ty>,
-    first: u32,
-    strings: &mut Vec<Vec<u8>>,
+    here: &mut Here,
 ) -> Result<Vec<Step>, Stop>
-    ensures ok { IfOk result (λ steps. rule.stmts (context_of context.now) (option_map ty_of gives.now) looping (here_of names.old locals.old.items first strings.old.items) (written.stmts_of body.now) ≡ Holds (stmts_of steps.items)) }
-    ensures behind { OnOk result (here_of names.new locals.new.items first strings.new.items ≡ rule.behind_stmts (context_of context.now) (here_of names.old locals.old.items first strings.old.items) (written.stmts_of body.now)) }
-    ensures err { IfErr result (StopsAt (rule.stmts (context_of context.now) (option_map ty_of gives.now) looping (here_of names.old locals.old.items first strings.old.items) (written.stmts_of body.now))) }
+    ensures ok { IfOk result (λ steps. rule.stmts (context_of context.now) (option_map ty_of gives.now) looping (here_of here.old) (written.stmts_of body.now) ≡ Holds (stmts_of steps.items)) }
+    ensures behind { OnOk result (here_of here.new ≡ rule.behind_stmts (context_of context.now) (here_of here.old) (written.stmts_of body.now)) }
+    ensures err { IfErr result (StopsAt (rule.stmts (context_of context.now) (option_map ty_of gives.now) looping (here_of here.old) (written.stmts_of body.now))) }
 {
     let mut steps = Vec::new(alloc);
     for s in body {
-        let step = stmt(
-            s, alloc, context, gives, looping, names, locals, first, strings,
-        )?;
+        let step = stmt(s, alloc, context, gives, looping, here)?;
         add(&mut steps, step)?;
     }
     Ok(steps)

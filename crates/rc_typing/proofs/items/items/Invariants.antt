@@ -1,4 +1,4 @@
-use Rattle.std.proofs.Common.{◌≡◌, ◌≤◌, true, length, map}
+use Rattle.std.proofs.Common.{◌≡◌, true, length, map}
 use Rattle.rc_syntax.specs.Shape.{item_of}
 use Rattle.rc_deletes.specs.Judged.{Holds}
 use Rattle.rc_deletes.specs.Items.{items, behind_items, at_the_start}
@@ -10,10 +10,9 @@ use Rattle.rc_typing.proofs.items.items.Given as goal
 
 abbrev pub invariant-loop-rest : goal.invariant-loop-rest
 invariant-loop-rest l = record {
-  same : items (context_of l.context) at_the_start (map item_of l.is) ≡ after_made (all_made l.globals.items l.functions.items) (items (context_of l.context) (outside_of l.names l.counts l.strings.items) (map item_of l.rest));
-  moved : behind_items (context_of l.context) at_the_start (map item_of l.is) ≡ behind_items (context_of l.context) (outside_of l.names l.counts l.strings.items) (map item_of l.rest);
-  few : l.counts.cells ≤ 1048576;
-  known : l.is_known ≡ true → before_globals (context_of l.context) l.counts.structs (map item_of l.rest) ≡ Holds tt;
+  same : items (context_of l.context) at_the_start (map item_of l.is) ≡ after_made (all_made l.globals.items l.functions.items) (items (context_of l.context) (outside_of l.outside) (map item_of l.rest));
+  moved : behind_items (context_of l.context) at_the_start (map item_of l.is) ≡ behind_items (context_of l.context) (outside_of l.outside) (map item_of l.rest);
+  known : l.is_known ≡ true → before_globals (context_of l.context) l.outside.structs (map item_of l.rest) ≡ Holds tt;
 }
 
 abbrev pub decreases-loop-rest : goal.decreases-loop-rest

@@ -1,36 +1,38 @@
-use Rattle.std.proofs.Common.{◌≡◌, refl, ap, sym, ◌∙◌, subst, length, option_map, rules, IfOk, IfErr}
+use Rattle.std.proofs.Common.{◌≡◌, ap, sym, ◌∙◌, subst, option_map, rules, IfOk, IfErr}
+use Rattle.rc_syntax.specs.Shape.{local_of}
 use Rattle.rc_core.specs.Shapes.{ty_of, stmt_of}
 use Rattle.rc_core.specs.Programs as p
 use Rattle.rc_deletes.specs.Judged.{Judged, Holds, fitting}
 use Rattle.rc_rules.specs.Shapes.{typed_of}
 use Rattle.rc_rules.specs.Stops.{StopsAt}
-use Rattle.rc_typing.specs.Contexts.{context_of, scope_of}
+use Rattle.rc_typing.specs.Contexts.{context_of}
+use Rattle.rc_typing.specs.Here.{here_of}
 use Rattle.rc_typing.proofs.Lists.{on_any}
+use Rattle.rc_typing.proofs.Kept.{more_strings}
 use Rattle.rc_typing.proofs.Declared.{initial_stops, local_is, local_behind}
 use Rattle.rc_typing.proofs.locals.local.Goals as goal
 
 pub returns-in_err-initial-clause-err : goal.returns-in_err-initial-clause-err
 returns-in_err-initial-clause-err c =
-    let count : c.in_ok-number.number ≡ length c.args.locals.now.items = c.in_ok-number.ensures.ok ∙ ap length c.deref.ensures.value in
-    let h = initial_stops (context_of c.args.context.now) c.args.names.now c.args.locals.now.items c.args.first c.in_ok-number.number c.args.strings.now.items c.args.l.now (ty_of c.in_ok-ty.ty) (scope_of c.named_local.new.names) count c.in_ok-ty.ensures.ok.0 c.in_ok-ty.ensures.ok.1 c.in_ok-named_local.ensures.names c.in_err-initial.field-0.0 c.in_ok-new_name.ensures.ok c.in_err-initial.ensures.err in
+    let h = initial_stops (context_of c.args.context.now) (here_of c.args.here.now) (here_of c.named_local.new.here) (local_of c.args.l.now) (ty_of c.in_ok-ty.ty) c.in_ok-number.number c.in_ok-number.ensures.ok c.in_ok-ty.ensures.ok.0 c.in_ok-ty.ensures.ok.1 c.in_ok-number.ensures.behind
+    c.in_err-initial.field-0.0 c.in_ok-new_name.ensures.ok c.in_err-initial.ensures.err in
     search rules
 
 pub returns-clause-ok : goal.returns-clause-ok
 returns-clause-ok c =
-    let count : c.in_ok-number.number ≡ length c.args.locals.now.items = c.in_ok-number.ensures.ok ∙ ap length c.deref.ensures.value in
-    let e = local_is (context_of c.args.context.now) c.args.names.now c.args.locals.now.items c.args.first c.in_ok-number.number c.args.strings.now.items c.args.l.now (ty_of c.in_ok-ty.ty) (scope_of c.named_local.new.names) count c.in_ok-ty.ensures.ok.0 c.in_ok-ty.ensures.ok.1 c.in_ok-named_local.ensures.names (option_map typed_of c.in_ok-initial.initial) c.in_ok-new_name.ensures.ok c.in_ok-initial.ensures.ok
+    let e = local_is (context_of c.args.context.now) (here_of c.args.here.now) (here_of c.named_local.new.here) (local_of c.args.l.now) (ty_of c.in_ok-ty.ty) c.in_ok-number.number c.in_ok-number.ensures.ok c.in_ok-ty.ensures.ok.0 c.in_ok-ty.ensures.ok.1 c.in_ok-number.ensures.behind
+    (option_map typed_of c.in_ok-initial.initial) c.in_ok-new_name.ensures.ok c.in_ok-initial.ensures.ok
     ∙ ap (fitting c.args.l.now.spot) c.in_ok-step.ensures.ok in
     subst (λ (x : Judged p.Stmt). IfOk c.fitting.result (λ s. x ≡ Holds (stmt_of s))) (sym e) c.fitting.ensures.ok
 
 pub returns-clause-err : goal.returns-clause-err
 returns-clause-err c =
-    let count : c.in_ok-number.number ≡ length c.args.locals.now.items = c.in_ok-number.ensures.ok ∙ ap length c.deref.ensures.value in
-    let e = local_is (context_of c.args.context.now) c.args.names.now c.args.locals.now.items c.args.first c.in_ok-number.number c.args.strings.now.items c.args.l.now (ty_of c.in_ok-ty.ty) (scope_of c.named_local.new.names) count c.in_ok-ty.ensures.ok.0 c.in_ok-ty.ensures.ok.1 c.in_ok-named_local.ensures.names (option_map typed_of c.in_ok-initial.initial) c.in_ok-new_name.ensures.ok c.in_ok-initial.ensures.ok
+    let e = local_is (context_of c.args.context.now) (here_of c.args.here.now) (here_of c.named_local.new.here) (local_of c.args.l.now) (ty_of c.in_ok-ty.ty) c.in_ok-number.number c.in_ok-number.ensures.ok c.in_ok-ty.ensures.ok.0 c.in_ok-ty.ensures.ok.1 c.in_ok-number.ensures.behind
+    (option_map typed_of c.in_ok-initial.initial) c.in_ok-new_name.ensures.ok c.in_ok-initial.ensures.ok
     ∙ ap (fitting c.args.l.now.spot) c.in_ok-step.ensures.ok in
     subst (λ (x : Judged p.Stmt). IfErr c.fitting.result (StopsAt x)) (sym e) c.fitting.ensures.err
 
 pub returns-clause-behind : goal.returns-clause-behind
 returns-clause-behind c =
-    let count : c.in_ok-number.number ≡ length c.args.locals.now.items = c.in_ok-number.ensures.ok ∙ ap length c.deref.ensures.value in
-    on_any c.fitting.result (local_behind (context_of c.args.context.now) c.args.names.now c.args.locals.now.items c.args.first c.in_ok-number.number c.args.strings.now.items c.args.l.now (ty_of c.in_ok-ty.ty) (scope_of c.named_local.new.names) count c.in_ok-ty.ensures.ok.0 c.in_ok-ty.ensures.ok.1 c.in_ok-named_local.ensures.names
-    c.named_local.new.names c.named_local.new.locals.items c.value_option.new.strings.items refl c.in_ok-named_local.ensures.locals c.in_ok-initial.ensures.strings)
+    on_any c.fitting.result (local_behind (context_of c.args.context.now) (here_of c.args.here.now) (here_of c.named_local.new.here) (local_of c.args.l.now) (ty_of c.in_ok-ty.ty) c.in_ok-number.number c.in_ok-number.ensures.ok c.in_ok-ty.ensures.ok.0 c.in_ok-ty.ensures.ok.1 c.in_ok-number.ensures.behind
+    (here_of (record c.named_local.new.here { strings = c.value_option.new.strings })) (more_strings c.named_local.new.here c.value_option.new.strings _ c.in_ok-initial.ensures.strings))

@@ -9,6 +9,6 @@ use Rattle.rc_typing.proofs.locals.locals_of.Given as goal
 
 abbrev pub invariant-loop-l : goal.invariant-loop-l
 invariant-loop-l l = record {
-  same : locals (context_of l.context) (here_of l.initial.names l.initial.locals.items l.first l.initial.strings.items) (map local_of l.ls) ≡ after_steps (map stmt_of l.steps.items) (locals (context_of l.context) (here_of l.names l.locals.items l.first l.strings.items) (map local_of (drop l.l-index l.ls)));
-  moved : behind_locals (context_of l.context) (here_of l.initial.names l.initial.locals.items l.first l.initial.strings.items) (map local_of l.ls) ≡ behind_locals (context_of l.context) (here_of l.names l.locals.items l.first l.strings.items) (map local_of (drop l.l-index l.ls));
+  same : locals (context_of l.context) (here_of l.initial.here) (map local_of l.ls) ≡ after_steps (map stmt_of l.steps.items) (locals (context_of l.context) (here_of l.here) (map local_of (drop l.l-index l.ls)));
+  moved : behind_locals (context_of l.context) (here_of l.initial.here) (map local_of l.ls) ≡ behind_locals (context_of l.context) (here_of l.here) (map local_of (drop l.l-index l.ls));
 }

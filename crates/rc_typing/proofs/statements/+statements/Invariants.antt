@@ -9,6 +9,6 @@ use Rattle.rc_typing.proofs.statements.+statements.Given as goal
 
 abbrev pub invariant-stmts-loop-s : goal.invariant-stmts-loop-s
 invariant-stmts-loop-s l = record {
-  same : stmts (context_of l.context) (option_map ty_of l.gives) l.looping (here_of l.initial.names l.initial.locals.items l.first l.initial.strings.items) (stmts_of l.body) ≡ after_steps (map stmt_of l.steps.items) (stmts (context_of l.context) (option_map ty_of l.gives) l.looping (here_of l.names l.locals.items l.first l.strings.items) (stmts_of (drop l.s-index l.body)));
-  moved : behind_stmts (context_of l.context) (here_of l.initial.names l.initial.locals.items l.first l.initial.strings.items) (stmts_of l.body) ≡ behind_stmts (context_of l.context) (here_of l.names l.locals.items l.first l.strings.items) (stmts_of (drop l.s-index l.body));
+  same : stmts (context_of l.context) (option_map ty_of l.gives) l.looping (here_of l.initial.here) (stmts_of l.body) ≡ after_steps (map stmt_of l.steps.items) (stmts (context_of l.context) (option_map ty_of l.gives) l.looping (here_of l.here) (stmts_of (drop l.s-index l.body)));
+  moved : behind_stmts (context_of l.context) (here_of l.initial.here) (stmts_of l.body) ≡ behind_stmts (context_of l.context) (here_of l.here) (stmts_of (drop l.s-index l.body));
 }
