@@ -7,8 +7,6 @@ pub mod deletes;
 pub mod fault;
 pub mod laws;
 pub mod sort;
-#[cfg(test)]
-mod tests;
 
 pub use builtin::Builtin;
 pub use check::check_deletes;

@@ -8,6 +8,3 @@ pub mod words;
 
 pub use expr::{expression, unary};
 pub use rc_syntax::fault::ParseFault;
-
-#[cfg(test)]
-mod expression_tests;

@@ -8,5 +8,3 @@ pub mod lex;
 mod literal;
 mod number;
 mod piece;
-#[cfg(test)]
-mod tests;

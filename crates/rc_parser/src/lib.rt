@@ -5,8 +5,6 @@ pub mod decls;
 pub mod items;
 pub mod parts;
 pub mod stmts;
-#[cfg(test)]
-mod text_tests;
 
 pub use items::parse;
 pub use rc_syntax::fault::ParseFault;

@@ -9,8 +9,6 @@ pub mod meanings;
 pub mod operators;
 pub mod statements;
 pub mod stop;
-#[cfg(test)]
-mod tests;
 pub mod values;
 
 pub use meanings::{Callee, Found, Meaning, Meant, RightSide, Signature, Typed};

@@ -7,5 +7,3 @@ pub mod laws;
 pub mod tree;
 pub mod word;
 pub mod word_laws;
-#[cfg(test)]
-mod word_tests;

@@ -1,7 +1,7 @@
 // Texts with their words and lines, and texts that are refused.
 
-use crate::fault::LexFault;
-use crate::lex::lex;
+use rc_lexer::fault::LexFault;
+use rc_lexer::lex::lex;
 use rc_syntax::word::{Key, Mark, Text, Word};
 use std::alloc::{AllocError, Global};
 use std::test::Fail;

@@ -1,6 +1,6 @@
 // The tables of words, and texts of words.
 
-use crate::word::{Key, Mark, Text};
+use rc_syntax::word::{Key, Mark, Text};
 use std::test::Fail;
 
 #[test]

@@ -1,6 +1,6 @@
 // Texts with their answers. Words stand between spaces, and a `;;` ends a line.
 
-use crate::items::parse;
+use rc_parser::parse;
 use rc_syntax::fault::ParseFault;
 use rc_syntax::word::{Key, Mark, Text, Token, Word};
 use std::alloc::{AllocError, Global};

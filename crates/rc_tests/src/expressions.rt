@@ -1,6 +1,6 @@
 // Words that are read as expressions, and words that are refused.
 
-use crate::{ParseFault, expression, unary};
+use rc_expr::{ParseFault, expression, unary};
 use rc_syntax::tree::{BinaryOp, Expr, UnaryOp};
 use rc_syntax::word::{Mark, Text, Token, Word};
 use std::alloc::{AllocError, Global};

@@ -1,13 +1,11 @@
 // Small trees beside their programs.
 
-use crate::check::check_deletes;
-use crate::deletes::DeletesFault;
-use crate::laws;
 use rc_core::expr::Expr as Value;
 use rc_core::operators::Operator;
 use rc_core::parts::{Function, Parts};
 use rc_core::stmt::Stmt as Step;
 use rc_core::ty::{Note as PointerNote, Signedness, Ty};
+use rc_deletes::{DeletesFault, check_deletes, laws};
 use rc_syntax::tree::{
     Base, BinaryOp, Expr, Item, Local, Name, Note, Simple, Spot, Stmt, Tree, TypeName,
 };

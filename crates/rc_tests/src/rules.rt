@@ -1,30 +1,30 @@
 // Each public function once, with memory at hand.
-use crate::calls::{allocation, array_allocation, call_statement, call_value, callee_rule};
-use crate::expressions::{
-    eof_value, field_rule, index_rule, indexed_part, name_rule, null_value, number_value,
-    signedness, string_value, unary_meant,
-};
-use crate::items::{
-    agrees, builtin_agrees, function_name, gives_int, global_rule, initial_of, is_struct_option,
-    main_shape, once, takes_nothing,
-};
-use crate::kinds::{copy_of, same_type, same_value_type, starred};
-use crate::operators::{
-    binary_rule, cast_rule, cast_type, change_of, changed, conditional_rule, unary_rule,
-};
-use crate::statements::{
-    alone_rule, assignment, declaration, is_twice, one, returned, right_side, step_operator,
-    update_of,
-};
-use crate::stop::refuse_where;
-use crate::values::{as_value, condition_rule, fitted};
-use crate::{Callee, Found, Meaning, Meant, RightSide, Signature, Stop, Typed};
 use rc_core::expr::{Expr, Place};
 use rc_core::operators::{Direction, Operator};
 use rc_core::parts::Field;
 use rc_core::stmt::Change;
 use rc_core::ty::{NumberType, Signedness, Ty};
 use rc_deletes::{Builtin, Refusal};
+use rc_rules::calls::{allocation, array_allocation, call_statement, call_value, callee_rule};
+use rc_rules::expressions::{
+    eof_value, field_rule, index_rule, indexed_part, name_rule, null_value, number_value,
+    signedness, string_value, unary_meant,
+};
+use rc_rules::items::{
+    agrees, builtin_agrees, function_name, gives_int, global_rule, initial_of, is_struct_option,
+    main_shape, once, takes_nothing,
+};
+use rc_rules::kinds::{copy_of, same_type, same_value_type, starred};
+use rc_rules::operators::{
+    binary_rule, cast_rule, cast_type, change_of, changed, conditional_rule, unary_rule,
+};
+use rc_rules::statements::{
+    alone_rule, assignment, declaration, is_twice, one, returned, right_side, step_operator,
+    update_of,
+};
+use rc_rules::stop::refuse_where;
+use rc_rules::values::{as_value, condition_rule, fitted};
+use rc_rules::{Callee, Found, Meaning, Meant, RightSide, Signature, Stop, Typed};
 use rc_syntax::tree::{
     BinaryOp, CastType, Constant, Name, Note as WrittenNote, Spot, StepOp, UnaryOp,
 };
@@ -159,7 +159,7 @@ fn names_and_fields_are_found(rt: HostRuntime) -> Result<(), Fail> {
 
 fn one_value(alloc: Global) -> Result<Vec<Typed>, Stop> {
     let mut values = Vec::new(alloc);
-    crate::stop::add(&mut values, three())?;
+    rc_rules::stop::add(&mut values, three())?;
     Ok(values)
 }
 
