@@ -16,7 +16,7 @@ fn fault_of(alloc: Global, text: &[u8]) -> Option<CompileFault> {
 fn a_text_gives_its_program(rt: HostRuntime) -> Result<(), Fail> {
     let text =
         b"struct pair { int a; int b[2]; };\nint k = 7;\nint f(int n) { return n + k; }\nint main(void) { return f(1); }\n";
-    a_text_has_one_answer(text);
+    a_text_has_one_answer();
     let found = program(rt.alloc(), text);
     assert!(rt; found.is_ok());
     if let Ok(found) = found {
