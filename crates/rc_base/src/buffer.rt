@@ -89,20 +89,3 @@ impl Sink for Buffer {
         Ok(())
     }
 }
-
-#[cfg(test)]
-impl Buffer {
-    /// How many calls failed.
-    pub(crate) fn faults(&self) -> u64
-        ensures { result ≡ self.now.calls.faults }
-    {
-        self.calls.faults()
-    }
-
-    /// How many bytes are flushed.
-    pub(crate) fn flushed(&self) -> usize
-        ensures { result ≡ self.now.flushed }
-    {
-        self.flushed
-    }
-}

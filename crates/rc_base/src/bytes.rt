@@ -63,13 +63,3 @@ impl Source for Bytes {
         Ok(Some(byte))
     }
 }
-
-#[cfg(test)]
-impl Bytes {
-    /// How many calls failed.
-    pub(crate) fn faults(&self) -> u64
-        ensures { result ≡ self.now.calls.faults }
-    {
-        self.calls.faults()
-    }
-}

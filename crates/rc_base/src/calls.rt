@@ -53,12 +53,3 @@ impl CallCount {
         self.faults = self.faults.saturating_add(1);
     }
 }
-
-#[cfg(test)]
-impl CallCount {
-    pub(crate) fn faults(&self) -> u64
-        ensures { result ≡ self.now.faults }
-    {
-        self.faults
-    }
-}

@@ -152,13 +152,3 @@ impl Shelf for Drawer {
         }
     }
 }
-
-#[cfg(test)]
-impl Drawer {
-    /// How many calls failed.
-    pub(crate) fn faults(&self) -> u64
-        ensures { result ≡ self.now.calls.faults }
-    {
-        self.calls.faults()
-    }
-}

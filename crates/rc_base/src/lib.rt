@@ -22,6 +22,3 @@ pub use octets::Octets;
 pub use outside::{Failed, NoMemory, Piece, Shelf, ShelfFault, Sink, Source};
 pub use steps::Steps;
 pub use write::write_all;
-
-#[cfg(test)]
-mod tests;

@@ -1,24 +1,20 @@
 -- What each stage answers is the text's one answer.
-use Rattle.std.proofs.Common.{◌≡◌, ◌≤◌, ℕ, List, length, Some, Ok, Err, subst, sym}
-use Rattle.rc_syntax.specs.declared.fault.ParseFault.TheVariants as parser
+use Rattle.std.proofs.Common.{◌≤◌, ℕ, List, length, Ok}
 use Rattle.rc_syntax.specs.declared.tree.Tree as declared_tree
 use Rattle.rc_syntax.specs.Tokens.{Token}
 use Rattle.rc_syntax.specs.Tree.{Tree}
 use Rattle.rc_syntax.specs.Shape.{tree_of}
 use Rattle.rc_syntax.specs.Grammar.{Text}
 use Rattle.rc_syntax.specs.Words.{UnreadByte, UnreadToken}
-use Rattle.rc_syntax.specs.Place.{AnswersAll}
+use Rattle.rc_syntax.specs.Place.{AnswersAll, StopsAtLine, SinksAtLine}
 use Rattle.rc_syntax.proofs.Whole.{one_tree, of_text}
 use Rattle.rc_core.specs.Programs.{Program}
-use Rattle.rc_deletes.specs.declared.deletes.DeletesFault.{DeletesFault}
-use Rattle.rc_deletes.specs.declared.fault.Refusal.{Refusal as NodeRefusal}
 use Rattle.rc_deletes.specs.Answer as rules
 use Rattle.rc_rlang.specs.Bounds.{FirstWide, HasManyPoints}
-use Rattle.rc_compile.specs.Acceptance.{HasWords, Unread, byte, token, NoTree, syntax, deep, rule_refusal, TooMuch, variables, points}
+use Rattle.rc_compile.specs.Acceptance.{HasWords, byte, token, syntax, deep, variables, points}
 use Rattle.rc_compile.specs.Answers.{IsOnlyRefusal, IsOnlyTree}
-use Rattle.rc_compile.specs.declared.refusal.Refusal.{Refusal}
-use Rattle.rc_compile.specs.declared.refusal.Refusal.TheVariants.{Byte, Token as BadToken, Syntax, Deep, Main, Variables, Points}
-use Rattle.rc_compile.proofs.OneAnswer.{only_tree, unread_only, no_tree_only, rules_only, counts_only}
+use Rattle.rc_compile.specs.declared.refusal.Refusal.TheVariants.{Byte, Token as BadToken, Syntax, Deep, Variables, Points}
+use Rattle.rc_compile.proofs.OneAnswer.{only_tree, unread_only, no_tree_only, counts_only}
 
 pub byte_only : (text : List ℕ) (line : ℕ) → (length text ≤ 1048576) × UnreadByte text line → IsOnlyRefusal text (Byte line)
 byte_only text line x = unread_only text (Byte line) x.0 (byte line x.1)
@@ -29,23 +25,14 @@ token_only text line x = unread_only text (BadToken line) x.0 (token line x.1)
 pub tree_found : (text : List ℕ) (tokens : List Token) (tree : declared_tree.Tree) → HasWords text tokens → AnswersAll tokens (Ok tree) → IsOnlyTree text (tree_of tree)
 tree_found text tokens tree has x = only_tree text tokens (tree_of tree) has x.0 x.1 (λ items derived. one_tree Text of_text derived x.0)
 
-pub syntax_only : (text : List ℕ) (tokens : List Token) (line : ℕ) → HasWords text tokens → AnswersAll tokens (Err (parser.Syntax line)) → IsOnlyRefusal text (Syntax line)
+pub syntax_only : (text : List ℕ) (tokens : List Token) (line : ℕ) → HasWords text tokens → StopsAtLine tokens line → IsOnlyRefusal text (Syntax line)
 syntax_only text tokens line has x = no_tree_only text tokens (Syntax line) has (syntax line x)
 
-pub deep_only : (text : List ℕ) (tokens : List Token) (line : ℕ) → HasWords text tokens → AnswersAll tokens (Err (parser.Deep line)) → IsOnlyRefusal text (Deep line)
+pub deep_only : (text : List ℕ) (tokens : List Token) (line : ℕ) → HasWords text tokens → SinksAtLine tokens line → IsOnlyRefusal text (Deep line)
 deep_only text tokens line has x = no_tree_only text tokens (Deep line) has (deep line x)
-
-pub main_only : (text : List ℕ) (tree : Tree) (line : ℕ) → IsOnlyTree text tree → rules.refusal tree ≡ Some (rules.at_main line) → IsOnlyRefusal text (Main line)
-main_only text tree line only found = rules_only text tree (rules.at_main line) only found
 
 pub variables_only : (text : List ℕ) (tree : Tree) (p : Program) (line : ℕ) → IsOnlyTree text tree → rules.IsProgramOf tree p → FirstWide p.functions line → IsOnlyRefusal text (Variables line)
 variables_only text tree p line only typed wide = counts_only text tree p (Variables line) only typed (variables line wide)
 
 pub points_only : (text : List ℕ) (tree : Tree) (p : Program) → IsOnlyTree text tree → rules.IsProgramOf tree p → HasManyPoints p → IsOnlyRefusal text Points
 points_only text tree p only typed many = counts_only text tree p Points only typed (points many)
-
-pub node_only : (text : List ℕ) (tree : Tree) (k : NodeRefusal) (line : ℕ) (r : Refusal) → IsOnlyTree text tree → rules.refusal tree ≡ Some (rules.at_node k line) → r ≡ rule_refusal (rules.at_node k line) → IsOnlyRefusal text r
-node_only text tree k line r only found is = subst (IsOnlyRefusal text) (sym is) (rules_only text tree (rules.at_node k line) only found)
-
-pub place_only : (text : List ℕ) (tree : Tree) (fault : DeletesFault) (r : Refusal) → IsOnlyTree text tree → rules.refusal tree ≡ Some (rules.at_place fault) → r ≡ rule_refusal (rules.at_place fault) → IsOnlyRefusal text r
-place_only text tree fault r only found is = subst (IsOnlyRefusal text) (sym is) (rules_only text tree (rules.at_place fault) only found)

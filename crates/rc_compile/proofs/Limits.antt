@@ -1,5 +1,5 @@
 -- What a text of limited length limits: how many words it has, and how long its string literals are.
-use Rattle.std.proofs.Common.{◌≡◌, ◌≤◌, ◌+◌, ◌∙◌, ℕ, suc, refl, sym, subst, List, [], ◌∷◌, ◌++◌, length, Option, Some, None, ap, arith, length-append}
+use Rattle.std.proofs.Common.{◌≡◌, ◌≤◌, ◌+◌, ◌∙◌, ℕ, suc, refl, sym, subst, List, [], ◌∷◌, length, Option, Some, None, ap, arith, length-append}
 use Rattle.rc_syntax.specs.declared.word.Token.{Token as CodeToken}
 use Rattle.rc_syntax.specs.Tokens.{Word, Token, name, number, character, string, key, mark}
 use Rattle.rc_syntax.specs.WordShapes.{tokens_of}
@@ -7,15 +7,15 @@ use Rattle.rc_syntax.specs.Numerals as numerals
 use Rattle.rc_syntax.specs.Numerals.{Number}
 use Rattle.rc_syntax.specs.Literals as literals
 use Rattle.rc_syntax.specs.Literals.{Writes, WritesAll}
-use Rattle.rc_syntax.specs.Words.{Piece, blank, line_comment, block_comment, skipped_line, identifier, keyword, integer_constant, character_constant, string_literal, punctuator, Cut, end, piece, Words, Reads, with_line}
+use Rattle.rc_syntax.specs.Words.{Piece, blank, line_comment, block_comment, skipped_line, identifier, keyword, integer_constant, character_constant, string_literal, punctuator, Cut, end, piece, with_line}
 use Rattle.rc_syntax.specs.Bytes.{line_behind}
 use Rattle.rc_syntax.specs.Tree.{Tree}
-use Rattle.rc_syntax.specs.Grammar.{Placed, placed}
+use Rattle.rc_syntax.specs.Grammar.{placed}
 use Rattle.rc_syntax.proofs.CutLaws.{reads_look}
 use Rattle.rc_syntax.proofs.PieceLaws.{look_fits}
 use Rattle.rc_deletes.specs.Limits.{AreShort, IsShort}
 use Rattle.rc_typing.specs.Checks.{IsWritten}
-use Rattle.rc_compile.specs.Acceptance.{HasWords, HasTree}
+use Rattle.rc_compile.specs.Acceptance.{HasWords}
 use Rattle.rc_compile.specs.Answers.{IsOnlyTree}
 
 one_more : (line : ℕ) (seen : Option Word) (tokens : List Token) → length (with_line line seen tokens) ≤ 1 + length tokens

@@ -79,15 +79,15 @@ shallow_or_deep s words a shallow x = not_too_deep s words (x.0 ++ x.1 ∷ []) x
 -- words that are no tree are refused once
 one_no_tree : (tokens : List Token) (k l : Refusal) → NoTree tokens k → NoTree tokens l → k ≡ l
 one_no_tree tokens k l (syntax m x) (syntax n y) =
-    ap Syntax (x.5 ∙ ap (line_at tokens) (one_syntax_rest Text (placed 0 tokens) x.0 x.1 y.0 y.1 x.2 y.2) ∙ sym y.5)
-one_no_tree tokens k l (syntax m x) (deep n y) = absurd (syntax_or_deep Text (placed 0 tokens) x.0 x.1 y.0 x.2 x.3 y.1)
-one_no_tree tokens k l (deep m x) (syntax n y) = absurd (syntax_or_deep Text (placed 0 tokens) y.0 y.1 x.0 y.2 y.3 x.1)
+    ap Syntax (x.on_line ∙ ap (line_at tokens) (one_syntax_rest Text (placed 0 tokens) x.front x.rest y.front y.rest x.stretch y.stretch) ∙ sym y.on_line)
+one_no_tree tokens k l (syntax m x) (deep n y) = absurd (syntax_or_deep Text (placed 0 tokens) x.front x.rest y.rest x.stretch x.shallow y.too_deep)
+one_no_tree tokens k l (deep m x) (syntax n y) = absurd (syntax_or_deep Text (placed 0 tokens) y.front y.rest x.rest y.stretch y.shallow x.too_deep)
 one_no_tree tokens k l (deep m x) (deep n y) =
-    ap Deep (x.2 ∙ ap (line_at tokens) (one_deep_rest Text (placed 0 tokens) x.0 y.0 x.1 y.1) ∙ sym y.2)
+    ap Deep (x.on_line ∙ ap (line_at tokens) (one_deep_rest Text (placed 0 tokens) x.rest y.rest x.too_deep y.too_deep) ∙ sym y.on_line)
 
 no_tree_or_tree : (tokens : List Token) (k : Refusal) (items : List Item) → NoTree tokens k → Derives (placed 0 tokens) (node Text items) → Shallow 0 Text (placed 0 tokens) → ⊥
-no_tree_or_tree tokens k items (syntax m x) derived shallow = x.4 items derived
-no_tree_or_tree tokens k items (deep m x) derived shallow = shallow_or_deep Text (placed 0 tokens) x.0 shallow x.1
+no_tree_or_tree tokens k items (syntax m x) derived shallow = x.no_tree items derived
+no_tree_or_tree tokens k items (deep m x) derived shallow = shallow_or_deep Text (placed 0 tokens) x.rest shallow x.too_deep
 
 byte_or_token : (text : List ℕ) (m n : ℕ) → UnreadByte text m → UnreadToken text n → ⊥
 byte_or_token text m n x y = x.2 (subst BeginsWord (sym (one_place text x.0 y.0 m n x.1 y.1).0) y.2)

@@ -1,12 +1,11 @@
 -- Which texts are programs, and why another is refused. A text goes through its words, its tree, the rules of types and the
 -- counts of what it needs, and is refused by the first of these that it fails.
-use Rattle.std.specs.Prelude.{◌≡◌, ◌<◌, ◌≤◌, ℕ, List, length, Some, Err}
+use Rattle.std.specs.Prelude.{◌≡◌, ◌<◌, ◌≤◌, ℕ, List, length, Some}
 use Rattle.rc_syntax.specs.Tokens.{Token}
 use Rattle.rc_syntax.specs.Words.{Words, UnreadByte, UnreadToken}
 use Rattle.rc_syntax.specs.Tree.{Tree}
 use Rattle.rc_syntax.specs.Grammar.{Text, Derives, node, placed}
-use Rattle.rc_syntax.specs.Place.{AnswersAll, Shallow}
-use Rattle.rc_syntax.specs.declared.fault.ParseFault.TheVariants as parser
+use Rattle.rc_syntax.specs.Place.{Shallow, StopsAtLine, SinksAtLine}
 use Rattle.rc_core.specs.Programs.{Program}
 use Rattle.rc_deletes.specs.Answer as rules
 use Rattle.rc_deletes.specs.declared.fault.Refusal.TheVariants as node_refusal
@@ -45,8 +44,8 @@ pub data Unread (text : List ℕ) : Refusal → Type 0 where
 
 -- they are no tree, or are too deep
 pub data NoTree (tokens : List Token) : Refusal → Type 0 where
-  syntax : (line : ℕ) → AnswersAll tokens (Err (parser.Syntax line)) → NoTree tokens (Syntax line)
-  deep : (line : ℕ) → AnswersAll tokens (Err (parser.Deep line)) → NoTree tokens (Deep line)
+  syntax : (line : ℕ) → StopsAtLine tokens line → NoTree tokens (Syntax line)
+  deep : (line : ℕ) → SinksAtLine tokens line → NoTree tokens (Deep line)
 
 -- what the rules refuse of a tree
 abbrev pub rule_refusal : rules.Refused → Refusal

@@ -1,18 +1,18 @@
 // The program of a text: its words, its tree, the rules of types, and the counts of what it needs.
-ghost use Rattle.std.specs.Prelude.{◌≡◌, ◌≤◌, length};
+ghost use Rattle.std.specs.Prelude.{◌≡◌, ◌≤◌, ℕ, List, length};
 ghost use Rattle.rc_syntax.specs.Shape.{tree_of};
+ghost use Rattle.rc_syntax.specs.Tree.{Tree as WrittenTree};
 ghost use Rattle.rc_syntax.specs.WordShapes.{tokens_of};
 ghost use Rattle.rc_core.specs.Shapes.{program_of};
 ghost use Rattle.rc_deletes.specs.Answer.{IsProgramOf};
-ghost use Rattle.rc_deletes.specs.Answer as rules;
-ghost use Rattle.rc_compile.specs.Acceptance.{HasWords, rule_refusal};
+ghost use Rattle.rc_typing.specs.Checks.{Refuses};
+ghost use Rattle.rc_compile.specs.Acceptance.{HasWords};
 ghost use Rattle.rc_compile.specs.Answers.{IsOnlyTree};
-ghost use Rattle.rc_compile.specs.Compiles.{Compiles, FindsTree, FindsTyping, FindsWords};
+ghost use Rattle.rc_compile.specs.Compiles.{Compiles, FindsTree, FindsTyping, FindsWords, IsReason};
 
 use crate::fault::CompileFault;
 use crate::refusal::Refusal;
 use rc_core::program::Program;
-use rc_deletes::{DeletesFault, Refusal as NodeRefusal};
 use rc_elab::{ElabFault, count};
 use rc_lexer::fault::LexFault;
 use rc_lexer::lex::lex;
@@ -57,27 +57,21 @@ fn tree(alloc: Global, text: &[u8]) -> Result<Tree, CompileFault>
     tree_behind(alloc, text, tokens.as_slice())
 }
 
-/// The refusal of a rule that fails at a node on this line.
-fn at_node(refusal: NodeRefusal, line: u32) -> Refusal
-    ensures { result ≡ rule_refusal (rules.at_node refusal line) }
-{
-    match refusal {
-        NodeRefusal::Unknown => Refusal::Unknown(line),
-        NodeRefusal::Twice => Refusal::Twice(line),
-        NodeRefusal::Mistyped => Refusal::Mistyped(line),
-        NodeRefusal::Arity => Refusal::Arity(line),
-        NodeRefusal::TooBig => Refusal::TooBig(line),
-    }
-}
-
-/// The refusal of a place where regions are deleted or pointers annotated.
-fn at_place(fault: DeletesFault) -> Refusal
-    ensures { result ≡ rule_refusal (rules.at_place fault) }
+/// Why a text is refused whose tree the rules of types, of `main` or of deletions refuse.
+fn reason(fault: TypeFault) -> CompileFault
+    ensures { (text : List ℕ) (tree : WrittenTree) → IsOnlyTree text tree → Refuses tree fault → IsReason text result }
 {
     match fault {
-        DeletesFault::AnnotationPlace(line) => Refusal::AnnotationPlace(line),
-        DeletesFault::NotDeletes(line) => Refusal::NotDeletes(line),
-        DeletesFault::DeletesPlace(line) => Refusal::DeletesPlace(line),
+        TypeFault::Unknown(line) => CompileFault::Refused(Refusal::Unknown(line)),
+        TypeFault::Twice(line) => CompileFault::Refused(Refusal::Twice(line)),
+        TypeFault::Mistyped(line) => CompileFault::Refused(Refusal::Mistyped(line)),
+        TypeFault::Arity(line) => CompileFault::Refused(Refusal::Arity(line)),
+        TypeFault::AnnotationPlace(line) => CompileFault::Refused(Refusal::AnnotationPlace(line)),
+        TypeFault::NotDeletes(line) => CompileFault::Refused(Refusal::NotDeletes(line)),
+        TypeFault::DeletesPlace(line) => CompileFault::Refused(Refusal::DeletesPlace(line)),
+        TypeFault::Main(line) => CompileFault::Refused(Refusal::Main(line)),
+        TypeFault::TooBig(line) => CompileFault::Refused(Refusal::TooBig(line)),
+        TypeFault::Memory => CompileFault::Memory,
     }
 }
 
@@ -88,10 +82,7 @@ fn typed(alloc: Global, _text: &[u8], tree: &Tree) -> Result<Program, CompileFau
 {
     match check(alloc, tree) {
         Ok(program) => Ok(program),
-        Err(TypeFault::Rule(refusal, line)) => Err(CompileFault::Refused(at_node(refusal, line))),
-        Err(TypeFault::Main(line)) => Err(CompileFault::Refused(Refusal::Main(line))),
-        Err(TypeFault::Place(fault)) => Err(CompileFault::Refused(at_place(fault))),
-        Err(TypeFault::Memory) => Err(CompileFault::Memory),
+        Err(fault) => Err(reason(fault)),
     }
 }
 

@@ -6,8 +6,6 @@ mod compiling;
 pub mod fault;
 mod laws;
 pub mod refusal;
-#[cfg(test)]
-mod tests;
 
 pub use compiling::program;
 pub use fault::CompileFault;

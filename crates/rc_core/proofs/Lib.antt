@@ -4,7 +4,6 @@ pub mod ShapeRows
 pub mod LayoutLaws
 pub mod CellLoops
 pub mod Unwrapping
-pub mod Nested
 mod Follows
 mod Grows
 mod SourceFollows

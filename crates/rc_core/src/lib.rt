@@ -14,6 +14,4 @@ pub mod operators;
 pub mod parts;
 pub mod program;
 pub mod stmt;
-#[cfg(test)]
-mod tests;
 pub mod ty;

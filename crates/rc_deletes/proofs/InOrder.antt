@@ -545,7 +545,7 @@ level_stands a b here (g.chain {a = x} {b = y} known) h =
     let begin = here (omega (arith, h.1, v.1, v.3)) in
     (omega (arith, begin), omega (arith, begin, h.1, v.1, v.3), h.0, h.1, omega (arith, v.1, v.3), h.2, wider (h.0 + 1) v.0 h.0 b y (omega arith) (omega (arith, v.3)) v.2)
 level_stands a b here (g.up {e = e} known) h = wider a h.0 a b e (omega arith) (omega (arith, h.3)) h.2
-level_stands a b here (g.operand {e = e} known) h = wider a h.0 a b e (omega arith) (omega (arith, h.3)) h.2
+level_stands a b here (g.operand {e = e}) h = wider a h.0 a b e (omega arith) (omega (arith, h.3)) h.2
 
 arm_stands : {at : Spot} {x : TreeOf g.Arm} {ps : List Part} (a b : ℕ) → Rule at g.Arm x ps → Along a b ps → Spans a b x
 arm_stands a b (g.arm {e = e}) h = wider a h.0 a b e (omega arith) (omega (arith, h.3)) h.2
@@ -643,6 +643,10 @@ rule_stands x a b here rule h = tt
 step : (x : Symbol) (at : Spot) (c : TreeOf x) (ps : List Part) (ws : List Placed) → BeginAt at ws → Rule at x c ps → KnownAll Stands ws ps → Stands x c ws
 step x at c ps ws e rule all a b runs = rule_stands x a b (begins at a b ws e runs) rule (along all a b runs)
 
+-- the items of the tree of a text stand in its order
+pub items_in_text : (tree : t.Tree) (tokens : List Token) → Derives (placed 0 tokens) (node g.Text tree.items) → SpansItems None 0 (0 + length tokens) tree.items
+items_in_text tree tokens d = derived Stands step d 0 (0 + length tokens) (placed_runs 0 tokens)
+
 -- the first violation of the tree of a text is the least
 pub first_in_text : (tree : t.Tree) (tokens : List Token) (f : Fault) → Derives (placed 0 tokens) (node g.Text tree.items) → first_fault (judged tree) ≡ Some f → IsLeast tree f
-first_in_text tree tokens f d h = first_is_least tree 0 (0 + length tokens) f (derived Stands step d 0 (0 + length tokens) (placed_runs 0 tokens)) h
+first_in_text tree tokens f d h = first_is_least tree 0 (0 + length tokens) f (items_in_text tree tokens d) h

@@ -26,3 +26,8 @@ pub mod OrderedExpressions
 pub mod OrderedStatements
 pub mod OrderedItems
 pub mod InOrder
+pub mod PlacedOrder
+pub mod PlacedOperators
+pub mod PlacedExpressions
+pub mod PlacedStatements
+pub mod PlacedItems

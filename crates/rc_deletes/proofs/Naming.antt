@@ -2,7 +2,7 @@
 use Rattle.std.specs.Prelude.{◌≡◌, ℕ, suc, ◌+◌, ◌<◌, List, [], ◌∷◌, ◌++◌, Option, Some, None, Bool, true, false, nat_lt, not, cond, length, slice_get, option_map, if◌then◌else◌}
 use Rattle.std.specs.List.{position_or_len}
 use Rattle.std.specs.Str.{bytes_eq}
-use Rattle.std.proofs.Common.{refl, sym, ap, ◌∙◌, subst, arith}
+use Rattle.std.proofs.Common.{take, drop, take-append-drop, refl, sym, ap, ◌∙◌, subst, arith}
 use Rattle.std.proofs.lemmas.Bool.Decides.{nat_tests}
 use Rattle.std.proofs.lemmas.Slice.Eq.{bytes_eq-Decides}
 use Rattle.rc_deletes.specs.Kinds.{place_of}
@@ -47,9 +47,13 @@ found_more : (names more : List (List ℕ)) (name : List ℕ) (k : ℕ) → foun
 found_more [] more name k h = absurd cc
 found_more (n ∷ ns) more name k h = seen_if (bytes_eq name n) (found_in ns name) (found_in (ns ++ more) name) k (found_more ns more name) h
 
--- a name keeps its place where others come behind
+-- a name keeps its place where others come after it
 pub place_more : (names more : List (List ℕ)) (name : List ℕ) (k : ℕ) → place_of names name ≡ Some k → place_of (names ++ more) name ≡ Some k
 place_more names more name k h = place_is (names ++ more) name ∙ found_more names more name k (sym (place_is names name) ∙ h)
+
+-- a name that stands among the first ones stands there
+pub place_taken : (n : ℕ) (names : List (List ℕ)) (name : List ℕ) (k : ℕ) → place_of (take n names) name ≡ Some k → place_of names name ≡ Some k
+place_taken n names name k h = subst (λ ns. place_of ns name ≡ Some k) (take-append-drop n names) (place_more (take n names) (drop n names) name k h)
 
 new_if : (b : Bool) (o q : Option ℕ) (k : ℕ) → (o ≡ None → q ≡ Some k) → (if b then Some 0 else option_map (λ k. suc k) o) ≡ None → (if b then Some 0 else option_map (λ k. suc k) q) ≡ Some (suc k)
 new_if true o q k h e = absurd cc

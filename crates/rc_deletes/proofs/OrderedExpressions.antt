@@ -22,10 +22,10 @@ use Rattle.rc_deletes.specs.declared.sort.Sort.{Sort}
 use Rattle.rc_deletes.specs.declared.sort.Sort.TheVariants.{Number, Region, Pointer, Null, Struct}
 use Rattle.rc_deletes.specs.Judged.{Judged, Holds, Faulty, with_part, with_parts, both, fails, failing, ruled}
 use Rattle.rc_deletes.specs.Kinds.{place_of, written_type, sort_of, sort_of_type, same_types}
-use Rattle.rc_deletes.specs.Scopes.{Context, struct_names, type_names, Scope, Meaning, a_local, a_global, a_function, a_builtin, meaning_in}
+use Rattle.rc_deletes.specs.Scopes.{Context, struct_names, Scope, Meaning, a_local, a_global, a_function, a_builtin, meaning_in}
 use Rattle.rc_deletes.specs.Values.{Typed, Meant, a_value, a_variable, a_place, an_array, valued, as_value, read_place, spot_of, fitted, is_truthy, condition_rule}
 use Rattle.rc_deletes.specs.Operators.{numbers, sum, difference, equality, equality_of, conjunction, disjunction, numbers_of, binary_rule, choice, conditional_rule, sign_rule, not_rule, dereference_rule, address_rule, meaning_of_value, unary_rule, cast_type, cast_rule}
-use Rattle.rc_deletes.specs.Calls.{Callee, callee_rule, is_defined, parameters, gives, fitted_arguments, call_refusals, call_rule, call_value, call_statement, called_alone, allocation, array_allocation}
+use Rattle.rc_deletes.specs.Calls.{Callee, callee_rule, is_defined, is_function, parameters, gives, fitted_arguments, call_refusals, call_rule, call_value, call_statement, called_alone, allocation, array_allocation}
 use Rattle.rc_deletes.specs.Expressions.{strings_in, name_rule, found, base_rule, type_rule, field_named, fields_at, field_rule, member_rule, arrow_rule, indexed_part, element_behind, element, index_by, index_rule, unary_meant, meant, values, value}
 use Rattle.rc_deletes.proofs.Ordered.{Inside, In, Sound, all_in, sound_wider, part_sound, parts_sound, both_sound, ruled_three}
 
@@ -175,14 +175,14 @@ cast_sound a b at to s v h = (h, tt, tt)
 -- calls
 pub callee_sound : (a b : ℕ) (at : Spot) (m : Option Meaning) → Inside a b at → Sound a b (callee_rule at m)
 callee_sound a b at None h = (h, tt, tt)
-callee_sound a b at (Some (a_local x u)) h = (h, tt, tt)
-callee_sound a b at (Some (a_global g u count)) h = (h, tt, tt)
+callee_sound a b at (Some (a_local x u)) h = tt
+callee_sound a b at (Some (a_global g u count)) h = tt
 callee_sound a b at (Some (a_function k s)) h = tt
 callee_sound a b at (Some (a_builtin f)) h = tt
 
 call_sound : (a b : ℕ) (wanted : Bool) (at : Spot) (f : Callee) (vs : List Typed) → Inside a b at → Sound a b (call_rule wanted at f vs)
 call_sound a b wanted at f vs h =
-    ruled_three a b at (not (is_defined f)) (not (is_some (fitted_arguments (parameters f) vs)) || (wanted && is_none (gives f))) (not (nat_eq (length (parameters f)) (length vs))) Unknown Mistyped Arity
+    ruled_three a b at (not (is_defined f)) (not (is_function f) || (not (is_some (fitted_arguments (parameters f) vs)) || (wanted && is_none (gives f)))) (not (nat_eq (length (parameters f)) (length vs))) Unknown Mistyped Arity
     (unwrap_or (fitted_arguments (parameters f) vs) []) (omega arith) (omega arith) h
 
 call_value_sound : (a b : ℕ) (at : Spot) (f : Callee) (vs : List Typed) → Inside a b at → Sound a b (call_value at f vs)
@@ -217,7 +217,7 @@ base_sound context a b (base.Struct at name) h = part_sound a b (found name.spot
 base_sound context a b n h = tt
 
 type_sound : (context : Context) (a b : ℕ) (n : t.TypeName) → SpansBase a b n.base → Sound a b (type_rule context n)
-type_sound context a b n h = part_sound a b (base_rule context n.base) (λ u. Holds (written_type (type_names context) n)) (base_sound context a b n.base h) (λ u. tt)
+type_sound context a b n h = part_sound a b (base_rule context n.base) (λ u. Holds (written_type context.types n)) (base_sound context a b n.base h) (λ u. tt)
 
 field_sound : (a b : ℕ) (name : Name) (place : p.Place) (s : ℕ) (f : Option (ℕ × p.Field)) → Inside a b name.spot → Sound a b (field_rule name place s f)
 field_sound a b name place s None h = (h, tt, tt)

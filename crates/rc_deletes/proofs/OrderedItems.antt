@@ -17,10 +17,10 @@ use Rattle.rc_deletes.specs.declared.fault.Refusal.{Refusal}
 use Rattle.rc_deletes.specs.declared.fault.Refusal.TheVariants.{Unknown, Twice, Mistyped, TooBig}
 use Rattle.rc_deletes.specs.Judged.{Judged, Holds, Faulty, faults, first_fault, with_part, with_parts, in_front, both, fails, failing, ruled}
 use Rattle.rc_deletes.specs.Kinds.{place_of, written_type}
-use Rattle.rc_deletes.specs.Scopes.{Context, struct_names, type_names, Scope, Meaning, a_local, a_global, a_function, a_builtin, Signature, builtin_signature, meaning_in}
+use Rattle.rc_deletes.specs.Scopes.{Context, struct_names, Scope, Meaning, a_local, a_global, a_function, a_builtin, Signature, builtin_signature, meaning_in}
 use Rattle.rc_deletes.specs.Expressions.{found, base_rule}
 use Rattle.rc_deletes.specs.Statements.{Here, new_name, stmts}
-use Rattle.rc_deletes.specs.Items.{is_plain, same_struct, field_by_value, global_by_value, shared_rule, before_item, is_among, Outside, is_defined_before, cells_of_global, type_option, signature_of, with_function, with_param, with_params, before_params, behind_body, behind_item, value_base, cell_type, is_empty, once, field_rule, fields_rule, cells_of_struct, initial_of, Made, nothing_made, made_both, global_made, agrees, agrees_with, declared_again, function_name, param_name, param_rule, params_rule, result_rule, is_struct_option, head_rule, function_made, item, items, context_of, at_the_start, program_of, judged, IsAmong, Violation}
+use Rattle.rc_deletes.specs.Items.{is_plain, same_struct, field_by_value, global_by_value, shared_rule, before_globals, is_among, Outside, is_defined_before, cells_of_global, type_option, signature_of, with_function, with_param, with_params, before_params, behind_body, behind_item, value_base, cell_type, is_empty, once, field_rule, fields_rule, cells_of_struct, initial_of, Made, nothing_made, made_both, global_made, agrees, agrees_with, declared_again, function_name, param_name, param_rule, params_rule, result_rule, is_struct_option, head_rule, function_made, item, items, context_of, at_the_start, program_of, judged, IsAmong, Violation}
 use Rattle.rc_deletes.specs.Order.{rank, NotAfter, IsLeast}
 use Rattle.std.specs.Str.{bytes_eq}
 use Rattle.rc_deletes.proofs.Naming.{own_name}
@@ -312,7 +312,7 @@ module _ (context : Context) where
   param_sound : (has_body : Bool) (here : Here) (a b : ℕ) (q : t.Param) → SpansParam a b q → Sound a b (param_rule context has_body here q)
   param_sound has_body here a b q h =
       parts_sound a h.1 b (base_rule context q.type_name.base) (param_name here q.name) _ h.2 h.3 (base_sound context a h.1 q.type_name.base h.4) (param_name_sound h.1 b here q.name h.5)
-      (λ u v. ruled_one a b q.spot (is_struct (written_type (type_names context) q.type_name) || (has_body && is_none q.name)) Mistyped tt h.0)
+      (λ u v. ruled_one a b q.spot (is_struct (written_type context.types q.type_name) || (has_body && is_none q.name)) Mistyped tt h.0)
 
   params_sound : (has_body : Bool) (here : Here) (a b : ℕ) (qs : List t.Param) → SpansParams a b qs → Sound a b (params_rule context has_body here qs)
   params_sound has_body here a b [] h = tt
@@ -335,10 +335,10 @@ module _ (context : Context) where
       (λ u v. tt)
 
   abbrev global_own : (o : Outside) (at : Spot) (n : t.TypeName) (count : Option ℕ) (c : Option Constant) → Unit {0} → Unit {0} → Judged Made
-  global_own o at n count c u v = global_made context at n count (o.cells + cells_of_global context n count) (initial_of (written_type (type_names context) n) count c)
+  global_own o at n count c u v = global_made context at n count (o.cells + cells_of_global context n count) (initial_of (written_type context.types n) count c)
 
   global_sound : (o : Outside) (at : Spot) (n : t.TypeName) (count : Option ℕ) (c : Option Constant) (u v : Unit {0}) (x y : ℕ) → Inside x y at → Sound x y (global_own o at n count c u v)
-  global_sound o at n count c u v x y h = ruled_two x y at (is_none (initial_of (written_type (type_names context) n) count c)) (is_empty count || nat_lt 1048576 (o.cells + cells_of_global context n count)) Mistyped TooBig _ (omega arith) h
+  global_sound o at n count c u v x y h = ruled_two x y at (is_none (initial_of (written_type context.types n) count c)) (is_empty count || nat_lt 1048576 (o.cells + cells_of_global context n count)) Mistyped TooBig _ (omega arith) h
 
   -- an item that is no global
   abbrev IsOther : t.Item → Type 0

@@ -298,7 +298,7 @@ level_kept : {at : Spot} {i : ℕ} {a : t.Expr} {ps : List Part} → Rule at (g.
 level_kept g.conditional = refl
 level_kept (g.chain h) = refl
 level_kept (g.up h) = refl
-level_kept (g.operand h) = refl
+level_kept g.operand = refl
 
 arm_kept : {at : Spot} {a : TreeOf g.Arm} {ps : List Part} → Rule at g.Arm a ps → strings_under g.Arm a ≡ strings_in_parts ps
 arm_kept g.arm = refl

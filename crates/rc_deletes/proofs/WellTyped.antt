@@ -10,8 +10,8 @@ use Rattle.rc_core.specs.WellTyped.{FieldFits, StructFits, IsVariable, IsWellTyp
 use Rattle.rc_deletes.specs.declared.deletes.DeletesFault.{DeletesFault}
 use Rattle.rc_deletes.specs.Judged.{Judged, Holds, Faulty, with_part}
 use Rattle.rc_deletes.specs.Kinds.{place_of}
-use Rattle.rc_deletes.specs.Scopes.{Context, fields_in, struct_names, type_names, Scope, Meaning, a_local, a_global, a_function, a_builtin, meaning_in}
-use Rattle.rc_deletes.specs.Items.{is_among, Definition, names_of, with_structs, struct_definitions, other_names, function_names, field_of, shape_of, context_of, at_the_start, behind_items, Made, items, main_name, program_of}
+use Rattle.rc_deletes.specs.Scopes.{Context, fields_in, struct_names, Scope, Meaning, a_local, a_global, a_function, a_builtin, meaning_in}
+use Rattle.rc_deletes.specs.Items.{is_among, Definition, names_of, with_structs, struct_definitions, types_in, function_names, field_of, shape_of, context_of, at_the_start, behind_items, Made, items, main_name, program_of}
 use Rattle.rc_deletes.specs.Places.{deletes_faults}
 use Rattle.rc_deletes.specs.Answer.{main_fault, main_or, first_place, first_of, IsProgramOf}
 use Rattle.rc_deletes.specs.Limits.{HasFields, KeepsLimits}
@@ -19,13 +19,13 @@ use Rattle.rc_deletes.proofs.Held.{Held, Given}
 use Rattle.rc_deletes.proofs.Naming.{own_name, name_at}
 use Rattle.rc_deletes.proofs.WellTypedCalls.{IsThere}
 use Rattle.rc_deletes.proofs.WellTypedDefined.{Defined}
-use Rattle.rc_deletes.proofs.WellTypedStructs.{structs_length, field_in, names_same, some_is, StructsFrom, structs_hold}
+use Rattle.rc_deletes.proofs.WellTypedStructs.{field_in, names_same, some_is, StructsFrom, structs_hold}
 use Rattle.rc_deletes.proofs.WellTypedGlobals.{GlobalsFit, global_at, globals_fit}
 use Rattle.rc_deletes.proofs.WellTypedScopes.{StandsFor, Outer, OuterAfter, outer_builtins, outer_items}
 use Rattle.rc_deletes.proofs.WellTypedNumbers.{Complete, paired_at, complete}
 use Rattle.rc_deletes.proofs.WellTypedBodies.{AllFunctionsFit, function_at, functions_fit, AreInPlace, in_place_at, functions_in_place, ResultsHold, result_at, results_hold}
 
-of_held : {A : Type 0} (P : A → Type 0) (x : Judged A) (a : A) → Held P x → x ≡ Holds a → P a
+pub of_held : {A : Type 0} (P : A → Type 0) (x : Judged A) (a : A) → Held P x → x ≡ Holds a → P a
 of_held P x a h e = subst (Held P) e h
 
 map_at : {A B : Type 0} (f : A → B) (xs : List A) (k : ℕ) (y : B) → slice_get (map f xs) k ≡ Some y → (x : A) × (slice_get xs k ≡ Some x) × (f x ≡ y)
@@ -73,7 +73,7 @@ no_fault : (main : Option ℕ) (faults : List DeletesFault) → main_or main (fi
 no_fault None faults h = (refl, no_place faults h)
 no_fault (Some line) faults h = absurd cc
 
-held_by : (x : Judged Made) (is : List t.Item) (program : p.Program) → with_part x (λ made. Holds (program_of is made)) ≡ Holds program → (made : Made) × (x ≡ Holds made) × (program_of is made ≡ program)
+pub held_by : (x : Judged Made) (is : List t.Item) (program : p.Program) → with_part x (λ made. Holds (program_of is made)) ≡ Holds program → (made : Made) × (x ≡ Holds made) × (program_of is made ≡ program)
 held_by (Holds made) is program h = (made, refl, holds_is h) where
   holds_is : Holds (program_of is made) ≡ Holds program → program_of is made ≡ program
   holds_is h = cc
@@ -90,28 +90,27 @@ module _ (is : List t.Item) (made : Made) (e : items (context_of is) at_the_star
   last = (behind_items (context_of is) at_the_start is).names
 
   names : struct_names (context_of is) ≡ names_of (struct_definitions is)
-  names = names_same (names_of (struct_definitions is) ++ other_names is) (struct_definitions is)
+  names = names_same is
 
   structs_from : StructsFrom (context_of is) (struct_definitions is) names 0
   structs_from = of_held (λ (m : Made). StructsFrom (context_of is) (struct_definitions is) names 0) (items (context_of is) at_the_start is) made (structs_hold (context_of is) (struct_definitions is) names [] is at_the_start refl refl) e
 
-  definition_at : (k : ℕ) (fields : p.Struct) → slice_get program.structs k ≡ Some fields → (d : Definition) × (slice_get (struct_definitions is) k ≡ Some d) × (fields_in (shape_of (names_of (struct_definitions is) ++ other_names is) d) ≡ fields)
+  definition_at : (k : ℕ) (fields : p.Struct) → slice_get program.structs k ≡ Some fields → (d : Definition) × (slice_get (struct_definitions is) k ≡ Some d) × (fields_in (shape_of (types_in is) d) ≡ fields)
   definition_at k fields h =
-      let one = map_at fields_in (map (shape_of (names_of (struct_definitions is) ++ other_names is)) (struct_definitions is)) k fields h in
-      let two = map_at (shape_of (names_of (struct_definitions is) ++ other_names is)) (struct_definitions is) k one.0 one.1 in
+      let one = map_at fields_in (map (shape_of (types_in is)) (struct_definitions is)) k fields h in
+      let two = map_at (shape_of (types_in is)) (struct_definitions is) k one.0 one.1 in
       (two.0, two.1, ap fields_in two.2 ∙ one.2)
 
   a_field_fits : (k : ℕ) (fields : p.Struct) → slice_get program.structs k ≡ Some fields → (j : ℕ) (f : p.Field) → slice_get fields j ≡ Some f → FieldFits program.structs k f
   a_field_fits k fields h j f q =
       let d = definition_at k fields h in
-      let there : slice_get (map (λ x. x.1) (map (field_of (names_of (struct_definitions is) ++ other_names is)) d.0.1)) j ≡ Some f = subst (λ x. slice_get x j ≡ Some f) (sym d.2) q in
-      let mine : slice_get (map (λ x. x.1) (map (field_of (type_names (context_of is))) d.0.1)) j ≡ Some f = subst (λ ns. slice_get (map (λ x. x.1) (map (field_of (ns ++ other_names is)) d.0.1)) j ≡ Some f) (sym names) there in
-      field_in (context_of is) (structs_length (context_of is)) k d.0.1 (structs_from k d.0 (omega arith) d.1).0 j f mine
+      let there : slice_get (map (λ x. x.1) (map (field_of (types_in is)) d.0.1)) j ≡ Some f = subst (λ x. slice_get x j ≡ Some f) (sym d.2) q in
+      field_in (context_of is) k d.0.1 (structs_from k d.0 (omega arith) d.1).0 j f there
 
   struct_fits : HasFields is → (k : ℕ) (fields : p.Struct) → slice_get program.structs k ≡ Some fields → StructFits program.structs k fields
   struct_fits has k fields h =
       let d = definition_at k fields h in
-      let count : length fields ≡ length d.0.1 = ap length (sym d.2) ∙ length-map (map (field_of (names_of (struct_definitions is) ++ other_names is)) d.0.1) (λ x. x.1) ∙ length-map d.0.1 (field_of (names_of (struct_definitions is) ++ other_names is)) in
+      let count : length fields ≡ length d.0.1 = ap length (sym d.2) ∙ length-map (map (field_of (types_in is)) d.0.1) (λ x. x.1) ∙ length-map d.0.1 (field_of (types_in is)) in
       record {
         some_field = subst (λ n. 1 ≤ n) (sym count) (fields_of_one (struct_definitions is) (all_have_fields is [] tt has) k d.0 d.1);
         fields_fit = a_field_fits k fields h;
@@ -124,8 +123,8 @@ module _ (is : List t.Item) (made : Made) (e : items (context_of is) at_the_star
   outer : Outer (context_of is) made.globals last
   outer = of_held (OuterAfter (context_of is) [] is at_the_start) (items (context_of is) at_the_start is) made (outer_items (context_of is) is at_the_start [] refl) e (outer_builtins (context_of is) made.globals)
 
-  all_functions : Complete (context_of is) made.globals last outer [] made
-  all_functions = of_held (Complete (context_of is) made.globals last outer []) (items (context_of is) at_the_start is) made (complete (context_of is) made.globals last outer is [] at_the_start refl refl nothing_seen (λ n m h. h) (inl main_none)) e where
+  all_functions : Complete (context_of is) made.globals last outer (Unit {0}) [] made
+  all_functions = of_held (Complete (context_of is) made.globals last outer (Unit {0}) []) (items (context_of is) at_the_start is) made (complete (context_of is) made.globals last outer (Unit {0}) is [] at_the_start refl refl nothing_seen (λ n m h. h) (λ w. inl main_none)) e where
     nothing_seen : (j : ℕ) (n : List ℕ) → slice_get {X = List ℕ} [] j ≡ Some n → is_some (meaning_in (at_the_start).names n) ≡ true
     nothing_seen j n h = absurd cc
 
@@ -134,7 +133,7 @@ module _ (is : List t.Item) (made : Made) (e : items (context_of is) at_the_star
     function_there : (k : ℕ) (s : _) → meaning_in last n ≡ Some (a_function (Some k) s) → Some k ≡ place_of (function_names is) n → IsThere program all (a_function (Some k) s)
     function_there k s q h =
         let at_k : slice_get all_functions.0 k ≡ Some n = subst (λ x. slice_get x k ≡ Some n) all_functions.1 (name_at (function_names is) n k (sym h)) in
-        let g = paired_at (context_of is) made.globals last outer all_functions.0 made.functions all_functions.2 k n at_k in
+        let g = paired_at (context_of is) made.globals last outer (Unit {0}) all_functions.0 made.functions all_functions.2 k n at_k in
         let types = g.2 (Some k) s q in
         (g.0, g.1, types.0, types.1)
 
@@ -159,10 +158,10 @@ module _ (is : List t.Item) (made : Made) (e : items (context_of is) at_the_star
   fits limits none =
       let bodies : AllFunctionsFit program (context_of is) refl defined last there made.functions = of_held _ (items (context_of is) at_the_start is) made (functions_fit program (context_of is) refl defined last there is at_the_start (λ n m h. h) (omega arith) limits.numbers) e in
       let placed = of_held (AreInPlace program (context_of is) is) (items (context_of is) at_the_start is) made (functions_in_place program (context_of is) is at_the_start) e [] refl none in
-      let main = all_functions.3 in
+      let main = all_functions.3 tt in
       let at_main : slice_get all_functions.0 main.0 ≡ Some main_name = subst (λ x. slice_get x main.0 ≡ Some main_name) all_functions.1 (name_at (function_names is) main_name main.0 main.1) in
-      let g = paired_at (context_of is) made.globals last outer all_functions.0 made.functions all_functions.2 main.0 main_name at_main in
-      let shape = g.3 (own_name main_name) in
+      let g = paired_at (context_of is) made.globals last outer (Unit {0}) all_functions.0 made.functions all_functions.2 main.0 main_name at_main in
+      let shape = g.3 tt (own_name main_name) in
       record {
         structs = struct_fits limits.fields;
         globals = λ k d h. global_at (context_of is) made.globals globals.0 k d h;

@@ -12,9 +12,9 @@ use Rattle.rc_core.specs.WellTyped.{IsVariable}
 use Rattle.rc_deletes.specs.declared.fault.Refusal.TheVariants.{Mistyped}
 use Rattle.rc_deletes.specs.Judged.{failing}
 use Rattle.rc_deletes.specs.Kinds.{written_type}
-use Rattle.rc_deletes.specs.Scopes.{Context, struct_names, type_names, structs_in, Scope, Meaning, meaning_in}
+use Rattle.rc_deletes.specs.Scopes.{Context, structs_in, Scope, Meaning, meaning_in}
 use Rattle.rc_deletes.specs.Statements.{Here, stmts}
-use Rattle.rc_deletes.specs.Items.{Outside, type_option, with_function, with_param, with_params, before_params, behind_body, behind_item, behind_items, is_struct_option, head_rule, Made, made_both, item, items, before_item}
+use Rattle.rc_deletes.specs.Items.{Outside, type_option, with_function, with_param, with_params, before_params, behind_body, behind_item, behind_items, is_struct_option, head_rule, Made, made_both, item, items, before_globals}
 use Rattle.rc_deletes.proofs.Held.{Held, Given, held_parts, held_ruled, held_always, held_then, not_failing, held_front}
 use Rattle.rc_deletes.proofs.WellTypedLocals.{Variables}
 use Rattle.rc_deletes.proofs.WellTypedStructs.{some_is}
@@ -98,7 +98,7 @@ module _ (program : p.Program) (all : List Ty) (context : Context) where
 module _ (context : Context) where
   result_of_type : (r : Option t.TypeName) → OptionDefined context r → is_struct_option (type_option context r) ≡ false → IfSome (type_option context r) (IsVariable (structs_in context))
   result_of_type None h e = tt
-  result_of_type (Some n) h e = (h, not_true (is_struct (written_type (type_names context) n)) e)
+  result_of_type (Some n) h e = (h, not_true (is_struct (written_type context.types n)) e)
 
 module _ (program : p.Program) (context : Context) (structs : program.structs ≡ structs_in context) (defined : Defined program) (last : Scope) (there : (all : List Ty) → Known program all last) where
   abbrev pub AllFunctionsFit : List p.Function → Type 0
@@ -158,7 +158,7 @@ module _ (program : p.Program) (context : Context) (structs : program.structs �
 
     makes_fitting : (b : p.Stmts) → OptionDefined context result → is_struct_option (type_option context result) ≡ false → Variables context end → AreTyped program empty false b → FunctionFits program (function_of b)
     makes_fitting b d e v h = record {
-      parameters = omega (arith, prefix_length start.locals end.locals (on_stmts context start body).0, ap length (params_locals context (before_params own) qs), length-map qs (λ q. written_type (type_names context) q.type_name));
+      parameters = omega (arith, prefix_length start.locals end.locals (on_stmts context start body).0, ap length (params_locals context (before_params own) qs), length-map qs (λ q. written_type context.types q.type_name));
       locals = λ x u q. subst (λ s. IsVariable s u) (sym structs) (v x u q);
       result = subst (λ s. IfSome (type_option context result) (IsVariable s)) (sym structs) (result_of_type context result d e);
       body = all_typed_with program empty (p.block b) false b h;
@@ -182,7 +182,7 @@ module _ (program : p.Program) (context : Context) (structs : program.structs �
       held_parts (AddsNone context) FunctionsFit FunctionsFit (item context o i) (items context (behind_item context o i) is) _ (struct_adds context o at name fields) (functions_fit is (behind_item context o i) kept strings r) (λ a b e h. subst (λ x. AllFunctionsFit (x ++ b.functions)) (sym e) h)
   functions_fit (t.global at n name count c ∷ is) o kept strings r =
       let i = t.global at n name count c in
-      held_front FunctionsFit (before_item context o i is) _ (held_parts (λ (m : Made). m.functions ≡ []) FunctionsFit FunctionsFit (item context o i) (items context (behind_item context o i) is) _ (global_adds context o at n name count c) (functions_fit is (behind_item context o i) kept strings r) (λ a b e h. subst (λ x. AllFunctionsFit (x ++ b.functions)) (sym e) h))
+      held_front FunctionsFit (before_globals context o.structs (i ∷ is)) _ (held_parts (λ (m : Made). m.functions ≡ []) FunctionsFit FunctionsFit (item context o i) (items context (behind_item context o i) is) _ (global_adds context o at n name count c) (functions_fit is (behind_item context o i) kept strings r) (λ a b e h. subst (λ x. AllFunctionsFit (x ++ b.functions)) (sym e) h))
   functions_fit (t.function at deletes result name qs None ∷ is) o kept strings r =
       let i = t.function at deletes result name qs None in
       held_parts (λ (m : Made). m.functions ≡ []) FunctionsFit FunctionsFit (item context o i) (items context (behind_item context o i) is) _ (prototype_adds context o at deletes result name qs) (functions_fit is (behind_item context o i) kept strings r.1) (λ a b e h. subst (λ x. AllFunctionsFit (x ++ b.functions)) (sym e) h)
@@ -257,7 +257,7 @@ module _ (program : p.Program) (context : Context) where
       held_parts (AddsNone context) (AreInPlace is) (AreInPlace (i ∷ is)) (item context o i) (items context (behind_item context o i) is) _ (struct_adds context o at name fields) (functions_in_place is (behind_item context o i)) (λ a b e h. without_one is a b e h)
   functions_in_place (t.global at n name count c ∷ is) o =
       let i = t.global at n name count c in
-      held_front (AreInPlace (i ∷ is)) (before_item context o i is) _ (held_parts (AddsNone context) (AreInPlace is) (AreInPlace (i ∷ is)) (item context o i) (items context (behind_item context o i) is) _ (global_adds context o at n name count c) (functions_in_place is (behind_item context o i)) (λ a b e h. without_one is a b e h))
+      held_front (AreInPlace (i ∷ is)) (before_globals context o.structs (i ∷ is)) _ (held_parts (AddsNone context) (AreInPlace is) (AreInPlace (i ∷ is)) (item context o i) (items context (behind_item context o i) is) _ (global_adds context o at n name count c) (functions_in_place is (behind_item context o i)) (λ a b e h. without_one is a b e h))
   functions_in_place (t.function at deletes result name qs None ∷ is) o =
       let i = t.function at deletes result name qs None in
       held_parts (AddsNone context) (AreInPlace is) (AreInPlace (i ∷ is)) (item context o i) (items context (behind_item context o i) is) _ (prototype_adds context o at deletes result name qs) (functions_in_place is (behind_item context o i))
@@ -300,7 +300,7 @@ module _ (context : Context) where
       held_parts (AddsNone context) ResultsHold ResultsHold (item context o i) (items context (behind_item context o i) is) _ (struct_adds context o at name fields) (results_hold is (behind_item context o i)) (λ a b e h. subst (λ x. AllResults (x ++ b.functions)) (sym e) h)
   results_hold (t.global at n name count c ∷ is) o =
       let i = t.global at n name count c in
-      held_front ResultsHold (before_item context o i is) _ (held_parts (AddsNone context) ResultsHold ResultsHold (item context o i) (items context (behind_item context o i) is) _ (global_adds context o at n name count c) (results_hold is (behind_item context o i)) (λ a b e h. subst (λ x. AllResults (x ++ b.functions)) (sym e) h))
+      held_front ResultsHold (before_globals context o.structs (i ∷ is)) _ (held_parts (AddsNone context) ResultsHold ResultsHold (item context o i) (items context (behind_item context o i) is) _ (global_adds context o at n name count c) (results_hold is (behind_item context o i)) (λ a b e h. subst (λ x. AllResults (x ++ b.functions)) (sym e) h))
   results_hold (t.function at deletes result name qs None ∷ is) o =
       let i = t.function at deletes result name qs None in
       held_parts (AddsNone context) ResultsHold ResultsHold (item context o i) (items context (behind_item context o i) is) _ (prototype_adds context o at deletes result name qs) (results_hold is (behind_item context o i)) (λ a b e h. subst (λ x. AllResults (x ++ b.functions)) (sym e) h)

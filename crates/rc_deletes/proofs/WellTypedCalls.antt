@@ -15,7 +15,7 @@ use Rattle.rc_deletes.specs.declared.sort.Sort.TheVariants.{Pointer}
 use Rattle.rc_deletes.specs.Kinds.{sort_of}
 use Rattle.rc_deletes.specs.Scopes.{Meaning, a_local, a_global, a_function, a_builtin, Signature}
 use Rattle.rc_deletes.specs.Values.{Typed}
-use Rattle.rc_deletes.specs.Calls.{Callee, the_function, the_builtin, callee_rule, is_defined, Parameter, of_type, any_pointer, parameters, gives, if_pointer, fitted_argument, with_argument, fitted_arguments, call_refusals, call_rule, called, call_value, called_alone, call_statement, allocation, array_allocation}
+use Rattle.rc_deletes.specs.Calls.{Callee, the_function, the_builtin, no_function, callee_rule, is_defined, is_function, Parameter, of_type, any_pointer, parameters, gives, if_pointer, fitted_argument, with_argument, fitted_arguments, call_refusals, call_rule, called, call_value, called_alone, call_statement, allocation, array_allocation}
 use Rattle.rc_deletes.proofs.Held.{Held, Given, held_part, held_ruled, none_failing, not_failing}
 use Rattle.rc_deletes.proofs.WellTypedValues.{Fits, IsOf, value_type_twice, fitted_fits, nat_eq_is}
 use Rattle.rc_deletes.proofs.WellTypedOperators.{Kind, kind}
@@ -23,6 +23,10 @@ use Rattle.rc_deletes.proofs.WellTypedOperators.{Kind, kind}
 not_false : (b : Bool) → not b ≡ false → b ≡ true
 not_false true h = refl
 not_false false h = absurd cc
+
+not_either : (a b : Bool) → (a || b) ≡ false → (a ≡ false) × (b ≡ false)
+not_either true b h = absurd cc
+not_either false b h = (refl, h)
 
 wanted_some : (wanted : Bool) (r : Option Ty) → (false || (wanted && is_none r)) ≡ false → IsTrue wanted → IsTrue (is_some r)
 wanted_some true (Some t) h w = refl
@@ -38,6 +42,7 @@ module _ (program : p.Program) (locals : List Ty) where
   IsCallee (the_function None s) = Unit {0}
   IsCallee (the_function (Some k) s) = IsFunction k s
   IsCallee (the_builtin b) = Unit {0}
+  IsCallee no_function = Unit {0}
 
   -- a name stands for what is there
   abbrev pub IsThere : Meaning → Type 0
@@ -90,18 +95,19 @@ module _ (program : p.Program) (locals : List Ty) where
   are_arguments (t ∷ ts) (e ∷ es) h = (h.0, are_arguments ts es h.1)
 
   abbrev pub IsCall : Bool → Callee → List p.Expr → Type 0
-  IsCall wanted f es = IsTrue (is_defined f) × ArgumentsHave (parameters f) es × (IsTrue wanted → IsTrue (is_some (gives f)))
+  IsCall wanted f es = IsTrue (is_defined f) × ArgumentsHave (parameters f) es × (IsTrue wanted → IsTrue (is_some (gives f))) × IsTrue (is_function f)
 
   call_of : (wanted : Bool) (f : Callee) (count : ℕ) (es : Option (List p.Expr)) → (length (parameters f) ≡ count → Given (ArgumentsHave (parameters f)) es) → call_refusals wanted f es count ≡ [] → IsCall wanted f (unwrap_or es [])
   call_of wanted f count None h e =
       let e1 = none_failing (not (is_defined f)) Unknown _ e in
-      let e2 = none_failing (not (is_some {T = List p.Expr} None) || (wanted && is_none (gives f))) Mistyped _ e1.1 in
-      absurd (false≢true (sym e2.0))
+      let e2 = none_failing (not (is_function f) || true) Mistyped _ e1.1 in
+      absurd (false≢true (sym (not_either (not (is_function f)) true e2.0).1))
   call_of wanted f count (Some es) h e =
       let e1 = none_failing (not (is_defined f)) Unknown _ e in
-      let e2 = none_failing (not (is_some (Some es)) || (wanted && is_none (gives f))) Mistyped _ e1.1 in
+      let e2 = none_failing (not (is_function f) || (false || (wanted && is_none (gives f)))) Mistyped _ e1.1 in
+      let fits = not_either (not (is_function f)) (false || (wanted && is_none (gives f))) e2.0 in
       let e3 = not_failing (not (nat_eq (length (parameters f)) count)) Arity e2.1 in
-      (not_false (is_defined f) e1.0, h (nat_eq_is (length (parameters f)) count (not_false _ e3)), wanted_some wanted (gives f) e2.0)
+      (not_false (is_defined f) e1.0, h (nat_eq_is (length (parameters f)) count (not_false _ e3)), wanted_some wanted (gives f) fits.1, not_false (is_function f) fits.0)
 
   call_fits : (wanted : Bool) (at : Spot) (f : Callee) (vs : List Typed) → AllFit vs → Held (IsCall wanted f) (call_rule wanted at f vs)
   call_fits wanted at f vs h =
@@ -132,6 +138,7 @@ module _ (program : p.Program) (locals : List Ty) where
   value_of line (the_builtin Putchar) [] h c = absurd c.1
   value_of line (the_builtin Putchar) (e ∷ d ∷ es) h c = absurd c.1.1
   value_of line (the_builtin Getchar) es h c = (refl, refl)
+  value_of line no_function es h c = absurd (false≢true c.3)
 
   pub call_value_fits : (at : Spot) (f : Callee) (vs : List Typed) → IsCallee f → AllFit vs → Held (Fits program locals) (call_value at f vs)
   call_value_fits at f vs h k = held_part (IsCall true f) (Fits program locals) (call_rule true at f vs) _ (call_fits true at f vs k) (λ es c. value_of at.line f es h c)
@@ -156,11 +163,12 @@ module _ (program : p.Program) (f : p.Function) (loop : Bool) where
   alone_of line (the_builtin DeleteRegion) (e ∷ []) h c = c.1.0
   alone_of line (the_builtin DeleteRegion) [] h c = absurd c.1
   alone_of line (the_builtin DeleteRegion) (e ∷ d ∷ es) h c = absurd c.1.1
-  alone_of line (the_builtin NewRegion) es h c = is_value (Some region) (p.new_region line) refl (value_of program f.locals line (the_builtin NewRegion) es h (c.0, c.1, λ w. refl))
-  alone_of line (the_builtin NewSubregion) es h c = is_value (Some region) (called line (the_builtin NewSubregion) es) refl (value_of program f.locals line (the_builtin NewSubregion) es h (c.0, c.1, λ w. refl))
-  alone_of line (the_builtin RegionOf) es h c = is_value (Some region) (called line (the_builtin RegionOf) es) refl (value_of program f.locals line (the_builtin RegionOf) es h (c.0, c.1, λ w. refl))
-  alone_of line (the_builtin Putchar) es h c = is_value (Some int) (called line (the_builtin Putchar) es) refl (value_of program f.locals line (the_builtin Putchar) es h (c.0, c.1, λ w. refl))
-  alone_of line (the_builtin Getchar) es h c = is_value (Some int) (p.getchar line) refl (value_of program f.locals line (the_builtin Getchar) es h (c.0, c.1, λ w. refl))
+  alone_of line (the_builtin NewRegion) es h c = is_value (Some region) (p.new_region line) refl (value_of program f.locals line (the_builtin NewRegion) es h (c.0, c.1, (λ w. refl), refl))
+  alone_of line (the_builtin NewSubregion) es h c = is_value (Some region) (called line (the_builtin NewSubregion) es) refl (value_of program f.locals line (the_builtin NewSubregion) es h (c.0, c.1, (λ w. refl), refl))
+  alone_of line (the_builtin RegionOf) es h c = is_value (Some region) (called line (the_builtin RegionOf) es) refl (value_of program f.locals line (the_builtin RegionOf) es h (c.0, c.1, (λ w. refl), refl))
+  alone_of line (the_builtin Putchar) es h c = is_value (Some int) (called line (the_builtin Putchar) es) refl (value_of program f.locals line (the_builtin Putchar) es h (c.0, c.1, (λ w. refl), refl))
+  alone_of line no_function es h c = absurd (false≢true c.3)
+  alone_of line (the_builtin Getchar) es h c = is_value (Some int) (p.getchar line) refl (value_of program f.locals line (the_builtin Getchar) es h (c.0, c.1, (λ w. refl), refl))
 
   pub call_statement_fits : (at : Spot) (c : Callee) (vs : List Typed) → IsCallee program f.locals c → AllFit program f.locals vs → Held (IsTyped program f loop) (call_statement at c vs)
   call_statement_fits at c vs h k = held_part (IsCall program f.locals false c) (IsTyped program f loop) (call_rule false at c vs) _ (call_fits program f.locals false at c vs k) (λ es q. alone_of at.line c es h q)

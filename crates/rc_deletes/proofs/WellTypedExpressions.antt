@@ -1,8 +1,8 @@
 -- Expressions fit: each is a value of its type, or a place that is there.
 use Rattle.std.specs.Prelude.{◌≡◌, ℕ, pos, ◌+◌, ◌<◌, ◌≤◌, List, [], ◌∷◌, ◌++◌, Option, Some, None, Bool, true, false, IsTrue, IsSome, slice_get, length, map, if◌then◌else◌}
-use Rattle.std.proofs.Common.{zero, suc, refl, sym, ap, ◌∙◌, subst, arith, add-one, length-append}
+use Rattle.std.proofs.Common.{zero, suc, refl, sym, ap, subst, arith, add-one, length-append}
 use Rattle.std.proofs.lemmas.Bool.Decides.{nat_tests}
-use Rattle.std.proofs.lemmas.List.{length-map}
+use Rattle.std.proofs.lemmas.List.{length-map, length-take}
 use Rattle.std.proofs.lemmas.List.Quantifiers.{position-Some}
 use Rattle.std.specs.Str.{bytes_eq}
 use Rattle.rc_syntax.specs.declared.tree.Spot.{Spot}
@@ -26,14 +26,14 @@ use Rattle.rc_deletes.specs.declared.sort.Sort.{Sort}
 use Rattle.rc_deletes.specs.declared.sort.Sort.TheVariants.{Number}
 use Rattle.rc_deletes.specs.Judged.{Judged, Holds, with_part, both}
 use Rattle.rc_deletes.specs.Kinds.{sort_of, place_of, number_or, struct_number, spelled, base_type, starred, note_of}
-use Rattle.rc_deletes.specs.Scopes.{Context, Shape, fields_in, struct_names, type_names, structs_in, Scope, Meaning, a_local, a_global, a_function, a_builtin, meaning_in}
+use Rattle.rc_deletes.specs.Scopes.{Context, Shape, fields_in, struct_names, structs_in, Scope, Meaning, a_local, a_global, a_function, a_builtin, meaning_in}
 use Rattle.rc_deletes.specs.Values.{Typed, Meant, a_value, a_variable, a_place, an_array, valued, as_value, spot_of, fitted, promoted_value}
 use Rattle.rc_deletes.specs.Operators.{binary_rule, conditional_rule, unary_rule, address_rule, cast_type, cast_rule}
 use Rattle.rc_deletes.specs.Calls.{callee_rule, call_value, allocation, array_allocation}
 use Rattle.rc_deletes.specs.Expressions.{strings_in, strings_in_all, signedness, name_rule, found, base_rule, type_rule, next_field, field_named, fields_at, path_then, inward, field_meant, field_rule, member_rule, arrow_rule, indexed_part, element_behind, element, index_by, index_rule, unary_meant, meant, values}
 use Rattle.rc_deletes.specs.Ranges.{IsInRange, AreInRange}
 use Rattle.rc_deletes.proofs.Held.{Held, Given, given_if, held_part, held_parts, held_both}
-use Rattle.rc_deletes.proofs.Naming.{place_more}
+use Rattle.rc_deletes.proofs.Naming.{place_taken}
 use Rattle.rc_deletes.proofs.WellTypedValues.{Fits, IsOf, Means, value_fits, fitted_fits, promoted_fits}
 use Rattle.rc_deletes.proofs.WellTypedOperators.{Kind, kind, arithmetic_is_value, binary_fits, conditional_fits, unary_fits, address_fits, cast_fits, meaning_fits}
 use Rattle.rc_deletes.proofs.WellTypedCalls.{IsThere, IsCallee, AllFit, callee_fits, call_value_fits, allocation_fits, array_allocation_fits}
@@ -81,29 +81,30 @@ pub place_within : (names : List (List ℕ)) (name : List ℕ) (k : ℕ) → pla
 place_within names name k h = (position-Some (bytes_eq name) names k [] h).0
 
 -- a struct that is defined has its place there as its number
-pub struct_number_is : (context : Context) (name : List ℕ) (k : ℕ) → place_of (struct_names context) name ≡ Some k → struct_number (type_names context) name ≡ k
-struct_number_is context name k h = ap (λ o. number_or o (length (type_names context) + spelled name)) (place_more (struct_names context) context.others name k h)
+pub struct_number_is : (context : Context) (name : List ℕ) (k : ℕ) → place_of (struct_names context) name ≡ Some k → struct_number context.types name ≡ k
+struct_number_is context name k h = ap (λ o. number_or o (length context.types + spelled name)) (place_taken (length context.shapes) context.types name k h)
 
 found_fits : (at : Spot) (o : Option ℕ) (n m : ℕ) → ((k : ℕ) → o ≡ Some k → n < m) → Held (λ (u : Unit {0}). n < m) (with_part (found at o) (λ k. Holds tt))
 found_fits at None n m h = tt
 found_fits at (Some k) n m h = h k refl
 
-names_and_structs : (context : Context) → length (struct_names context) ≡ length (structs_in context)
-names_and_structs context = length-map context.shapes _ ∙ sym (length-map context.shapes fields_in)
+-- and no number past those of the structs
+pub struct_within : (context : Context) (name : List ℕ) (k : ℕ) → place_of (struct_names context) name ≡ Some k → k < length (structs_in context)
+struct_within context name k h = omega (arith, place_within (struct_names context) name k h, length-take (length context.shapes) context.types, length-map context.shapes fields_in)
 
-pub base_fits : (context : Context) (b : Base) → Held (λ u. IsDefined (structs_in context) (base_type (type_names context) b)) (base_rule context b)
+pub base_fits : (context : Context) (b : Base) → Held (λ u. IsDefined (structs_in context) (base_type context.types b)) (base_rule context b)
 base_fits context (base.Int at) = tt
 base_fits context (base.Unsigned at) = tt
 base_fits context (base.Char at) = tt
 base_fits context (base.Region at) = tt
-base_fits context (base.Struct at name) = found_fits name.spot (place_of (struct_names context) name.text) (struct_number (type_names context) name.text) (length (structs_in context)) (λ k e. subst (λ n. n < length (structs_in context)) (sym (struct_number_is context name.text k e)) (subst (λ n. k < n) (names_and_structs context) (place_within (struct_names context) name.text k e)))
+base_fits context (base.Struct at name) = found_fits name.spot (place_of (struct_names context) name.text) (struct_number context.types name.text) (length (structs_in context)) (λ k e. subst (λ n. n < length (structs_in context)) (sym (struct_number_is context name.text k e)) (struct_within context name.text k e))
 
 pub starred_defined : (structs : List p.Struct) (u : Ty) (notes : List WrittenNote) → IsDefined structs u → IsDefined structs (starred u notes)
 starred_defined structs u [] h = h
 starred_defined structs u (n ∷ notes) h = starred_defined structs (pointer (note_of n) u) notes h
 
 pub type_fits : (context : Context) (n : t.TypeName) → Held (IsDefined (structs_in context)) (type_rule context n)
-type_fits context n = held_part (λ u. IsDefined (structs_in context) (base_type (type_names context) n.base)) (IsDefined (structs_in context)) (base_rule context n.base) _ (base_fits context n.base) (λ u h. starred_defined (structs_in context) _ n.stars h)
+type_fits context n = held_part (λ u. IsDefined (structs_in context) (base_type context.types n.base)) (IsDefined (structs_in context)) (base_rule context n.base) _ (base_fits context n.base) (λ u h. starred_defined (structs_in context) _ n.stars h)
 
 module _ (program : p.Program) (locals : List Ty) where
   name_fits : (at : Spot) (m : Option Meaning) → Given (IsThere program locals) m → Held (Means program locals) (name_rule at m)

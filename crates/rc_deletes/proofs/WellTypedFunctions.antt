@@ -12,10 +12,10 @@ use Rattle.rc_core.specs.WellTyped.{IsVariable}
 use Rattle.rc_deletes.specs.declared.fault.Refusal.TheVariants.{Mistyped}
 use Rattle.rc_deletes.specs.Judged.{both, failing}
 use Rattle.rc_deletes.specs.Kinds.{same_type, written_type, base_type}
-use Rattle.rc_deletes.specs.Scopes.{Context, struct_names, type_names, structs_in, Meaning, a_local, a_global, a_function, a_builtin, Signature, builtin_signature, meaning_in}
+use Rattle.rc_deletes.specs.Scopes.{Context, structs_in, Meaning, a_local, a_global, a_function, a_builtin, Signature, builtin_signature, meaning_in}
 use Rattle.rc_deletes.specs.Expressions.{base_rule}
 use Rattle.rc_deletes.specs.Statements.{Here, with_local}
-use Rattle.rc_deletes.specs.Items.{is_among, with_functions, Outside, is_defined_before, type_option, signature_of, with_function, with_param, with_params, before_params, behind_body, same_result, same_takes, agrees, agrees_with, declared_again, function_name, param_name, param_rule, params_rule, result_rule, head_rule}
+use Rattle.rc_deletes.specs.Items.{is_among, with_functions, Outside, is_defined_before, type_option, signature_of, with_function, with_param, with_params, before_params, behind_body, same_result, same_takes, same_bool, agrees, agrees_with, declared_again, function_name, param_name, param_rule, params_rule, result_rule, head_rule}
 use Rattle.rc_deletes.proofs.Held.{Held, held_parts, held_both, held_ruled, held_always, held_then, held_more, not_failing}
 use Rattle.rc_deletes.proofs.WellTypedValues.{same_type_is, and_left, and_right}
 use Rattle.rc_deletes.proofs.WellTypedExpressions.{base_fits, starred_defined}
@@ -38,10 +38,17 @@ same_result_is (Some t) (Some u) h = ap Some (same_type_is t u h)
 same_result_is None (Some u) h = absurd cc
 same_result_is (Some t) None h = absurd cc
 
-agrees_is : (a b : Signature) → IsTrue (agrees a b) → (a.takes ≡ b.takes) × (a.gives ≡ b.gives)
+same_bool_is : (a b : Bool) → IsTrue (same_bool a b) → a ≡ b
+same_bool_is true true h = refl
+same_bool_is false false h = refl
+same_bool_is true false h = absurd cc
+same_bool_is false true h = absurd cc
+
+agrees_is : (a b : Signature) → IsTrue (agrees a b) → (a.takes ≡ b.takes) × (a.gives ≡ b.gives) × (a.deletes ≡ b.deletes)
 agrees_is a b h = (
   same_takes_is a.takes b.takes (and_left (same_takes a.takes b.takes) _ h),
   same_result_is a.gives b.gives (and_left (same_result a.gives b.gives) _ (and_right (same_takes a.takes b.takes) _ h)),
+  same_bool_is a.deletes b.deletes (and_right (same_result a.gives b.gives) _ (and_right (same_takes a.takes b.takes) _ h)),
 )
 
 or_left : (a b : Bool) → (a || b) ≡ false → a ≡ false
@@ -76,9 +83,9 @@ param_of here u (Some name) = with_local here u name.text
 
 module _ (context : Context) where
   abbrev pub param_type : t.Param → Ty
-  param_type q = written_type (type_names context) q.type_name
+  param_type q = written_type context.types q.type_name
 
-  pub param_is : (here : Here) (q : t.Param) → with_param context here q ≡ param_of here (written_type (type_names context) q.type_name) q.name
+  pub param_is : (here : Here) (q : t.Param) → with_param context here q ≡ param_of here (written_type context.types q.type_name) q.name
   param_is here q = refl
 
   param_locals : (here : Here) (u : Ty) (o : Option Name) → (param_of here u o).locals ≡ here.locals ++ u ∷ []
@@ -89,9 +96,9 @@ module _ (context : Context) where
   param_strings here u None = refl
   param_strings here u (Some name) = refl
 
-  pub params_locals : (here : Here) (qs : List t.Param) → (with_params context here qs).locals ≡ here.locals ++ map (λ q. written_type (type_names context) q.type_name) qs
+  pub params_locals : (here : Here) (qs : List t.Param) → (with_params context here qs).locals ≡ here.locals ++ map (λ q. written_type context.types q.type_name) qs
   params_locals here [] = sym (append-nil here.locals)
-  params_locals here (q ∷ qs) = params_locals (with_param context here q) qs ∙ ap (λ x. x ++ map (λ q. written_type (type_names context) q.type_name) qs) (param_locals here (param_type q) q.name) ∙ append_assoc here.locals _ _
+  params_locals here (q ∷ qs) = params_locals (with_param context here q) qs ∙ ap (λ x. x ++ map (λ q. written_type context.types q.type_name) qs) (param_locals here (param_type q) q.name) ∙ append_assoc here.locals _ _
 
   pub params_strings : (here : Here) (qs : List t.Param) → (with_params context here qs).strings ≡ here.strings
   params_strings here [] = refl
@@ -101,12 +108,12 @@ module _ (context : Context) where
   param_variables here u None h k = with_variable context here u [] h k
   param_variables here u (Some name) h k = with_variable context here u name.text h k
 
-  param_variable : (has_body : Bool) (here : Here) (q : t.Param) → Held (λ (u : Unit {0}). IsVariable (structs_in context) (written_type (type_names context) q.type_name)) (param_rule context has_body here q)
+  param_variable : (has_body : Bool) (here : Here) (q : t.Param) → Held (λ (u : Unit {0}). IsVariable (structs_in context) (written_type context.types q.type_name)) (param_rule context has_body here q)
   param_variable has_body here q =
-      held_parts (λ (u : Unit {0}). IsDefined (structs_in context) (base_type (type_names context) q.type_name.base)) (λ (u : Unit {0}). Unit {0}) (λ (u : Unit {0}). IsVariable (structs_in context) (written_type (type_names context) q.type_name)) (base_rule context q.type_name.base) (param_name here q.name) _
+      held_parts (λ (u : Unit {0}). IsDefined (structs_in context) (base_type context.types q.type_name.base)) (λ (u : Unit {0}). Unit {0}) (λ (u : Unit {0}). IsVariable (structs_in context) (written_type context.types q.type_name)) (base_rule context q.type_name.base) (param_name here q.name) _
       (base_fits context q.type_name.base) (held_always (Unit {0}) (param_name here q.name) tt)
-      (λ u v h k. held_ruled (λ (u : Unit {0}). IsVariable (structs_in context) (written_type (type_names context) q.type_name)) q.spot (failing (is_struct (param_type q) || (has_body && is_none q.name)) Mistyped) tt
-      (λ e. (starred_defined (structs_in context) (base_type (type_names context) q.type_name.base) q.type_name.stars h, not_true (is_struct (param_type q)) (or_left (is_struct (param_type q)) (has_body && is_none q.name) (not_failing _ Mistyped e)))))
+      (λ u v h k. held_ruled (λ (u : Unit {0}). IsVariable (structs_in context) (written_type context.types q.type_name)) q.spot (failing (is_struct (param_type q) || (has_body && is_none q.name)) Mistyped) tt
+      (λ e. (starred_defined (structs_in context) (base_type context.types q.type_name.base) q.type_name.stars h, not_true (is_struct (param_type q)) (or_left (is_struct (param_type q)) (has_body && is_none q.name) (not_failing _ Mistyped e)))))
 
   pub params_variables : (has_body : Bool) (here : Here) (qs : List t.Param) → Variables context here → Held (λ (u : Unit {0}). Variables context (with_params context here qs)) (params_rule context has_body here qs)
   params_variables has_body here [] h = h
@@ -116,11 +123,11 @@ module _ (context : Context) where
 
   abbrev pub OptionDefined : Option t.TypeName → Type 0
   OptionDefined None = Unit {0}
-  OptionDefined (Some n) = IsDefined (structs_in context) (written_type (type_names context) n)
+  OptionDefined (Some n) = IsDefined (structs_in context) (written_type context.types n)
 
   result_defined : (r : Option t.TypeName) → Held (λ (u : Unit {0}). OptionDefined r) (result_rule context r)
   result_defined None = tt
-  result_defined (Some n) = held_more (λ (u : Unit {0}). IsDefined (structs_in context) (base_type (type_names context) n.base)) (λ (u : Unit {0}). OptionDefined (Some n)) (base_rule context n.base) (base_fits context n.base) (λ u k. starred_defined (structs_in context) (base_type (type_names context) n.base) n.stars k)
+  result_defined (Some n) = held_more (λ (u : Unit {0}). IsDefined (structs_in context) (base_type context.types n.base)) (λ (u : Unit {0}). OptionDefined (Some n)) (base_rule context n.base) (base_fits context n.base) (λ u k. starred_defined (structs_in context) (base_type context.types n.base) n.stars k)
 
   -- what a definition's name is where it is nowhere twice
   abbrev pub Once : ℕ → Option Meaning → Signature → Type 0
@@ -128,12 +135,12 @@ module _ (context : Context) where
   Once count (Some (a_local x u)) s = Unit {0}
   Once count (Some (a_global g u c)) s = ⊥
   Once count (Some (a_builtin b)) s = ⊥
-  Once count (Some (a_function k first)) s = (is_defined_before count k ≡ false) × (first.takes ≡ s.takes) × (first.gives ≡ s.gives)
+  Once count (Some (a_function k first)) s = (is_defined_before count k ≡ false) × (first.takes ≡ s.takes) × (first.gives ≡ s.gives) × (first.deletes ≡ s.deletes)
 
   again_once : (name : Name) (count : ℕ) (k : Option ℕ) (first s : Signature) (twice same : Bool) → is_defined_before count k ≡ twice → agrees first s ≡ same → Held (λ (u : Unit {0}). Once count (Some (a_function k first)) s) (declared_again name twice same)
   again_once name count k first s true same e q = tt
   again_once name count k first s false false e q = tt
-  again_once name count k first s false true e q = let a = agrees_is first s q in (e, a.0, a.1)
+  again_once name count k first s false true e q = let a = agrees_is first s q in (e, a.0, a.1, a.2)
 
   builtin_once : (name : Name) (same : Bool) → Held (λ (u : Unit {0}). ⊥) (declared_again name true same)
   builtin_once name same = tt
@@ -170,7 +177,7 @@ module _ (context : Context) where
 
   pub takes_is : (at : Spot) (deletes : Bool) (result : Option t.TypeName) (name : Name) (qs : List t.Param) (o : Outside) (body : t.Stmts) (b : p.Stmts) → parameters_of (made_function at deletes result qs (behind_body context o qs body) b) ≡ (signature_of context deletes result qs).takes
   takes_is at deletes result name qs o body b =
-      let types = map (λ q. written_type (type_names context) q.type_name) qs in
+      let types = map (λ q. written_type context.types q.type_name) qs in
       let start = with_params context (before_params o) qs in
       let e : start.locals ≡ types = params_locals (before_params o) qs in
       let l : length types ≡ length qs = length-map qs _ in

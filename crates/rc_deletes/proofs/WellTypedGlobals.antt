@@ -20,10 +20,10 @@ use Rattle.rc_core.specs.WellTyped.{IsInside, IsInitial, GlobalFits, global_size
 use Rattle.rc_deletes.specs.declared.fault.Refusal.TheVariants.{Mistyped, TooBig}
 use Rattle.rc_deletes.specs.Judged.{failing}
 use Rattle.rc_deletes.specs.Kinds.{written_type, sort_of_type}
-use Rattle.rc_deletes.specs.Scopes.{Context, struct_names, type_names, structs_in, meaning_in}
-use Rattle.rc_deletes.specs.Items.{Outside, is_empty, once, cell_type, cells_of_global, written_value, initial_by, initial_of, value_or_zero, global_of, Made, made_both, behind_item, item, items, before_item}
+use Rattle.rc_deletes.specs.Scopes.{Context, structs_in, meaning_in}
+use Rattle.rc_deletes.specs.Items.{Outside, is_empty, once, cell_type, cells_of_global, written_value, initial_by, initial_of, value_or_zero, global_of, Made, made_both, behind_item, item, items, before_globals}
 use Rattle.rc_deletes.proofs.Held.{Held, held_parts, held_ruled, held_always, held_after, held_and, none_failing, not_failing, held_front}
-use Rattle.rc_deletes.proofs.WellTypedStructs.{structs_length, cell_fits, no_less, at_least_one}
+use Rattle.rc_deletes.proofs.WellTypedStructs.{cell_fits, no_less, at_least_one}
 use Rattle.rc_deletes.proofs.WellTypedScopes.{adds}
 
 remainder : (z : ℤ) (n : ℕ) → 0 < n → (w : ℕ) × (int_rem_euclid z (pos n) ≡ pos w) × (w < n)
@@ -90,14 +90,14 @@ total_on c s xs h = omega (arith, sum_by-cons (λ x. x) s xs, h)
 
 module _ (context : Context) where
   abbrev GlobalHolds : Outside → t.TypeName → Option ℕ → Option Constant → Type 0
-  GlobalHolds o ty count c = GlobalFits (structs_in context) (global_of context ty count (value_or_zero (initial_of (written_type (type_names context) ty) count c))) × (o.cells + cells_of_global context ty count ≤ 1048576)
+  GlobalHolds o ty count c = GlobalFits (structs_in context) (global_of context ty count (value_or_zero (initial_of (written_type context.types ty) count c))) × (o.cells + cells_of_global context ty count ≤ 1048576)
 
   global_holds : (o : Outside) (at : Spot) (ty : t.TypeName) (name : Name) (count : Option ℕ) (c : Option Constant) → Held (λ (m : Made). GlobalHolds o ty count c) (item context o (t.global at ty name count c))
   global_holds o at ty name count c =
-      let initial = initial_of (written_type (type_names context) ty) count c in
-      let written = written_type (type_names context) ty in
+      let initial = initial_of (written_type context.types ty) count c in
+      let written = written_type context.types ty in
       held_parts (λ (u : Unit {0}). IsDefined (structs_in context) written × IsInside o.structs written) (λ (u : Unit {0}). Unit {0}) (λ (m : Made). GlobalHolds o ty count c) (cell_type context o.structs ty) (once name (is_some (meaning_in o.names name.text))) _
-      (cell_fits context (structs_length context) o.structs ty) (held_always (Unit {0}) (once name (is_some (meaning_in o.names name.text))) tt)
+      (cell_fits context o.structs ty) (held_always (Unit {0}) (once name (is_some (meaning_in o.names name.text))) tt)
       (λ u v h k. held_ruled (λ (m : Made). GlobalHolds o ty count c) at (failing (is_none initial) Mistyped ++ failing (is_empty count || nat_lt 1048576 (o.cells + cells_of_global context ty count)) TooBig) (record { globals = global_of context ty count (value_or_zero initial) ∷ []; functions = [] })
       (λ e.
       let first = none_failing (is_none initial) Mistyped (failing (is_empty count || nat_lt 1048576 (o.cells + cells_of_global context ty count)) TooBig) e in
@@ -132,8 +132,8 @@ module _ (context : Context) where
       held_parts (λ (m : Made). m.globals ≡ []) (GlobalsFit o.cells) (GlobalsFit o.cells) (item context o i) (items context (behind_item context o i) is) _ (adds context o i) (globals_fit is (behind_item context o i) h) (λ a b e k. with_none o.cells a b e k)
   globals_fit (t.global at ty name count c ∷ is) o h =
       let i = t.global at ty name count c in
-      let d = global_of context ty count (value_or_zero (initial_of (written_type (type_names context) ty) count c)) in
-      held_front (GlobalsFit o.cells) (before_item context o i is) _ (held_after (GlobalHolds o ty count c) (λ (m : Made). m.globals ≡ d ∷ []) (GlobalsFit (o.cells + cells_of_global context ty count)) (GlobalsFit o.cells) (item context o i) (items context (behind_item context o i) is) _
+      let d = global_of context ty count (value_or_zero (initial_of (written_type context.types ty) count c)) in
+      held_front (GlobalsFit o.cells) (before_globals context o.structs (i ∷ is)) _ (held_after (GlobalHolds o ty count c) (λ (m : Made). m.globals ≡ d ∷ []) (GlobalsFit (o.cells + cells_of_global context ty count)) (GlobalsFit o.cells) (item context o i) (items context (behind_item context o i) is) _
       (held_and (λ (m : Made). GlobalHolds o ty count c) (λ (m : Made). m.globals ≡ d ∷ []) (item context o i) (global_holds o at ty name count c) (adds context o i))
       (λ k. globals_fit is (behind_item context o i) k.1)
       (λ a b k e q. subst (λ x. AllGlobalsFit (x ++ b.globals) × (o.cells + sum (map (global_size (structs_in context)) (x ++ b.globals)) ≤ 1048576)) (sym e) ((k.0, q.0), total_on o.cells (cells_of_global context ty count) (map (global_size (structs_in context)) b.globals) q.1)))

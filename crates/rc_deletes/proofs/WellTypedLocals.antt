@@ -9,7 +9,7 @@ use Rattle.rc_core.specs.Typing.{is_struct, IsDefined}
 use Rattle.rc_core.specs.WellTyped.{IsVariable}
 use Rattle.rc_deletes.specs.Judged.{Holds, both}
 use Rattle.rc_deletes.specs.Kinds.{base_type}
-use Rattle.rc_deletes.specs.Scopes.{Context, struct_names, type_names, structs_in, Scope, a_local, meaning_in}
+use Rattle.rc_deletes.specs.Scopes.{Context, structs_in, Scope, a_local, meaning_in}
 use Rattle.rc_deletes.specs.Values.{Typed}
 use Rattle.rc_deletes.specs.Expressions.{base_rule}
 use Rattle.rc_deletes.specs.Statements.{Here, inside, behind, behind_option, with_local, declared, local_type, behind_simple, behind_simple_option, behind_local, behind_locals, behind_start, behind_stmt, behind_stmts, new_name, declaration, value_option, condition, condition_option, simple, simple_option, local, locals, for_start, stmt, stmts}
@@ -51,7 +51,7 @@ module _ (context : Context) where
   not_a_struct line x (pointer n u) v = given_always _ (declaration line x (pointer n u) v) refl
 
   abbrev IsDefinedBase : t.Local → Type 0
-  IsDefinedBase l = IsDefined (structs_in context) (base_type (type_names context) l.type_name.base)
+  IsDefinedBase l = IsDefined (structs_in context) (base_type context.types l.type_name.base)
 
   local_variables : (here : Here) (l : t.Local) → Variables here → Held (λ (s : p.Stmt). Variables (behind_local context here l)) (local context here l)
   local_variables here l h =

@@ -15,9 +15,9 @@ use Rattle.rc_core.specs.Typing.{parameters_of}
 use Rattle.rc_deletes.specs.declared.fault.Refusal.TheVariants.{Mistyped, TooBig}
 use Rattle.rc_deletes.specs.Judged.{failing}
 use Rattle.rc_deletes.specs.Kinds.{place_of, written_type, base_type, starred}
-use Rattle.rc_deletes.specs.Scopes.{Context, struct_names, type_names, Scope, Meaning, a_local, a_global, a_function, a_builtin, Signature, meaning_in}
+use Rattle.rc_deletes.specs.Scopes.{Context, struct_names, Scope, Meaning, a_local, a_global, a_function, a_builtin, Signature, meaning_in}
 use Rattle.rc_deletes.specs.Statements.{stmts}
-use Rattle.rc_deletes.specs.Items.{with_new, with_functions, Outside, behind_definition, is_defined_before, type_option, signature_of, with_function, with_params, before_params, behind_body, behind_item, behind_items, is_empty, once, cell_type, cells_of_global, cells_of_struct, fields_rule, initial_of, value_or_zero, global_of, is_struct_option, head_rule, Made, nothing_made, made_both, item, items, main_name, before_item}
+use Rattle.rc_deletes.specs.Items.{with_new, with_functions, Outside, behind_definition, is_defined_before, type_option, signature_of, with_function, with_params, before_params, behind_body, behind_item, behind_items, is_empty, once, cell_type, cells_of_global, cells_of_struct, fields_rule, initial_of, value_or_zero, global_of, is_struct_option, head_rule, Made, nothing_made, made_both, item, items, main_name, before_globals}
 use Rattle.rc_deletes.specs.Answer.{is_int, gives_int, takes_nothing, main_shape, main_fault}
 use Rattle.rc_deletes.proofs.Held.{Held, Given, held_part, held_parts, held_ruled, held_always, held_after, held_front}
 use Rattle.rc_deletes.proofs.WellTypedValues.{and_left, and_right}
@@ -44,7 +44,7 @@ module _ (context : Context) where
 
   pub global_adds : (o : Outside) (at : Spot) (ty : t.TypeName) (name : Name) (c : Option ℕ) (z : _) → Held AddsNone (item context o (t.global at ty name c z))
   global_adds o at ty name c z =
-      let initial = initial_of (written_type (type_names context) ty) c z in
+      let initial = initial_of (written_type context.types ty) c z in
       held_parts (λ (u : Unit {0}). Unit {0}) (λ (u : Unit {0}). Unit {0}) AddsNone (cell_type context o.structs ty) (once name (is_some (meaning_in o.names name.text))) _
       (held_always (Unit {0}) (cell_type context o.structs ty) tt) (held_always (Unit {0}) (once name (is_some (meaning_in o.names name.text))) tt)
       (λ u v h k. held_ruled AddsNone at (failing (is_none initial) Mistyped ++ failing (is_empty c || nat_lt 1048576 (o.cells + cells_of_global context ty c)) TooBig) (record { globals = global_of context ty c (value_or_zero initial) ∷ []; functions = [] }) (λ e. refl))
@@ -66,13 +66,14 @@ module _ (context : Context) where
       (head_holds context o deletes result name qs) (held_always (Unit {0}) code tt)
       (λ u b h k. held_ruled P at (failing (is_struct_option (type_option context result)) Mistyped) (record { globals = []; functions = made_function context at deletes result qs (behind_body context own qs body) b ∷ [] }) (λ e. (h, (b, refl))))
 
-module _ (context : Context) (gs : List p.Global) (last : Scope) (outer : Outer context gs last) where
+-- with the shape of `main` where it is wanted
+module _ (context : Context) (gs : List p.Global) (last : Scope) (outer : Outer context gs last) (Wanted : Type 0) where
   -- calls of the name go by the function's own types
   abbrev pub HasSignature : List ℕ → p.Function → Type 0
-  HasSignature n g = (k : Option ℕ) (s : Signature) → meaning_in last n ≡ Some (a_function k s) → (parameters_of g ≡ s.takes) × (g.result ≡ s.gives)
+  HasSignature n g = (k : Option ℕ) (s : Signature) → meaning_in last n ≡ Some (a_function k s) → (parameters_of g ≡ s.takes) × (g.result ≡ s.gives) × (g.deletes ≡ s.deletes)
 
   abbrev pub IsMain : List ℕ → p.Function → Type 0
-  IsMain n g = bytes_eq n main_name ≡ true → (g.parameters ≡ 0) × (g.result ≡ Some int)
+  IsMain n g = Wanted → bytes_eq n main_name ≡ true → (g.parameters ≡ 0) × (g.result ≡ Some int)
 
   abbrev pub Paired : List (List ℕ) → List p.Function → Type 0
   Paired [] [] = Unit {0}
@@ -88,11 +89,14 @@ module _ (context : Context) (gs : List p.Global) (last : Scope) (outer : Outer 
       (g, refl, subst (λ x. HasSignature x g) same h.0, subst (λ x. IsMain x g) same h.1)
   paired_at (m ∷ ns) (g ∷ fs) h (suc k) n e = paired_at ns fs h.2 k n e
 
+  abbrev MainIsSeen : List (List ℕ) → List t.Item → Type 0
+  MainIsSeen ns is = (main_fault is ≡ None) ⊎ ((j : ℕ) × (place_of ns main_name ≡ Some j))
+
   abbrev pub MainSeen : List (List ℕ) → List t.Item → Type 0
-  MainSeen ns is = (main_fault is ≡ None) ⊎ ((j : ℕ) × (place_of ns main_name ≡ Some j))
+  MainSeen ns is = Wanted → MainIsSeen ns is
 
   abbrev pub Complete : List (List ℕ) → Made → Type 0
-  Complete ns m = (rest : List (List ℕ)) × (context.functions ≡ ns ++ rest) × Paired rest m.functions × ((j : ℕ) × (place_of context.functions main_name ≡ Some j))
+  Complete ns m = (rest : List (List ℕ)) × (context.functions ≡ ns ++ rest) × Paired rest m.functions × (Wanted → (j : ℕ) × (place_of context.functions main_name ≡ Some j))
 
   -- every name that was defined has a meaning
   abbrev pub AreSeen : List (List ℕ) → Scope → Type 0
@@ -175,19 +179,19 @@ module _ (context : Context) (gs : List p.Global) (last : Scope) (outer : Outer 
       function_is : (k l : Option ℕ) (s r : Signature) → a_function k s ≡ a_function l r → s ≡ r
       function_is k l s r h = cc
 
-      go : (m : Option Meaning) → meaning_in o.names name.text ≡ m → Once context o.functions m (signature_of context deletes result qs) → (parameters_of (made_function context at deletes result qs (behind_body context (with_function context o deletes result name qs) qs body) b) ≡ s.takes) × (type_option context result ≡ s.gives)
+      go : (m : Option Meaning) → meaning_in o.names name.text ≡ m → Once context o.functions m (signature_of context deletes result qs) → (parameters_of (made_function context at deletes result qs (behind_body context (with_function context o deletes result name qs) qs body) b) ≡ s.takes) × (type_option context result ≡ s.gives) × (deletes ≡ s.deletes)
       go None q h =
           let r : signature_of context deletes result qs ≡ s = function_is (place_of context.functions name.text) k (signature_of context deletes result qs) s (differ _ (a_function k s) (kept name.text _ (new_name o.names name.text _ q)) e) in
-          (types ∙ ap (λ x. x.takes) r, ap (λ x. x.gives) r)
+          (types ∙ ap (λ x. x.takes) r, ap (λ x. x.gives) r, ap (λ x. x.deletes) r)
       go (Some (a_local x u)) q h = absurd (given_is name.text (a_local x u) (before name.text (a_local x u) q))
       go (Some (a_global g u c)) q h = absurd h
       go (Some (a_builtin c)) q h = absurd h
       go (Some (a_function l first)) q h =
           let r : first ≡ s = function_is l k first s (differ (a_function l first) (a_function k s) (before name.text (a_function l first) q) e) in
-          (types ∙ sym h.1 ∙ ap (λ x. x.takes) r, sym h.2 ∙ ap (λ x. x.gives) r)
+          (types ∙ sym h.1 ∙ ap (λ x. x.takes) r, sym h.2 ∙ ap (λ x. x.gives) r, sym h.3 ∙ ap (λ x. x.deletes) r)
 
     abbrev Elsewhere : Bool → Type 0
-    Elsewhere b = elim b [ true ↦ main_shape at (takes_nothing qs && gives_int result) | false ↦ main_fault is ] ≡ None
+    Elsewhere b = (if b then main_shape at (takes_nothing qs && gives_int result) else main_fault is) ≡ None
 
     nothing_taken : (qs : List t.Param) → takes_nothing qs ≡ true → length qs ≡ 0
     nothing_taken [] h = refl
@@ -196,7 +200,7 @@ module _ (context : Context) (gs : List p.Global) (last : Scope) (outer : Outer 
     int_given : (r : Option t.TypeName) → gives_int r ≡ true → type_option context r ≡ Some int
     int_given None h = absurd cc
     int_given (Some n) h = go n.base n.stars (and_left (is_int n.base) _ h) (and_right (is_int n.base) _ h) where
-      go : (b : Base) (stars : List WrittenNote) → IsTrue (is_int b) → IsTrue (elim stars [ [] ↦ true | note ∷ notes ↦ false ]) → Some (starred (base_type (type_names context) b) stars) ≡ Some int
+      go : (b : Base) (stars : List WrittenNote) → IsTrue (is_int b) → IsTrue (elim stars [ [] ↦ true | note ∷ notes ↦ false ]) → Some (starred (base_type context.types b) stars) ≡ Some int
       go (base.Int at) [] a c = refl
       go b (n ∷ notes) a c = absurd cc
       go (base.Unsigned at) [] a c = absurd cc
@@ -214,38 +218,46 @@ module _ (context : Context) (gs : List p.Global) (last : Scope) (outer : Outer 
         (nothing_taken qs (and_left (takes_nothing qs) _ q), int_given result (and_right (takes_nothing qs) _ q))
 
     main_by : (c : Bool) (b : p.Stmts) → bytes_eq name.text main_name ≡ c → Elsewhere c → IsMain name.text (made_function context at deletes result qs (behind_body context (with_function context o deletes result name qs) qs body) b)
-    main_by true b e h = λ q. shaped b h
-    main_by false b e h = λ q. absurd cc
+    main_by true b e h = λ w q. shaped b h
+    main_by false b e h = λ w q. absurd cc
 
-    pub main_is : (b : p.Stmts) → MainSeen ns (t.function at deletes result name qs (Some body) ∷ is) → IsMain name.text (made_function context at deletes result qs (behind_body context (with_function context o deletes result name qs) qs body) b)
-    main_is b (inl h) = main_by (bytes_eq name.text main_name) b refl h
-    main_is b (inr j) = λ q. absurd (clash (subst (λ x. place_of ns x ≡ Some j.0) (sym (same_name name.text main_name q)) j.1)) where
+    main_seen : (b : p.Stmts) → MainIsSeen ns (t.function at deletes result name qs (Some body) ∷ is) → IsMain name.text (made_function context at deletes result qs (behind_body context (with_function context o deletes result name qs) qs body) b)
+    main_seen b (inl h) = main_by (bytes_eq name.text main_name) b refl h
+    main_seen b (inr j) = λ w q. absurd (clash (subst (λ x. place_of ns x ≡ Some j.0) (sym (same_name name.text main_name q)) j.1)) where
       clash : place_of ns name.text ≡ Some j.0 → ⊥
       clash h = none is_new h where
         none : place_of ns name.text ≡ None → place_of ns name.text ≡ Some j.0 → ⊥
         none a c = cc
 
-    main_next_by : (c : Bool) → bytes_eq name.text main_name ≡ c → Elsewhere c → MainSeen (ns ++ name.text ∷ []) is
+    pub main_is : (b : p.Stmts) → MainSeen ns (t.function at deletes result name qs (Some body) ∷ is) → IsMain name.text (made_function context at deletes result qs (behind_body context (with_function context o deletes result name qs) qs body) b)
+    main_is b h = λ w. main_seen b (h w) w
+
+    main_next_by : (c : Bool) → bytes_eq name.text main_name ≡ c → Elsewhere c → MainIsSeen (ns ++ name.text ∷ []) is
     main_next_by true e h = inr (length ns, subst (λ x. place_of (ns ++ name.text ∷ []) x ≡ Some (length ns)) (same_name name.text main_name e) (place_new ns [] name.text is_new))
     main_next_by false e h = inl h
 
+    next_seen : MainIsSeen ns (t.function at deletes result name qs (Some body) ∷ is) → MainIsSeen (ns ++ name.text ∷ []) is
+    next_seen (inl h) = main_next_by (bytes_eq name.text main_name) refl h
+    next_seen (inr j) = inr (j.0, place_more ns (name.text ∷ []) main_name j.0 j.1)
+
     pub main_next : MainSeen ns (t.function at deletes result name qs (Some body) ∷ is) → MainSeen (ns ++ name.text ∷ []) is
-    main_next (inl h) = main_next_by (bytes_eq name.text main_name) refl h
-    main_next (inr j) = inr (j.0, place_more ns (name.text ∷ []) main_name j.0 j.1)
+    main_next h = λ w. next_seen (h w)
 
   without : (ns : List (List ℕ)) (a b : Made) → a.functions ≡ [] → Complete ns b → Complete ns (made_both a b)
   without ns a b e h = (h.0, h.1, subst (λ x. Paired h.0 (x ++ b.functions)) (sym e) h.2, h.3)
 
   pub complete : (is : List t.Item) (ns : List (List ℕ)) (o : Outside) → o.functions ≡ length ns → with_functions ns is ≡ context.functions → AreSeen ns o.names → ((n : List ℕ) (m : Meaning) → meaning_in (behind_items context o is).names n ≡ Some m → meaning_in last n ≡ Some m) → MainSeen ns is → Held (Complete ns) (items context o is)
-  complete [] ns o count same seen kept (inl h) = absurd cc
-  complete [] ns o count same seen kept (inr j) = ([], sym same ∙ sym (append-nil ns), tt, (j.0, subst (λ x. place_of x main_name ≡ Some j.0) same j.1))
+  complete [] ns o count same seen kept main = ([], sym same ∙ sym (append-nil ns), tt, λ w. found (main w)) where
+    found : MainIsSeen ns [] → (j : ℕ) × (place_of context.functions main_name ≡ Some j)
+    found (inl h) = absurd cc
+    found (inr j) = (j.0, subst (λ x. place_of x main_name ≡ Some j.0) same j.1)
   complete (t.struct at name fields ∷ is) ns o count same seen kept main =
       let i = t.struct at name fields in
       held_parts (AddsNone context) (Complete ns) (Complete ns) (item context o i) (items context (behind_item context o i) is) _ (struct_adds context o at name fields)
       (complete is ns (behind_item context o i) count same seen kept main) (λ a b e h. without ns a b e h)
   complete (t.global at ty name c z ∷ is) ns o count same seen kept main =
       let i = t.global at ty name c z in
-      held_front (Complete ns) (before_item context o i is) _ (held_parts (AddsNone context) (Complete ns) (Complete ns) (item context o i) (items context (behind_item context o i) is) _ (global_adds context o at ty name c z)
+      held_front (Complete ns) (before_globals context o.structs (i ∷ is)) _ (held_parts (AddsNone context) (Complete ns) (Complete ns) (item context o i) (items context (behind_item context o i) is) _ (global_adds context o at ty name c z)
       (complete is ns (behind_item context o i) count same (λ j n h. seen_item o i n (seen j n h)) kept main) (λ a b e h. without ns a b e h))
   complete (t.function at deletes result name qs None ∷ is) ns o count same seen kept main =
       let i = t.function at deletes result name qs None in

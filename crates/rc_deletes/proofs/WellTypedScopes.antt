@@ -7,8 +7,8 @@ use Rattle.rc_core.specs.Programs as p
 use Rattle.rc_deletes.specs.declared.fault.Refusal.TheVariants.{Mistyped, TooBig}
 use Rattle.rc_deletes.specs.Judged.{failing}
 use Rattle.rc_deletes.specs.Kinds.{place_of, written_type}
-use Rattle.rc_deletes.specs.Scopes.{Context, struct_names, type_names, Scope, Meaning, a_local, a_global, a_function, a_builtin, meaning_in}
-use Rattle.rc_deletes.specs.Items.{is_empty, is_defined_before, cells_of_struct, fields_rule, is_struct_option, Outside, builtins, with_name, with_function, signature_of, behind_item, behind_items, global_of, cells_of_global, cell_type, once, initial_of, value_or_zero, Made, nothing_made, head_rule, type_option, before_params, with_params, item, items, before_item}
+use Rattle.rc_deletes.specs.Scopes.{Context, struct_names, Scope, Meaning, a_local, a_global, a_function, a_builtin, meaning_in}
+use Rattle.rc_deletes.specs.Items.{is_empty, is_defined_before, cells_of_struct, fields_rule, is_struct_option, Outside, builtins, with_name, with_function, signature_of, behind_item, behind_items, global_of, cells_of_global, cell_type, once, initial_of, value_or_zero, Made, nothing_made, head_rule, type_option, before_params, with_params, item, items, before_globals}
 use Rattle.rc_deletes.specs.Statements.{stmts}
 use Rattle.rc_deletes.proofs.Held.{Held, Given, given_if, held_part, held_parts, held_ruled, held_always, held_front}
 use Rattle.rc_deletes.proofs.Naming.{same_name, own_name}
@@ -85,7 +85,7 @@ module _ (context : Context) where
   -- the globals that an item adds
   abbrev pub new_globals : t.Item → List p.Global
   new_globals (t.struct at name fields) = []
-  new_globals (t.global at ty name count c) = global_of context ty count (value_or_zero (initial_of (written_type (type_names context) ty) count c)) ∷ []
+  new_globals (t.global at ty name count c) = global_of context ty count (value_or_zero (initial_of (written_type context.types ty) count c)) ∷ []
   new_globals (t.function at deletes result name params body) = []
 
   pub adds : (o : Outside) (i : t.Item) → Held (λ (m : Made). m.globals ≡ new_globals i) (item context o i)
@@ -95,7 +95,7 @@ module _ (context : Context) where
       (λ u v h k. held_ruled (λ (m : Made). m.globals ≡ []) at (failing (nat_lt 4096 (cells_of_struct context (place_of (struct_names context) name.text))) TooBig) nothing_made (λ e. refl))
   adds o (t.global at ty name count c) =
       let i = t.global at ty name count c in
-      let initial = initial_of (written_type (type_names context) ty) count c in
+      let initial = initial_of (written_type context.types ty) count c in
       held_parts (λ (u : Unit {0}). Unit {0}) (λ (u : Unit {0}). Unit {0}) (λ (m : Made). m.globals ≡ new_globals i) (cell_type context o.structs ty) (once name (is_some (meaning_in o.names name.text))) _
       (held_always (Unit {0}) (cell_type context o.structs ty) tt) (held_always (Unit {0}) (once name (is_some (meaning_in o.names name.text))) tt)
       (λ u v h k. held_ruled (λ (m : Made). m.globals ≡ new_globals i) at (failing (is_none initial) Mistyped ++ failing (is_empty count || nat_lt 1048576 (o.cells + cells_of_global context ty count)) TooBig) (record { globals = global_of context ty count (value_or_zero initial) ∷ []; functions = [] }) (λ e. refl))
@@ -119,8 +119,8 @@ module _ (context : Context) where
   outer_item o (t.struct at name fields) gs rest h k = k
   outer_item o (t.global at ty name count c) gs rest h k =
       let i = t.global at ty name count c in
-      let d = global_of context ty count (value_or_zero (initial_of (written_type (type_names context) ty) count c)) in
-      outer_with ((gs ++ new_globals i) ++ rest) o.names name.text (a_global o.globals (written_type (type_names context) ty) count)
+      let d = global_of context ty count (value_or_zero (initial_of (written_type context.types ty) count c)) in
+      outer_with ((gs ++ new_globals i) ++ rest) o.names name.text (a_global o.globals (written_type context.types ty) count)
       (d, subst (λ x. slice_get ((gs ++ d ∷ []) ++ rest) x ≡ Some d) (sym h) (prefix_more (gs ++ d ∷ []) rest (length gs) d (at_end gs [] d)), refl, refl) k
   outer_item o (t.function at deletes result name params None) gs rest h k = outer_with _ o.names name.text (a_function (place_of context.functions name.text) (signature_of context deletes result params)) refl k
   outer_item o (t.function at deletes result name params (Some body)) gs rest h k = outer_with _ o.names name.text (a_function (place_of context.functions name.text) (signature_of context deletes result params)) refl k
@@ -131,7 +131,7 @@ module _ (context : Context) where
   pub outer_items : (is : List t.Item) (o : Outside) (gs : List p.Global) → o.globals ≡ length gs → Held (OuterAfter gs is o) (items context o is)
   outer_items [] o gs h = λ k. k
   outer_items (i ∷ is) o gs h =
-      held_front (OuterAfter gs (i ∷ is) o) (before_item context o i is) _ (held_parts (λ (m : Made). m.globals ≡ new_globals i) (OuterAfter (gs ++ new_globals i) is (behind_item context o i)) (OuterAfter gs (i ∷ is) o) (item context o i) (items context (behind_item context o i) is) _
+      held_front (OuterAfter gs (i ∷ is) o) (before_globals context o.structs (i ∷ is)) _ (held_parts (λ (m : Made). m.globals ≡ new_globals i) (OuterAfter (gs ++ new_globals i) is (behind_item context o i)) (OuterAfter gs (i ∷ is) o) (item context o i) (items context (behind_item context o i) is) _
       (adds o i) (outer_items is (behind_item context o i) (gs ++ new_globals i) (count_next o i gs h))
       (λ a b e q k.
       let same : gs ++ (a.globals ++ b.globals) ≡ (gs ++ new_globals i) ++ b.globals = ap (λ x. gs ++ (x ++ b.globals)) e ∙ sym (append_assoc gs (new_globals i) b.globals) in

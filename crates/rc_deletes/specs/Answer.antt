@@ -1,6 +1,6 @@
 -- What the rules answer of a whole text: its program, or the first refusal. What is wrong with names, types, arities and sizes
 -- comes first, then what is wrong with `main`, then where regions are deleted and what is annotated.
-use Rattle.std.specs.Prelude.{◌≡◌, ℕ, List, [], ◌∷◌, Option, Some, None, Bool, true, false, ◌&&◌}
+use Rattle.std.specs.Prelude.{◌≡◌, ℕ, List, [], ◌∷◌, Option, Some, None, Bool, true, false, ◌&&◌, if◌then◌else◌}
 use Rattle.std.specs.Str.{bytes_eq}
 use Rattle.rc_syntax.specs.declared.tree.Spot.{Spot}
 use Rattle.rc_syntax.specs.declared.tree.Base.{Base}
@@ -30,16 +30,22 @@ abbrev pub main_shape : Spot → (fits : Bool) → Option ℕ
 main_shape at true = None
 main_shape at false = Some at.line
 
--- the line of a `main` that has parameters or another result than `int`, and line 1 where none is defined
+abbrev pub is_definition_of_main : t.Item → Bool
+is_definition_of_main (t.struct at name fields) = false
+is_definition_of_main (t.global at n name count c) = false
+is_definition_of_main (t.function at deletes result name params None) = false
+is_definition_of_main (t.function at deletes result name params (Some body)) = bytes_eq name.text main_name
+
+-- the line of a function that has parameters or another result than `int`
+abbrev pub main_shape_of : t.Item → Option ℕ
+main_shape_of (t.struct at name fields) = None
+main_shape_of (t.global at n name count c) = None
+main_shape_of (t.function at deletes result name params body) = main_shape at (takes_nothing params && gives_int result)
+
+-- the line of a `main` of another shape, and line 1 where none is defined
 abbrev pub main_fault : List t.Item → Option ℕ
 main_fault [] = Some 1
-main_fault (t.struct at name fields ∷ is) = main_fault is
-main_fault (t.global at n name count c ∷ is) = main_fault is
-main_fault (t.function at deletes result name params None ∷ is) = main_fault is
-main_fault (t.function at deletes result name params (Some body) ∷ is) = elim (bytes_eq name.text main_name) [
-  | true ↦ main_shape at (takes_nothing params && gives_int result)
-  | false ↦ main_fault is
-]
+main_fault (i ∷ is) = if is_definition_of_main i then main_shape_of i else main_fault is
 
 -- a refusal of a text, with its line
 pub data Refused : Type 0 where

@@ -3,7 +3,7 @@
 use Rattle.std.specs.Prelude.{ℕ, List, [], ◌∷◌, ◌++◌, Option, Some, None, Bool, true, false, not, nat_eq, length, map, is_some, is_none, unwrap_or, option_map, ◌&&◌, ◌||◌, if◌then◌else◌}
 use Rattle.rc_syntax.specs.declared.tree.Spot.{Spot}
 use Rattle.rc_core.specs.declared.ty.Note.TheVariants.{Plain}
-use Rattle.rc_core.specs.Types.{Ty, int, region, pointer}
+use Rattle.rc_core.specs.Types.{Ty, region, pointer}
 use Rattle.rc_core.specs.Programs as p
 use Rattle.rc_core.specs.Shapes.{arguments_listed}
 use Rattle.rc_core.specs.Typing.{value_type}
@@ -15,47 +15,55 @@ use Rattle.rc_deletes.specs.declared.sort.Sort.{Sort}
 use Rattle.rc_deletes.specs.declared.sort.Sort.TheVariants.{Pointer}
 use Rattle.rc_deletes.specs.Judged.{Judged, Holds, with_part, fails, failing, ruled}
 use Rattle.rc_deletes.specs.Kinds.{sort_of, number_or}
-use Rattle.rc_deletes.specs.Scopes.{Meaning, a_local, a_global, a_function, a_builtin, Signature}
+use Rattle.rc_deletes.specs.Scopes.{Meaning, a_local, a_global, a_function, a_builtin, Signature, builtin_signature}
 use Rattle.rc_deletes.specs.Values.{Typed, fitted}
 
--- a function that is called; one that the text only declares has no number
+-- what is called: a function, which has no number where the text only declares it, or what is none
 pub data Callee : Type 0 where
   the_function : (number : Option ℕ) → Signature → Callee
   the_builtin : Builtin → Callee
+  no_function : Callee
 
 abbrev pub callee_rule : Spot → Option Meaning → Judged Callee
 callee_rule at None = fails at Unknown
-callee_rule at (Some (a_local x t)) = fails at Mistyped
-callee_rule at (Some (a_global g t count)) = fails at Mistyped
+callee_rule at (Some (a_local x t)) = Holds no_function
+callee_rule at (Some (a_global g t count)) = Holds no_function
 callee_rule at (Some (a_function number s)) = Holds (the_function number s)
 callee_rule at (Some (a_builtin b)) = Holds (the_builtin b)
 
 abbrev pub is_defined : Callee → Bool
 is_defined (the_function number s) = is_some number
 is_defined (the_builtin b) = true
+is_defined no_function = true
+
+abbrev pub is_function : Callee → Bool
+is_function (the_function number s) = true
+is_function (the_builtin b) = true
+is_function no_function = false
 
 -- a parameter takes what its type takes, that of `regionof` every pointer
 pub data Parameter : Type 0 where
   of_type : Ty → Parameter
   any_pointer : Parameter
 
+-- by the signature of a built-in function, which `regionof` alone lacks
+abbrev pub parameters_by : Option Signature → List Parameter
+parameters_by (Some s) = map of_type s.takes
+parameters_by None = any_pointer ∷ []
+
 abbrev pub parameters : Callee → List Parameter
 parameters (the_function number s) = map of_type s.takes
-parameters (the_builtin NewRegion) = []
-parameters (the_builtin NewSubregion) = of_type region ∷ []
-parameters (the_builtin DeleteRegion) = of_type region ∷ []
-parameters (the_builtin RegionOf) = any_pointer ∷ []
-parameters (the_builtin Putchar) = of_type int ∷ []
-parameters (the_builtin Getchar) = []
+parameters (the_builtin b) = parameters_by (builtin_signature b)
+parameters no_function = []
+
+abbrev pub gives_by : Option Signature → Option Ty
+gives_by (Some s) = s.gives
+gives_by None = Some region
 
 abbrev pub gives : Callee → Option Ty
 gives (the_function number s) = s.gives
-gives (the_builtin NewRegion) = Some region
-gives (the_builtin NewSubregion) = Some region
-gives (the_builtin DeleteRegion) = None
-gives (the_builtin RegionOf) = Some region
-gives (the_builtin Putchar) = Some int
-gives (the_builtin Getchar) = Some int
+gives (the_builtin b) = gives_by (builtin_signature b)
+gives no_function = None
 
 abbrev pub if_pointer : Sort → p.Expr → Option p.Expr
 if_pointer Pointer e = Some e
@@ -76,11 +84,11 @@ fitted_arguments ps [] = Some []
 fitted_arguments [] (v ∷ vs) = if is_some v.ty then fitted_arguments [] vs else None
 fitted_arguments (t ∷ ps) (v ∷ vs) = with_argument (fitted_argument t v) (fitted_arguments ps vs)
 
--- a call of a function that gives no value has none inside an expression
+-- only a function is called; and a call of one that gives no value stands in no expression
 abbrev pub call_refusals : (wanted : Bool) → Callee → Option (List p.Expr) → (count : ℕ) → List Refusal
 call_refusals wanted f es count =
     failing (not (is_defined f)) Unknown
-    ++ (failing (not (is_some es) || (wanted && is_none (gives f))) Mistyped
+    ++ (failing (not (is_function f) || (not (is_some es) || (wanted && is_none (gives f)))) Mistyped
     ++ failing (not (nat_eq (length (parameters f)) count)) Arity)
 
 abbrev pub call_rule : (wanted : Bool) → Spot → Callee → List Typed → Judged (List p.Expr)
@@ -91,7 +99,7 @@ abbrev pub first_argument : ℕ → List p.Expr → p.Expr
 first_argument line [] = p.null line
 first_argument line (e ∷ es) = e
 
--- a call whose arguments are as many as its parameters
+-- a call of a function with as many arguments as it has parameters
 abbrev pub called : ℕ → Callee → List p.Expr → p.Expr
 called line (the_function number s) es = p.call line (number_or number 0) (arguments_listed es)
 called line (the_builtin NewRegion) es = p.new_region line
@@ -100,6 +108,7 @@ called line (the_builtin DeleteRegion) es = first_argument line es
 called line (the_builtin RegionOf) es = p.region_of line (first_argument line es)
 called line (the_builtin Putchar) es = p.putchar line (first_argument line es)
 called line (the_builtin Getchar) es = p.getchar line
+called line no_function es = p.null line
 
 abbrev pub call_value : Spot → Callee → List Typed → Judged Typed
 call_value at f vs = with_part (call_rule true at f vs) (λ es. Holds (record { line = at.line; ty = option_map value_type (gives f); code = called at.line f es }))

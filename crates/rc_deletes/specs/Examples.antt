@@ -1,5 +1,5 @@
 -- Small texts, and what the rules answer of them.
-use Rattle.std.specs.Prelude.{◌≡◌, refl, ℕ, pos, List, [], ◌∷◌, Option, Some, None, true, false}
+use Rattle.std.specs.Prelude.{◌≡◌, refl, ℕ, pos, List, [], ◌∷◌, Option, Some, None, true, false, codes}
 use Rattle.rc_syntax.specs.declared.tree.Spot.{Spot}
 use Rattle.rc_syntax.specs.declared.tree.Name.{Name}
 use Rattle.rc_syntax.specs.declared.tree.Note.{Note}
@@ -17,6 +17,7 @@ use Rattle.rc_core.specs.Types.{int, unsigned, char}
 use Rattle.rc_core.specs.Programs as p
 use Rattle.rc_deletes.specs.Items.{Typed}
 use Rattle.rc_deletes.specs.Answer.{at_node, at_main, at_place, refusal}
+use Rattle.rc_deletes.specs.PlacedFaults.{annotated, not_allowed, not_whole, fault, placed_faults}
 
 abbrev at : ℕ → ℕ → Spot
 at place line = record { place = place; line = line }
@@ -70,6 +71,18 @@ never_defined = record { items = ((t.function (at 0 1) false (Some (ty (base.Int
 
 never_defined_is : refusal never_defined ≡ (Some (at_node re.Unknown 2))
 never_defined_is = refl
+
+-- int g; int main(void) { g(..); return 0; }
+abbrev calling_a_variable : t.Exprs → t.Tree
+calling_a_variable arguments = record { items = ((t.global (at 0 1) (ty (base.Int (at 0 1)) ([])) (name 1 1 (103 ∷ [])) None None) ∷ (t.function (at 3 1) false (Some (ty (base.Int (at 3 1)) ([]))) (name 4 1 (109 ∷ 97 ∷ 105 ∷ 110 ∷ [])) ([]) (Some (t.next (t.simple (at 9 1) (t.expression (t.call (name 9 1 (103 ∷ [])) arguments))) (t.next (t.return_with (at 14 2) (Some (t.number (at 15 2) 0 false))) t.done)))) ∷ []) }
+
+-- a variable is called: so the call is refused, and what is refused inside comes before it
+calling_a_variable_is : refusal (calling_a_variable t.none) ≡ (Some (at_node re.Mistyped 1))
+calling_a_variable_is = refl
+
+-- g( / x)
+unknown_inside_is : refusal (calling_a_variable (t.more (t.variable (name 11 2 (120 ∷ []))) t.none)) ≡ (Some (at_node re.Unknown 2))
+unknown_inside_is = refl
 
 -- void f(int a) {} int main(void) { f(NULL, 2); return 0; }
 abbrev types_before_number : t.Tree
@@ -143,3 +156,26 @@ shared_struct = record { items = ((t.struct (at 0 1) (name 1 1 (83 ∷ [])) ((fl
 
 shared_struct_is : refusal shared_struct ≡ (Some (at_node re.Unknown 1))
 shared_struct_is = refl
+
+inner_fault_shows : placed_faults inner_fault_alone ≡ (fault (at 8 3) not_allowed ∷ [])
+inner_fault_shows = refl
+
+not_the_whole_shows : placed_faults not_the_whole ≡ (fault (at 22 3) not_whole ∷ [])
+not_the_whole_shows = refl
+
+-- int f(int *sameregion p) { int *sameregion q; deleteregion(NULL); return 0; }
+abbrev three_on_a_line : t.Tree
+three_on_a_line = record { items = ((t.function (at 0 1) false (Some (ty (base.Int (at 0 1)) ([]))) (name 1 1 (102 ∷ [])) ((par (at 3 1) (ty (base.Int (at 3 1)) (written.SameRegion ∷ [])) (Some (name 6 1 (112 ∷ [])))) ∷ []) (Some (t.next (t.local (loc (at 10 1) (ty (base.Int (at 9 1)) (written.SameRegion ∷ [])) (name 12 1 (113 ∷ [])) None)) (t.next (t.simple (at 14 1) (t.expression (t.call (name 14 1 (codes "deleteregion")) (t.more (t.null (at 16 1)) t.none)))) (t.next (t.return_with (at 19 1) (Some (t.number (at 20 1) 0 false))) t.done))))) ∷ []) }
+
+three_on_a_line_show : placed_faults three_on_a_line ≡ (fault (at 3 1) annotated ∷ fault (at 10 1) annotated ∷ fault (at 14 1) not_allowed ∷ [])
+three_on_a_line_show = refl
+
+-- int g; int f(void) deletes { return 1; } int main(void) deletes { int x = f(); x = f(); g = f(); int g; g = f(); return f() + 1; }
+abbrev given_to_locals : t.Tree
+given_to_locals = record { items = ((t.global (at 1 1) (ty (base.Int (at 0 1)) ([])) (name 1 1 (103 ∷ [])) None None) ∷ (t.function (at 3 1) true (Some (ty (base.Int (at 3 1)) ([]))) (name 4 1 (102 ∷ [])) ([]) (Some (t.next (t.return_with (at 10 1) (Some (t.number (at 11 1) 1 false))) t.done))) ∷ (t.function (at 14 1) true (Some (ty (base.Int (at 14 1)) ([]))) (name 15 1 (codes "main")) ([]) (Some (t.next (t.local (loc (at 22 1) (ty (base.Int (at 21 1)) ([])) (name 22 1 (120 ∷ [])) (Some (t.call (name 24 1 (102 ∷ [])) t.none)))) (t.next (t.simple (at 28 1) (t.assign (at 28 1) (t.variable (name 28 1 (120 ∷ []))) (t.call (name 30 1 (102 ∷ [])) t.none))) (t.next (t.simple (at 34 1) (t.assign (at 34 1) (t.variable (name 34 1 (103 ∷ []))) (t.call (name 36 1 (102 ∷ [])) t.none))) (t.next (t.local (loc (at 41 1) (ty (base.Int (at 40 1)) ([])) (name 41 1 (103 ∷ [])) None)) (t.next (t.simple (at 43 1) (t.assign (at 43 1) (t.variable (name 43 1 (103 ∷ []))) (t.call (name 45 1 (102 ∷ [])) t.none))) (t.next (t.return_with (at 49 1) (Some (t.binary (at 50 1) bi.Add (t.call (name 50 1 (102 ∷ [])) t.none) (t.number (at 54 1) 1 false)))) t.done)))))))) ∷ []) }
+
+given_to_locals_show : placed_faults given_to_locals ≡ (fault (at 36 1) not_whole ∷ fault (at 50 1) not_whole ∷ [])
+given_to_locals_show = refl
+
+given_to_locals_is : refusal given_to_locals ≡ (Some (at_place (de.DeletesPlace 1)))
+given_to_locals_is = refl

@@ -1,5 +1,5 @@
 -- The rules of expressions: one equation for each node. The strings of a text are numbered in its order, so each node is
--- judged behind the strings that stand before it.
+-- judged after the strings that stand before it.
 use Rattle.std.specs.Prelude.{ℕ, pos, negsuc, List, [], ◌∷◌, ◌++◌, Option, Some, None, Bool, true, false, length, slice_get, ◌+◌, if◌then◌else◌}
 use Rattle.std.specs.Str.{bytes_eq}
 use Rattle.rc_syntax.specs.declared.tree.Spot.{Spot}
@@ -21,7 +21,7 @@ use Rattle.rc_deletes.specs.declared.sort.Sort.{Sort}
 use Rattle.rc_deletes.specs.declared.sort.Sort.TheVariants.{Number}
 use Rattle.rc_deletes.specs.Judged.{Judged, Holds, with_part, with_parts, both, fails}
 use Rattle.rc_deletes.specs.Kinds.{place_of, written_type, sort_of}
-use Rattle.rc_deletes.specs.Scopes.{Context, Shape, struct_names, type_names, Scope, Meaning, a_local, a_global, a_function, a_builtin, meaning_in}
+use Rattle.rc_deletes.specs.Scopes.{Context, Shape, struct_names, Scope, Meaning, a_local, a_global, a_function, a_builtin, meaning_in}
 use Rattle.rc_deletes.specs.Values.{Typed, Meant, a_value, a_variable, a_place, an_array, valued, as_value, spot_of, fitted, promoted_value}
 use Rattle.rc_deletes.specs.Operators.{result, meaning_of_value, binary_rule, conditional_rule, unary_rule, address_rule, cast_type, cast_rule}
 use Rattle.rc_deletes.specs.Calls.{callee_rule, call_value, allocation, array_allocation}
@@ -77,7 +77,7 @@ base_rule context (base.Struct at name) = with_part (found name.spot (place_of (
 base_rule context b = Holds tt
 
 abbrev pub type_rule : Context → t.TypeName → Judged Ty
-type_rule context n = with_part (base_rule context n.base) (λ u. Holds (written_type (type_names context) n))
+type_rule context n = with_part (base_rule context n.base) (λ u. Holds (written_type context.types n))
 
 -- a field by its name: its number, and what it is
 abbrev pub next_field : Option (ℕ × p.Field) → Option (ℕ × p.Field)
@@ -90,7 +90,7 @@ field_named (f ∷ fs) name = if bytes_eq f.0 name then Some (0, f.1) else next_
 
 abbrev pub fields_at : Option Shape → List (List ℕ × p.Field)
 fields_at None = []
-fields_at (Some s) = s.fields
+fields_at (Some s) = s
 
 -- a path that goes on inward
 abbrev pub path_then : p.Path → p.Path → p.Path

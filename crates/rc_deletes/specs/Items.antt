@@ -1,5 +1,5 @@
 -- The rules of what stands outside of functions, and the program of a whole text.
-use Rattle.std.specs.Prelude.{◌≡◌, ◌⊎◌, ℕ, suc, max, flat_map, ◌+◌, ℤ, pos, neg_ℤ, List, [], ◌∷◌, ◌++◌, Option, Some, None, Bool, true, false, not, ◌&&◌, ◌||◌, nat_eq, nat_lt, length, map, option_map, is_some, is_none, if◌then◌else◌}
+use Rattle.std.specs.Prelude.{◌≡◌, ◌⊎◌, ℕ, suc, max, flat_map, ◌+◌, ℤ, pos, neg_ℤ, List, [], ◌∷◌, ◌++◌, Option, Some, None, Bool, true, false, not, ◌&&◌, ◌||◌, nat_eq, nat_lt, length, map, option_map, is_some, is_none, codes, if◌then◌else◌}
 use Rattle.std.specs.Str.{bytes_eq}
 use Rattle.rc_syntax.specs.declared.tree.Spot.{Spot}
 use Rattle.rc_syntax.specs.declared.tree.Name.{Name}
@@ -22,7 +22,7 @@ use Rattle.rc_deletes.specs.declared.sort.Sort.TheVariants.{Number, Region, Poin
 use Rattle.rc_deletes.specs.declared.builtin.Builtin.TheVariants.{NewRegion, NewSubregion, DeleteRegion, RegionOf, Putchar, Getchar}
 use Rattle.rc_deletes.specs.Judged.{Judged, Holds, with_part, with_parts, in_front, both, faults, fails, failing, ruled}
 use Rattle.rc_deletes.specs.Kinds.{place_of, number_or, same_type, written_type, sort_of_type}
-use Rattle.rc_deletes.specs.Scopes.{Context, Shape, struct_names, type_names, structs_in, Scope, Meaning, a_local, a_global, a_function, a_builtin, Signature, builtin_signature, meaning_in}
+use Rattle.rc_deletes.specs.Scopes.{Context, Shape, struct_names, structs_in, Scope, Meaning, a_local, a_global, a_function, a_builtin, Signature, builtin_signature, meaning_in}
 use Rattle.rc_deletes.specs.Expressions.{base_rule}
 use Rattle.rc_deletes.specs.Statements.{Here, with_local, new_name, behind_stmts, stmts}
 
@@ -36,15 +36,18 @@ Definition = List ℕ × List t.Field
 abbrev pub names_of : List Definition → List (List ℕ)
 names_of = map (λ d. d.0)
 
--- the definitions behind one more: the first of a name counts
+-- the definitions after one more: the first of a name counts
 abbrev pub with_definition : List Definition → Definition → List Definition
 with_definition ds d = if is_among (names_of ds) d.0 then ds else ds ++ d ∷ []
 
+abbrev pub with_struct : List Definition → t.Item → List Definition
+with_struct ds (t.struct at name fields) = with_definition ds (name.text, fields)
+with_struct ds (t.global at n name count c) = ds
+with_struct ds (t.function at deletes result name params body) = ds
+
 abbrev pub with_structs : List Definition → List t.Item → List Definition
 with_structs ds [] = ds
-with_structs ds (t.struct at name fields ∷ is) = with_structs (with_definition ds (name.text, fields)) is
-with_structs ds (t.global at n name count c ∷ is) = with_structs ds is
-with_structs ds (t.function at deletes result name params body ∷ is) = with_structs ds is
+with_structs ds (i ∷ is) = with_structs (with_struct ds i) is
 
 abbrev pub struct_definitions : List t.Item → List Definition
 struct_definitions items = with_structs [] items
@@ -52,21 +55,30 @@ struct_definitions items = with_structs [] items
 abbrev pub with_new : List (List ℕ) → List ℕ → List (List ℕ)
 with_new names name = if is_among names name then names else names ++ name ∷ []
 
+-- names after others, each once
+abbrev pub with_all : List (List ℕ) → List (List ℕ) → List (List ℕ)
+with_all names [] = names
+with_all names (m ∷ ms) = with_all (with_new names m) ms
+
+-- the names of the functions that are defined, with that of one more item
+abbrev pub with_function_name : List (List ℕ) → t.Item → List (List ℕ)
+with_function_name names (t.struct at name fields) = names
+with_function_name names (t.global at n name count c) = names
+with_function_name names (t.function at deletes result name params None) = names
+with_function_name names (t.function at deletes result name params (Some body)) = with_new names name.text
+
 abbrev pub with_functions : List (List ℕ) → List t.Item → List (List ℕ)
 with_functions names [] = names
-with_functions names (t.struct at name fields ∷ is) = with_functions names is
-with_functions names (t.global at n name count c ∷ is) = with_functions names is
-with_functions names (t.function at deletes result name params None ∷ is) = with_functions names is
-with_functions names (t.function at deletes result name params (Some body) ∷ is) = with_functions (with_new names name.text) is
+with_functions names (i ∷ is) = with_functions (with_function_name names i) is
 
 abbrev pub function_names : List t.Item → List (List ℕ)
 function_names items = with_functions [] items
 
-abbrev pub field_of : List (List ℕ) → t.Field → List ℕ × p.Field
-field_of structs f = (f.name.text, record { ty = written_type structs f.type_name; count = f.length })
+abbrev pub field_of : (types : List (List ℕ)) → t.Field → List ℕ × p.Field
+field_of types f = (f.name.text, record { ty = written_type types f.type_name; count = f.length })
 
-abbrev pub shape_of : List (List ℕ) → Definition → Shape
-shape_of structs d = record { name = d.0; fields = map (field_of structs) d.1 }
+abbrev pub shape_of : (types : List (List ℕ)) → Definition → Shape
+shape_of types d = map (field_of types) d.1
 
 -- the struct that a type names
 abbrev pub named_by : Base → List (List ℕ)
@@ -87,31 +99,26 @@ mentioned (t.struct at name fields ∷ is) = flat_map (λ f. named_in f.type_nam
 mentioned (t.global at n name count c ∷ is) = mentioned is
 mentioned (t.function at deletes result name params body ∷ is) = named_in_option result ++ (flat_map (λ q. named_in q.type_name) params ++ mentioned is)
 
--- those of them that are not among the defined ones, each once
-abbrev pub with_others : (defined others : List (List ℕ)) → List (List ℕ) → List (List ℕ)
-with_others defined others [] = others
-with_others defined others (name ∷ names) = with_others defined (if is_among (defined ++ others) name then others else others ++ name ∷ []) names
-
-abbrev pub other_names : List t.Item → List (List ℕ)
-other_names items = with_others (names_of (struct_definitions items)) [] (mentioned items)
+-- the names by which the types of a text are told apart
+abbrev pub types_in : List t.Item → List (List ℕ)
+types_in items = with_all (names_of (struct_definitions items)) (mentioned items)
 
 -- what the whole text defines
 abbrev pub context_of : List t.Item → Context
 context_of items = record {
-  shapes = map (shape_of (names_of (struct_definitions items) ++ other_names items)) (struct_definitions items);
-  others = other_names items;
+  shapes = map (shape_of (types_in items)) (struct_definitions items);
+  types = types_in items;
   functions = function_names items;
 }
 
--- "newregion", "newsubregion", "deleteregion", "regionof", "putchar", "getchar"
 abbrev pub builtins : Scope
 builtins =
-    (110 ∷ 101 ∷ 119 ∷ 114 ∷ 101 ∷ 103 ∷ 105 ∷ 111 ∷ 110 ∷ [], a_builtin NewRegion)
-    ∷ (110 ∷ 101 ∷ 119 ∷ 115 ∷ 117 ∷ 98 ∷ 114 ∷ 101 ∷ 103 ∷ 105 ∷ 111 ∷ 110 ∷ [], a_builtin NewSubregion)
-    ∷ (100 ∷ 101 ∷ 108 ∷ 101 ∷ 116 ∷ 101 ∷ 114 ∷ 101 ∷ 103 ∷ 105 ∷ 111 ∷ 110 ∷ [], a_builtin DeleteRegion)
-    ∷ (114 ∷ 101 ∷ 103 ∷ 105 ∷ 111 ∷ 110 ∷ 111 ∷ 102 ∷ [], a_builtin RegionOf)
-    ∷ (112 ∷ 117 ∷ 116 ∷ 99 ∷ 104 ∷ 97 ∷ 114 ∷ [], a_builtin Putchar)
-    ∷ (103 ∷ 101 ∷ 116 ∷ 99 ∷ 104 ∷ 97 ∷ 114 ∷ [], a_builtin Getchar) ∷ []
+    (codes "newregion", a_builtin NewRegion)
+    ∷ (codes "newsubregion", a_builtin NewSubregion)
+    ∷ (codes "deleteregion", a_builtin DeleteRegion)
+    ∷ (codes "regionof", a_builtin RegionOf)
+    ∷ (codes "putchar", a_builtin Putchar)
+    ∷ (codes "getchar", a_builtin Getchar) ∷ []
 
 -- where an item stands: the names so far, how many structs, globals and functions were defined, how many cells the globals
 -- have, and the strings
@@ -130,7 +137,7 @@ at_the_start = record { names = builtins; structs = 0; globals = 0; cells = 0; f
 abbrev pub with_name : Scope → List ℕ → Meaning → Scope
 with_name names name meaning = if is_some (meaning_in names name) then names else (name, meaning) ∷ names
 
--- the number of definitions, behind that of the one with this number
+-- the number of definitions, after that of the one with this number
 abbrev pub behind_definition : ℕ → Option ℕ → ℕ
 behind_definition n None = n
 behind_definition n (Some k) = max n (suc k)
@@ -141,17 +148,17 @@ is_defined_before n None = false
 is_defined_before n (Some k) = nat_lt k n
 
 abbrev pub global_of : Context → t.TypeName → Option ℕ → (initial : ℤ) → p.Global
-global_of context n count initial = record { ty = written_type (type_names context) n; count = count; initial = initial }
+global_of context n count initial = record { ty = written_type context.types n; count = count; initial = initial }
 
 abbrev pub cells_of_global : Context → t.TypeName → Option ℕ → ℕ
 cells_of_global context n count = global_size (structs_in context) (global_of context n count (pos 0))
 
 abbrev pub type_option : Context → Option t.TypeName → Option Ty
-type_option context n = option_map (written_type (type_names context)) n
+type_option context n = option_map (written_type context.types) n
 
 abbrev pub signature_of : Context → Bool → Option t.TypeName → List t.Param → Signature
 signature_of context deletes result params = record {
-  takes = map (λ q. written_type (type_names context) q.type_name) params;
+  takes = map (λ q. written_type context.types q.type_name) params;
   gives = type_option context result;
   deletes = deletes;
 }
@@ -163,8 +170,8 @@ with_function context o deletes result name params =
 -- a parameter is a local, which may have no name
 abbrev pub with_param : Context → Here → t.Param → Here
 with_param context here q = elim q.name [
-  | None ↦ record here { locals = here.locals ++ written_type (type_names context) q.type_name ∷ [] }
-  | Some name ↦ with_local here (written_type (type_names context) q.type_name) name.text
+  | None ↦ record here { locals = here.locals ++ written_type context.types q.type_name ∷ [] }
+  | Some name ↦ with_local here (written_type context.types q.type_name) name.text
 ]
 
 abbrev pub with_params : Context → Here → List t.Param → Here
@@ -183,7 +190,7 @@ behind_body context o params body = behind_stmts context (with_params context (b
 abbrev pub behind_item : Context → Outside → t.Item → Outside
 behind_item context o (t.struct at name fields) = record o { structs = behind_definition o.structs (place_of (struct_names context) name.text) }
 behind_item context o (t.global at n name count c) = record o {
-  names = with_name o.names name.text (a_global o.globals (written_type (type_names context) n) count);
+  names = with_name o.names name.text (a_global o.globals (written_type context.types n) count);
   globals = suc o.globals;
   cells = o.cells + cells_of_global context n count;
 }
@@ -208,8 +215,8 @@ abbrev pub same_struct : Base → Base → Bool
 same_struct (base.Struct at name) (base.Struct other again) = nat_eq name.spot.place again.spot.place && bytes_eq name.text again.text
 same_struct a b = false
 
--- the name of a struct that several declarators share is read before the first of them: a declarator behind this one that
--- shares it has no star
+-- the name of a struct that several declarators share is read once, before the first of them, and as that of a struct by
+-- value where one of them has no star
 abbrev pub field_by_value : Base → List t.Field → Bool
 field_by_value n [] = false
 field_by_value n (f ∷ fs) = same_struct n f.type_name.base && (is_plain f.type_name || field_by_value n fs)
@@ -221,6 +228,16 @@ global_by_value n is = false
 abbrev pub shared_rule : Context → (structs : ℕ) → Base → (by_value : Bool) → Judged (Unit {0})
 shared_rule context structs n false = Holds tt
 shared_rule context structs n true = value_base context structs n
+
+-- what is read before the first of these fields
+abbrev pub before_fields : Context → (structs : ℕ) → List t.Field → Judged (Unit {0})
+before_fields context structs [] = Holds tt
+before_fields context structs (f ∷ fs) = shared_rule context structs f.type_name.base (field_by_value f.type_name.base fs)
+
+-- what is read before the first of these items
+abbrev pub before_globals : Context → (structs : ℕ) → List t.Item → Judged (Unit {0})
+before_globals context structs (t.global at n name count c ∷ is) = shared_rule context structs n.base (global_by_value n.base is)
+before_globals context structs is = Holds tt
 
 abbrev pub is_empty : Option ℕ → Bool
 is_empty None = false
@@ -236,7 +253,7 @@ field_rule context structs earlier f = with_parts (cell_type context structs f.t
 abbrev pub fields_rule : Context → (structs : ℕ) → (earlier : List (List ℕ)) → List t.Field → Judged (Unit {0})
 fields_rule context structs earlier [] = Holds tt
 fields_rule context structs earlier (f ∷ fs) =
-    in_front (shared_rule context structs f.type_name.base (field_by_value f.type_name.base fs))
+    in_front (before_fields context structs (f ∷ fs))
     (with_parts (field_rule context structs earlier f) (fields_rule context structs (earlier ++ f.name.text ∷ []) fs) (λ u v. Holds tt))
 
 abbrev pub cells_of_struct : Context → Option ℕ → ℕ
@@ -325,7 +342,7 @@ param_name here (Some name) = new_name here.first here.names name
 
 abbrev pub param_rule : Context → (has_body : Bool) → Here → t.Param → Judged (Unit {0})
 param_rule context has_body here q = with_parts (base_rule context q.type_name.base) (param_name here q.name)
-    (λ u v. ruled q.spot (failing (is_struct (written_type (type_names context) q.type_name) || (has_body && is_none q.name)) Mistyped) tt)
+    (λ u v. ruled q.spot (failing (is_struct (written_type context.types q.type_name) || (has_body && is_none q.name)) Mistyped) tt)
 
 abbrev pub params_rule : Context → (has_body : Bool) → Here → List t.Param → Judged (Unit {0})
 params_rule context has_body here [] = Holds tt
@@ -359,7 +376,7 @@ item context o (t.struct at name fields) =
     (λ u v. ruled at (failing (nat_lt 4096 (cells_of_struct context (place_of (struct_names context) name.text))) TooBig) nothing_made)
 item context o (t.global at n name count c) =
     with_parts (cell_type context o.structs n) (once name (is_some (meaning_in o.names name.text)))
-    (λ u v. global_made context at n count (o.cells + cells_of_global context n count) (initial_of (written_type (type_names context) n) count c))
+    (λ u v. global_made context at n count (o.cells + cells_of_global context n count) (initial_of (written_type context.types n) count c))
 item context o (t.function at deletes result name params None) =
     with_part (head_rule context o false deletes result name params)
     (λ u. ruled at (failing (is_struct_option (type_option context result)) Mistyped) nothing_made)
@@ -369,21 +386,16 @@ item context o (t.function at deletes result name params (Some body)) =
     (stmts context (type_option context result) false (with_params context (before_params own) params) body)
     (λ u b. function_made context at deletes (type_option context result) params (behind_body context own params body) b)
 
-abbrev pub before_item : Context → Outside → t.Item → List t.Item → Judged (Unit {0})
-before_item context o (t.global at n name count c) is = shared_rule context o.structs n.base (global_by_value n.base is)
-before_item context o i is = Holds tt
-
 abbrev pub items : Context → Outside → List t.Item → Judged Made
 items context o [] = Holds nothing_made
-items context o (i ∷ is) = in_front (before_item context o i is) (with_parts (item context o i) (items context (behind_item context o i) is) (λ a b. Holds (made_both a b)))
+items context o (i ∷ is) = in_front (before_globals context o.structs (i ∷ is)) (with_parts (item context o i) (items context (behind_item context o i) is) (λ a b. Holds (made_both a b)))
 
 abbrev pub behind_items : Context → Outside → List t.Item → Outside
 behind_items context o [] = o
 behind_items context o (i ∷ is) = behind_items context (behind_item context o i) is
 
--- "main"
 abbrev pub main_name : List ℕ
-main_name = 109 ∷ 97 ∷ 105 ∷ 110 ∷ []
+main_name = codes "main"
 
 abbrev pub program_of : List t.Item → Made → p.Program
 program_of is made = record {
@@ -406,6 +418,6 @@ abbrev pub IsAmong : Fault → List Fault → Type 0
 IsAmong f [] = ⊥
 IsAmong f (g ∷ gs) = (g ≡ f) ⊎ IsAmong f gs
 
--- the rule behind a refusal fails at a node, and inside that node none does
+-- the rule of a refusal fails at a node, and inside that node none does
 abbrev pub Violation : t.Tree → Spot → Refusal → Type 0
 Violation tree at refusal = IsAmong (record { at = at; refusal = refusal }) (faults (judged tree))

@@ -1,6 +1,6 @@
 -- Types as the rules look at them: their sort, when two are equal, and what the text writes. Structs are numbered in the
--- order in which the text first defines them. Behind them stand those that are defined nowhere and that a field, a result or
--- a parameter names. Each other name has a number of its own past all of those.
+-- order in which the text first defines them. After them stand those that are defined nowhere and that a field, a result or a
+-- parameter names. Each other name has a number of its own past all of those.
 use Rattle.std.specs.Prelude.{ℕ, suc, ◌+◌, ◌*◌, List, [], ◌∷◌, Option, Some, None, Bool, true, false, ◌&&◌, nat_eq, position, length}
 use Rattle.std.specs.Str.{bytes_eq}
 use Rattle.rc_syntax.specs.declared.tree.Note.{Note as WrittenNote}
@@ -69,8 +69,8 @@ abbrev pub number_or : Option ℕ → ℕ → ℕ
 number_or None n = n
 number_or (Some k) n = k
 
-abbrev pub struct_number : List (List ℕ) → List ℕ → ℕ
-struct_number structs name = number_or (place_of structs name) (length structs + spelled name)
+abbrev pub struct_number : (types : List (List ℕ)) → List ℕ → ℕ
+struct_number types name = number_or (place_of types name) (length types + spelled name)
 
 abbrev pub note_of : WrittenNote → Note
 note_of written.Plain = Plain
@@ -78,17 +78,17 @@ note_of written.SameRegion = SameRegion
 note_of written.ParentPtr = ParentPtr
 note_of written.Traditional = Traditional
 
-abbrev pub base_type : List (List ℕ) → Base → Ty
-base_type structs (base.Int at) = int
-base_type structs (base.Unsigned at) = unsigned
-base_type structs (base.Char at) = char
-base_type structs (base.Region at) = region
-base_type structs (base.Struct at name) = struct (struct_number structs name.text)
+abbrev pub base_type : (types : List (List ℕ)) → Base → Ty
+base_type types (base.Int at) = int
+base_type types (base.Unsigned at) = unsigned
+base_type types (base.Char at) = char
+base_type types (base.Region at) = region
+base_type types (base.Struct at name) = struct (struct_number types name.text)
 
 -- the first star stands nearest to the base
 abbrev pub starred : Ty → List WrittenNote → Ty
 starred t [] = t
 starred t (note ∷ notes) = starred (pointer (note_of note) t) notes
 
-abbrev pub written_type : List (List ℕ) → TypeName → Ty
-written_type structs n = starred (base_type structs n.base) n.stars
+abbrev pub written_type : (types : List (List ℕ)) → TypeName → Ty
+written_type types n = starred (base_type types n.base) n.stars

@@ -12,7 +12,7 @@ use Rattle.rc_deletes.specs.declared.deletes.DeletesFault.{DeletesFault}
 use Rattle.rc_deletes.specs.declared.deletes.DeletesFault.TheVariants.{AnnotationPlace, NotDeletes, DeletesPlace}
 
 -- what is inside counts before the own fault
-abbrev pub or_own : List DeletesFault → List DeletesFault → List DeletesFault
+abbrev pub or_own : {A : Type 0} → List A → List A → List A
 or_own [] own = own
 or_own (f ∷ fs) own = f ∷ fs
 
@@ -29,7 +29,7 @@ abbrev pub function_deletes : Option p.Function → Bool
 function_deletes None = false
 function_deletes (Some f) = f.deletes
 
-abbrev pub where_deleting : Bool → List DeletesFault → List DeletesFault
+abbrev pub where_deleting : {A : Type 0} → Bool → List A → List A
 where_deleting true fs = fs
 where_deleting false fs = []
 

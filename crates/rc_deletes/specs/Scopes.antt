@@ -1,5 +1,5 @@
 -- What names stand for.
-use Rattle.std.specs.Prelude.{ℕ, List, [], ◌∷◌, ◌++◌, Option, Some, None, Bool, true, false, map, if◌then◌else◌}
+use Rattle.std.specs.Prelude.{ℕ, List, [], ◌∷◌, Option, Some, None, Bool, true, false, map, take, length, if◌then◌else◌}
 use Rattle.std.specs.Str.{bytes_eq}
 use Rattle.rc_core.specs.Types.{Ty, int, region}
 use Rattle.rc_core.specs.Programs.{Field, Struct}
@@ -27,27 +27,24 @@ abbrev pub meaning_in : Scope → List ℕ → Option Meaning
 meaning_in [] name = None
 meaning_in (known ∷ rest) name = if bytes_eq known.0 name then Some known.1 else meaning_in rest name
 
--- a struct's name and its fields, each with its name
-pub record Shape : Type 0 where
-  pub name : List ℕ
-  pub fields : List (List ℕ × Field)
+-- the fields of a struct, each with its name
+abbrev pub Shape : Type 0
+Shape = List (List ℕ × Field)
 
--- what the whole text defines: its structs, and the names of its functions, each name once; and the structs that are defined
--- nowhere and that a field, a result or a parameter names
+-- what the whole text defines: its structs, and the names of its functions, each once. The types are the names by which types
+-- are told apart: those of the structs that are defined, and after them each other one that a field, a result or a parameter
+-- names
 pub record Context : Type 0 where
   pub shapes : List Shape
-  pub others : List (List ℕ)
+  pub types : List (List ℕ)
   pub functions : List (List ℕ)
 
+-- the names of the structs that are defined
 abbrev pub struct_names : Context → List (List ℕ)
-struct_names context = map (λ s. s.name) context.shapes
-
--- the names by which types are told apart, each with its number
-abbrev pub type_names : Context → List (List ℕ)
-type_names context = struct_names context ++ context.others
+struct_names context = take (length context.shapes) context.types
 
 abbrev pub fields_in : Shape → Struct
-fields_in s = map (λ f. f.1) s.fields
+fields_in s = map (λ f. f.1) s
 
 abbrev pub structs_in : Context → List Struct
 structs_in context = map fields_in context.shapes

@@ -15,7 +15,7 @@ use Rattle.rc_core.specs.Layout.{size}
 use Rattle.rc_deletes.specs.declared.fault.Refusal.TheVariants.{Twice, Mistyped}
 use Rattle.rc_deletes.specs.Judged.{Judged, Holds, with_part, with_parts, both, fails, fitting}
 use Rattle.rc_deletes.specs.Kinds.{written_type}
-use Rattle.rc_deletes.specs.Scopes.{Context, struct_names, type_names, structs_in, Scope, Meaning, a_local, meaning_in}
+use Rattle.rc_deletes.specs.Scopes.{Context, structs_in, Scope, Meaning, a_local, meaning_in}
 use Rattle.rc_deletes.specs.Values.{Typed, Meant, a_variable, a_place, typed, as_value, spot_of, fitted, condition_rule}
 use Rattle.rc_deletes.specs.Operators.{result, change_of, changed}
 use Rattle.rc_deletes.specs.Calls.{callee_rule, call_statement}
@@ -33,7 +33,7 @@ pub record Here : Type 0 where
 abbrev pub inside : Here → Here
 inside here = record here { first = length here.locals }
 
--- behind a scope that ends there
+-- after a scope that ends there
 abbrev pub outside : Here → Here → Here
 outside here end = record here { locals = end.locals; strings = end.strings }
 
@@ -71,7 +71,7 @@ abbrev pub with_local : Here → Ty → List ℕ → Here
 with_local here t name = record here { names = (name, a_local (length here.locals) t) ∷ here.names; locals = here.locals ++ t ∷ [] }
 
 abbrev pub local_type : Context → t.Local → Ty
-local_type context l = written_type (type_names context) l.type_name
+local_type context l = written_type context.types l.type_name
 
 -- what a declared name stands for holds from its declarator on
 abbrev pub declared : Context → Here → t.Local → Here
@@ -188,9 +188,13 @@ module _ (context : Context) (names : Scope) where
   condition_option before None = Holds None
   condition_option before (Some e) = with_part (condition before e) (λ c. Holds (Some c))
 
+  abbrev pub value_alone : (before : List (List ℕ)) → t.Expr → Judged p.Stmt
+  value_alone before e = with_part (value context names before e) (alone_rule (spot_of e))
+
+  -- an expression as a statement: a call need give no value
   abbrev pub expression_alone : (before : List (List ℕ)) → t.Expr → Judged p.Stmt
   expression_alone before (t.call name args) = with_parts (callee_rule name.spot (meaning_in names name.text)) (values context names before args) (call_statement name.spot)
-  expression_alone before e = with_part (value context names before e) (alone_rule (spot_of e))
+  expression_alone before e = value_alone before e
 
   -- what a `simple` is
   abbrev pub simple : (before : List (List ℕ)) → t.Simple → Judged p.Stmt
@@ -221,6 +225,10 @@ module _ (context : Context) where
   for_start here (t.simply s) = simple context here.names here.strings s
   for_start here (t.locals ls) = with_part (locals here ls) (λ body. Holds (p.block body))
 
+-- `break` and `continue` stand in a loop
+abbrev pub in_a_loop : (loop : Bool) → Spot → p.Stmt → Judged p.Stmt
+in_a_loop loop at s = if loop then Holds s else fails at Mistyped
+
 -- in a function with this result, in a loop or not
 module _ (context : Context) (gives : Option Ty) where
   abbrev mutual
@@ -240,8 +248,8 @@ module _ (context : Context) (gives : Option Ty) where
         let three = behind_option two c in
         with_parts (both (for_start context one start) (condition_option context two.names two.strings c)) (both (simple_option context three.names three.strings next) (stmt true (behind_simple_option three next) a))
         (λ head rest. Holds (p.for at.line head.0 head.1 rest.0 rest.1))
-    stmt loop here (t.break_loop at) = if loop then Holds (p.break at.line) else fails at Mistyped
-    stmt loop here (t.continue_loop at) = if loop then Holds (p.continue at.line) else fails at Mistyped
+    stmt loop here (t.break_loop at) = in_a_loop loop at (p.break at.line)
+    stmt loop here (t.continue_loop at) = in_a_loop loop at (p.continue at.line)
     stmt loop here (t.return_with at e) = with_part (value_option context here.names here.strings e) (λ v. fitting at (returned at.line gives v))
 
     pub stmts : (loop : Bool) → Here → t.Stmts → Judged p.Stmts

@@ -4,7 +4,7 @@ ghost use Rattle.std.specs.Prelude.{◌≡◌, [], ◌∷◌, ◌++◌, List, �
 ghost use Rattle.rc_syntax.specs.Shape as written;
 ghost use Rattle.rc_core.specs.Programs as p;
 ghost use Rattle.rc_core.specs.Shapes as program;
-ghost use Rattle.rc_deletes.specs.First.{first};
+ghost use Rattle.rc_deletes.specs.First.{first, clear};
 ghost use Rattle.rc_deletes.specs.Places as rule;
 
 use crate::deletes::DeletesFault;
@@ -24,22 +24,29 @@ fn deletes_regions(functions: &[Function], function: u32) -> bool
     }
 }
 
-/// A call of a function that is the whole of its place, if it is refused.
+/// A deletion that is the whole of its place.
+fn deletion(line: u32, deletes: bool) -> Result<(), DeletesFault>
+    ensures { result ≡ clear (rule.in_place deletes line) }
+{
+    if deletes {
+        return Ok(());
+    }
+    Err(DeletesFault::NotDeletes(line))
+}
+
+/// A call of a function that is the whole of its place.
 fn call_in_place(
     functions: &[Function],
     deletes: bool,
     line: u32,
     function: u32,
-) -> Option<DeletesFault>
-    ensures { result ≡ first (rule.where_deleting (rule.deletes_regions (map program.function_of functions.now) function) (rule.in_place deletes line)) }
+) -> Result<(), DeletesFault>
+    ensures { result ≡ clear (rule.where_deleting (rule.deletes_regions (map program.function_of functions.now) function) (rule.in_place deletes line)) }
 {
-    if !deletes_regions(functions, function) {
-        return None;
+    if deletes_regions(functions, function) {
+        return deletion(line, deletes);
     }
-    if deletes {
-        return None;
-    }
-    Some(DeletesFault::NotDeletes(line))
+    Ok(())
 }
 
 fn call_out_of_place(
@@ -47,228 +54,167 @@ fn call_out_of_place(
     deletes: bool,
     line: u32,
     function: u32,
-) -> Option<DeletesFault>
-    ensures { result ≡ first (rule.where_deleting (rule.deletes_regions (map program.function_of functions.now) function) (rule.out_of_place deletes line)) }
+) -> Result<(), DeletesFault>
+    ensures { result ≡ clear (rule.where_deleting (rule.deletes_regions (map program.function_of functions.now) function) (rule.out_of_place deletes line)) }
 {
     if !deletes_regions(functions, function) {
-        return None;
+        return Ok(());
     }
     if deletes {
-        return Some(DeletesFault::DeletesPlace(line));
+        return Err(DeletesFault::DeletesPlace(line));
     }
-    Some(DeletesFault::NotDeletes(line))
+    Err(DeletesFault::NotDeletes(line))
 }
 
-/// The first call in a value, where none may stand.
+/// A value in which no call may delete regions.
 #[cycle(values)]
-#[tactic(auto, using(crate::proofs::Firsts::first_both, crate::proofs::Firsts::first_own, rc_core::proofs::ShapeRows::call_is))]
-fn within(value: &Value, functions: &[Function], deletes: bool) -> Option<DeletesFault>
-    ensures { result ≡ first (rule.within (map program.function_of functions.now) deletes (program.expr_of value.now)) }
+#[tactic(auto, using(crate::proofs::Firsts::clear_both, crate::proofs::Firsts::clear_own, rc_core::proofs::ShapeRows::call_is))]
+fn within(value: &Value, functions: &[Function], deletes: bool) -> Result<(), DeletesFault>
+    ensures { result ≡ clear (rule.within (map program.function_of functions.now) deletes (program.expr_of value.now)) }
 {
     match value {
-        Value::Constant { .. } => None,
-        Value::Null { .. } => None,
-        Value::Str { .. } => None,
-        Value::Local { .. } => None,
-        Value::Read { line: _, place } => within_place(place, functions, deletes),
-        Value::Address { .. } => None,
+        Value::Constant { .. } => Ok(()),
+        Value::Null { .. } => Ok(()),
+        Value::Str { .. } => Ok(()),
+        Value::Local { .. } => Ok(()),
+        Value::Address { .. } => Ok(()),
+        Value::NewRegion { .. } => Ok(()),
+        Value::Getchar { .. } => Ok(()),
+        Value::Read { place, .. } => within_place(place, functions, deletes),
+        Value::Unary { operand, .. } => within(operand, functions, deletes),
+        Value::Convert { operand, .. } => within(operand, functions, deletes),
+        Value::Not { operand, .. } => within(operand, functions, deletes),
+        Value::IsNull { operand, .. } => within(operand, functions, deletes),
+        Value::NewSubregion { parent, .. } => within(parent, functions, deletes),
+        Value::RegionOf { pointer, .. } => within(pointer, functions, deletes),
+        Value::Allocate { region, .. } => within(region, functions, deletes),
+        Value::Putchar { byte, .. } => within(byte, functions, deletes),
         Value::Step {
-            line: _,
-            direction: _,
             pointer,
             number,
-        } => match within(pointer, functions, deletes) {
-            Some(fault) => Some(fault),
-            None => within(number, functions, deletes),
-        },
+            ..
+        } => {
+            within(pointer, functions, deletes)?;
+            within(number, functions, deletes)
+        }
         Value::StepFrom {
-            line: _,
             number,
             pointer,
-        } => match within(number, functions, deletes) {
-            Some(fault) => Some(fault),
-            None => within(pointer, functions, deletes),
-        },
-        Value::Unary {
-            line: _,
-            operator: _,
-            signedness: _,
-            operand,
-        } => within(operand, functions, deletes),
-        Value::Binary {
-            line: _,
-            operator: _,
-            signedness: _,
-            left,
-            right,
-        } => match within(left, functions, deletes) {
-            Some(fault) => Some(fault),
-            None => within(right, functions, deletes),
-        },
-        Value::Convert {
-            line: _,
-            from: _,
-            to: _,
-            operand,
-        } => within(operand, functions, deletes),
-        Value::Not { line: _, operand } => within(operand, functions, deletes),
-        Value::And {
-            line: _,
-            left,
-            right,
-        } => match within(left, functions, deletes) {
-            Some(fault) => Some(fault),
-            None => within(right, functions, deletes),
-        },
-        Value::Or {
-            line: _,
-            left,
-            right,
-        } => match within(left, functions, deletes) {
-            Some(fault) => Some(fault),
-            None => within(right, functions, deletes),
-        },
-        Value::Choose {
-            line: _,
-            test,
-            yes,
-            no,
-        } => match within(test, functions, deletes) {
-            Some(fault) => Some(fault),
-            None => match within(yes, functions, deletes) {
-                Some(fault) => Some(fault),
-                None => within(no, functions, deletes),
-            },
-        },
-        Value::IsNull {
-            line: _,
-            wanted: _,
-            operand,
-        } => within(operand, functions, deletes),
-        Value::Same {
-            line: _,
-            wanted: _,
-            left,
-            right,
-        } => match within(left, functions, deletes) {
-            Some(fault) => Some(fault),
-            None => within(right, functions, deletes),
-        },
+            ..
+        } => {
+            within(number, functions, deletes)?;
+            within(pointer, functions, deletes)
+        }
+        Value::Binary { left, right, .. } => {
+            within(left, functions, deletes)?;
+            within(right, functions, deletes)
+        }
+        Value::And { left, right, .. } => {
+            within(left, functions, deletes)?;
+            within(right, functions, deletes)
+        }
+        Value::Or { left, right, .. } => {
+            within(left, functions, deletes)?;
+            within(right, functions, deletes)
+        }
+        Value::Same { left, right, .. } => {
+            within(left, functions, deletes)?;
+            within(right, functions, deletes)
+        }
+        Value::AllocateArray { region, number, .. } => {
+            within(region, functions, deletes)?;
+            within(number, functions, deletes)
+        }
+        Value::Choose { test, yes, no, .. } => {
+            within(test, functions, deletes)?;
+            within(yes, functions, deletes)?;
+            within(no, functions, deletes)
+        }
         Value::Call {
             line,
             function,
             arguments,
-        } => match within_all(arguments, functions, deletes) {
-            Some(fault) => Some(fault),
-            None => call_out_of_place(functions, deletes, *line, *function),
-        },
-        Value::NewRegion { .. } => None,
-        Value::NewSubregion { line: _, parent } => within(parent, functions, deletes),
-        Value::RegionOf { line: _, pointer } => within(pointer, functions, deletes),
-        Value::Allocate {
-            line: _,
-            region,
-            element: _,
-        } => within(region, functions, deletes),
-        Value::AllocateArray {
-            line: _,
-            region,
-            number,
-            element: _,
-        } => match within(region, functions, deletes) {
-            Some(fault) => Some(fault),
-            None => within(number, functions, deletes),
-        },
-        Value::Putchar { line: _, byte } => within(byte, functions, deletes),
-        Value::Getchar { .. } => None,
-    }
-}
-
-#[cycle(values)]
-#[tactic(auto, using(crate::proofs::Firsts::first_both))]
-fn within_all(arguments: &[Value], functions: &[Function], deletes: bool) -> Option<DeletesFault>
-    ensures { result ≡ first (rule.within_all (map program.function_of functions.now) deletes (program.arguments_of arguments.now)) }
-{
-    for argument in arguments {
-        if let Some(fault) = within(argument, functions, deletes) {
-            return Some(fault);
+        } => {
+            within_all(arguments, functions, deletes)?;
+            call_out_of_place(functions, deletes, *line, *function)
         }
     }
-    None
 }
 
 #[cycle(values)]
-#[tactic(auto, using(crate::proofs::Firsts::first_both, rc_core::proofs::ShapeRows::global_is, rc_core::proofs::ShapeRows::pointed_is, rc_core::proofs::ShapeRows::indexed_is))]
-fn within_place(place: &Place, functions: &[Function], deletes: bool) -> Option<DeletesFault>
-    ensures { result ≡ first (rule.within_place (map program.function_of functions.now) deletes (program.place_of place.now)) }
+#[tactic(auto, using(crate::proofs::Firsts::clear_both))]
+fn within_all(
+    arguments: &[Value],
+    functions: &[Function],
+    deletes: bool,
+) -> Result<(), DeletesFault>
+    ensures { result ≡ clear (rule.within_all (map program.function_of functions.now) deletes (program.arguments_of arguments.now)) }
+{
+    for argument in arguments {
+        within(argument, functions, deletes)?;
+    }
+    Ok(())
+}
+
+#[cycle(values)]
+#[tactic(auto, using(crate::proofs::Firsts::clear_both, rc_core::proofs::ShapeRows::global_is, rc_core::proofs::ShapeRows::pointed_is, rc_core::proofs::ShapeRows::indexed_is))]
+fn within_place(place: &Place, functions: &[Function], deletes: bool) -> Result<(), DeletesFault>
+    ensures { result ≡ clear (rule.within_place (map program.function_of functions.now) deletes (program.place_of place.now)) }
 {
     match place {
-        Place::Global { global: _, path } => within_path(path, functions, deletes),
-        Place::Pointed { pointer, path } => match within(pointer, functions, deletes) {
-            Some(fault) => Some(fault),
-            None => within_path(path, functions, deletes),
-        },
+        Place::Global { path, .. } => within_path(path, functions, deletes),
+        Place::Pointed { pointer, path } => {
+            within(pointer, functions, deletes)?;
+            within_path(path, functions, deletes)
+        }
         Place::Indexed {
             pointer,
             index,
             path,
-        } => match within(pointer, functions, deletes) {
-            Some(fault) => Some(fault),
-            None => match within(index, functions, deletes) {
-                Some(fault) => Some(fault),
-                None => within_path(path, functions, deletes),
-            },
-        },
-    }
-}
-
-#[cycle(values)]
-#[tactic(auto, using(crate::proofs::Firsts::path_first))]
-fn within_path(path: &[PathStep], functions: &[Function], deletes: bool) -> Option<DeletesFault>
-    ensures { result ≡ first (rule.within_path (map program.function_of functions.now) deletes (program.path_of path.now)) }
-{
-    for step in path {
-        if let Some(fault) = within_step(step, functions, deletes) {
-            return Some(fault);
+        } => {
+            within(pointer, functions, deletes)?;
+            within(index, functions, deletes)?;
+            within_path(path, functions, deletes)
         }
     }
-    None
 }
 
 #[cycle(values)]
-fn within_step(step: &PathStep, functions: &[Function], deletes: bool) -> Option<DeletesFault>
-    ensures { result ≡ first (rule.within_path (map program.function_of functions.now) deletes (program.inward step.now p.here)) }
+#[tactic(auto, using(crate::proofs::Firsts::path_clear))]
+fn within_path(path: &[PathStep], functions: &[Function], deletes: bool) -> Result<(), DeletesFault>
+    ensures { result ≡ clear (rule.within_path (map program.function_of functions.now) deletes (program.path_of path.now)) }
+{
+    for step in path {
+        within_step(step, functions, deletes)?;
+    }
+    Ok(())
+}
+
+#[cycle(values)]
+fn within_step(step: &PathStep, functions: &[Function], deletes: bool) -> Result<(), DeletesFault>
+    ensures { result ≡ clear (rule.within_path (map program.function_of functions.now) deletes (program.inward step.now p.here)) }
 {
     match step {
-        PathStep::Field { .. } => None,
-        PathStep::Element {
-            structure: _,
-            field: _,
-            index,
-        } => within(index, functions, deletes),
+        PathStep::Field { .. } => Ok(()),
+        PathStep::Element { index, .. } => within(index, functions, deletes),
     }
 }
 
-/// As the whole of a place where it may stand.
-#[tactic(auto, using(crate::proofs::Firsts::first_own, rc_core::proofs::ShapeRows::call_is))]
-fn whole_call(value: &Value, functions: &[Function], deletes: bool) -> Option<DeletesFault>
-    ensures { result ≡ first (rule.whole_call (map program.function_of functions.now) deletes (program.expr_of value.now)) }
+/// A call as the whole of a place where it may stand.
+#[tactic(auto, using(crate::proofs::Firsts::clear_own, rc_core::proofs::ShapeRows::call_is))]
+fn whole_call(value: &Value, functions: &[Function], deletes: bool) -> Result<(), DeletesFault>
+    ensures { result ≡ clear (rule.whole_call (map program.function_of functions.now) deletes (program.expr_of value.now)) }
 {
     match value {
         Value::Call {
             line,
             function,
             arguments,
-        } => match within_all(arguments, functions, deletes) {
-            Some(fault) => Some(fault),
-            None => call_in_place(functions, deletes, *line, *function),
-        },
-        Value::Convert {
-            line: _,
-            from: _,
-            to: _,
-            operand,
-        } => whole_call(operand, functions, deletes),
+        } => {
+            within_all(arguments, functions, deletes)?;
+            call_in_place(functions, deletes, *line, *function)
+        }
+        Value::Convert { operand, .. } => whole_call(operand, functions, deletes),
         _ => within(value, functions, deletes),
     }
 }
@@ -282,8 +228,8 @@ fn is_call(e: &Expr) -> bool
     }
 }
 
-fn whole(e: &Expr, value: &Value, functions: &[Function], deletes: bool) -> Option<DeletesFault>
-    ensures { result ≡ first (rule.whole (map program.function_of functions.now) deletes (written.expr_of e.now) (program.expr_of value.now)) }
+fn whole(e: &Expr, value: &Value, functions: &[Function], deletes: bool) -> Result<(), DeletesFault>
+    ensures { result ≡ clear (rule.whole (map program.function_of functions.now) deletes (written.expr_of e.now) (program.expr_of value.now)) }
 {
     if is_call(e) {
         return whole_call(value, functions, deletes);
@@ -296,91 +242,64 @@ fn whole_option(
     value: &Option<Value>,
     functions: &[Function],
     deletes: bool,
-) -> Option<DeletesFault>
-    ensures { result ≡ first (rule.whole_option (map program.function_of functions.now) deletes (written.mapped written.expr_of e.now) (option_map program.expr_of value.now)) }
+) -> Result<(), DeletesFault>
+    ensures { result ≡ clear (rule.whole_option (map program.function_of functions.now) deletes (written.mapped written.expr_of e.now) (option_map program.expr_of value.now)) }
 {
     match (e, value) {
         (Some(e), Some(value)) => whole(e, value, functions, deletes),
-        (_, _) => None,
+        _ => Ok(()),
     }
 }
 
 /// What a statement without a call of its own computes.
-#[tactic(auto, using(crate::proofs::Firsts::first_both))]
-fn computed(step: &Step, functions: &[Function], deletes: bool) -> Option<DeletesFault>
-    ensures { result ≡ first (rule.computed (map program.function_of functions.now) deletes (program.stmt_of step.now)) }
+#[tactic(auto, using(crate::proofs::Firsts::clear_both))]
+fn computed(step: &Step, functions: &[Function], deletes: bool) -> Result<(), DeletesFault>
+    ensures { result ≡ clear (rule.computed (map program.function_of functions.now) deletes (program.stmt_of step.now)) }
 {
     match step {
-        Step::Assign {
-            line: _,
-            local: _,
-            value,
-        } => within(value, functions, deletes),
-        Step::Update {
-            line: _,
-            place,
-            change: _,
-            value,
-        } => match within_place(place, functions, deletes) {
-            Some(fault) => Some(fault),
-            None => within(value, functions, deletes),
-        },
-        _ => None,
+        Step::Assign { value, .. } => within(value, functions, deletes),
+        Step::Update { place, value, .. } => {
+            within_place(place, functions, deletes)?;
+            within(value, functions, deletes)
+        }
+        _ => Ok(()),
     }
 }
 
-#[tactic(auto, using(crate::proofs::Firsts::first_both))]
-fn assigned(e: &Expr, step: &Step, functions: &[Function], deletes: bool) -> Option<DeletesFault>
-    ensures { result ≡ first (rule.assigned (map program.function_of functions.now) deletes (written.expr_of e.now) (program.stmt_of step.now)) }
+#[tactic(auto, using(crate::proofs::Firsts::clear_both))]
+fn assigned(
+    e: &Expr,
+    step: &Step,
+    functions: &[Function],
+    deletes: bool,
+) -> Result<(), DeletesFault>
+    ensures { result ≡ clear (rule.assigned (map program.function_of functions.now) deletes (written.expr_of e.now) (program.stmt_of step.now)) }
 {
     match step {
-        Step::Assign {
-            line: _,
-            local: _,
-            value,
-        } => whole(e, value, functions, deletes),
-        Step::Store {
-            line: _,
-            place,
-            value,
-        } => match within_place(place, functions, deletes) {
-            Some(fault) => Some(fault),
-            None => within(value, functions, deletes),
-        },
-        Step::Copy {
-            line: _,
-            structure: _,
-            left,
-            right,
-        } => match within_place(left, functions, deletes) {
-            Some(fault) => Some(fault),
-            None => within_place(right, functions, deletes),
-        },
-        _ => None,
+        Step::Assign { value, .. } => whole(e, value, functions, deletes),
+        Step::Store { place, value, .. } => {
+            within_place(place, functions, deletes)?;
+            within(value, functions, deletes)
+        }
+        Step::Copy { left, right, .. } => {
+            within_place(left, functions, deletes)?;
+            within_place(right, functions, deletes)
+        }
+        _ => Ok(()),
     }
 }
 
-/// The deletion of a region, if it is refused.
-fn deletion(line: u32, deletes: bool) -> Option<DeletesFault>
-    ensures { result ≡ first (rule.in_place deletes line) }
-{
-    if deletes {
-        return None;
-    }
-    Some(DeletesFault::NotDeletes(line))
-}
-
-#[tactic(auto, using(crate::proofs::Firsts::first_own))]
-fn alone(e: &Expr, step: &Step, functions: &[Function], deletes: bool) -> Option<DeletesFault>
-    ensures { result ≡ first (rule.alone (map program.function_of functions.now) deletes (written.expr_of e.now) (program.stmt_of step.now)) }
+#[tactic(auto, using(crate::proofs::Firsts::clear_own))]
+fn alone(e: &Expr, step: &Step, functions: &[Function], deletes: bool) -> Result<(), DeletesFault>
+    ensures { result ≡ clear (rule.alone (map program.function_of functions.now) deletes (written.expr_of e.now) (program.stmt_of step.now)) }
 {
     match step {
-        Step::Evaluate { line: _, value } => whole(e, value, functions, deletes),
-        Step::Delete { line, region } => match within(region, functions, deletes) {
-            Some(fault) => Some(fault),
-            None => deletion(*line, deletes),
-        },
-        _ => None,
+        Step::Evaluate { value, .. } => whole(e, value, functions, deletes),
+        Step::Delete { line, region } => {
+            within(region, functions, deletes)?;
+            deletion(*line, deletes)
+        }
+        _ => Ok(()),
     }
 }
 
@@ -389,8 +308,8 @@ fn simply(
     step: &Step,
     functions: &[Function],
     deletes: bool,
-) -> Option<DeletesFault>
-    ensures { result ≡ first (rule.simply (map program.function_of functions.now) deletes (written.simple_of simple.now) (program.stmt_of step.now)) }
+) -> Result<(), DeletesFault>
+    ensures { result ≡ clear (rule.simply (map program.function_of functions.now) deletes (written.simple_of simple.now) (program.stmt_of step.now)) }
 {
     match simple {
         Simple::Expr(e) => alone(e, step, functions, deletes),
@@ -406,12 +325,12 @@ fn simply_option(
     step: &Step,
     functions: &[Function],
     deletes: bool,
-) -> Option<DeletesFault>
-    ensures { result ≡ first (rule.simply_option (map program.function_of functions.now) deletes (written.mapped written.simple_of simple.now) (program.stmt_of step.now)) }
+) -> Result<(), DeletesFault>
+    ensures { result ≡ clear (rule.simply_option (map program.function_of functions.now) deletes (written.mapped written.simple_of simple.now) (program.stmt_of step.now)) }
 {
     match simple {
         Some(simple) => simply(simple, step, functions, deletes),
-        None => None,
+        None => Ok(()),
     }
 }
 
@@ -435,56 +354,50 @@ fn is_annotated(stars: &[Note]) -> bool
     }
 }
 
-/// The annotation of a type's last star.
-fn annotation(at: Spot, type_name: &TypeName) -> Option<DeletesFault>
-    ensures { result ≡ first (rule.annotation at (written.type_of type_name.now)) }
+/// A type that is annotated on its last star nowhere.
+fn annotation(at: Spot, type_name: &TypeName) -> Result<(), DeletesFault>
+    ensures { result ≡ clear (rule.annotation at (written.type_of type_name.now)) }
 {
     if is_annotated(&type_name.stars) {
-        return Some(DeletesFault::AnnotationPlace(at.line));
+        return Err(DeletesFault::AnnotationPlace(at.line));
     }
-    None
+    Ok(())
 }
 
-#[tactic(auto, using(crate::proofs::Firsts::first_own))]
+#[tactic(auto, using(crate::proofs::Firsts::clear_own))]
 fn locally(
     local: &Local,
     step: &Step,
     functions: &[Function],
     deletes: bool,
-) -> Option<DeletesFault>
-    ensures { result ≡ first (rule.locally (map program.function_of functions.now) deletes (written.local_of local.now) (program.stmt_of step.now)) }
+) -> Result<(), DeletesFault>
+    ensures { result ≡ clear (rule.locally (map program.function_of functions.now) deletes (written.local_of local.now) (program.stmt_of step.now)) }
 {
     match step {
-        Step::Declare {
-            line: _,
-            local: _,
-            value,
-        } => match whole_option(&local.initial, value, functions, deletes) {
-            Some(fault) => Some(fault),
-            None => annotation(local.spot, &local.type_name),
-        },
-        _ => None,
+        Step::Declare { value, .. } => {
+            whole_option(&local.initial, value, functions, deletes)?;
+            annotation(local.spot, &local.type_name)
+        }
+        _ => Ok(()),
     }
 }
 
-#[tactic(auto, using(crate::proofs::Firsts::first_both))]
+#[tactic(auto, using(crate::proofs::Firsts::clear_both))]
 fn locals(
     locals: &[Local],
     steps: &[Step],
     functions: &[Function],
     deletes: bool,
-) -> Option<DeletesFault>
-    ensures { result ≡ first (rule.locals (map program.function_of functions.now) deletes (map written.local_of locals.now) (program.stmts_of steps.now)) }
+) -> Result<(), DeletesFault>
+    ensures { result ≡ clear (rule.locals (map program.function_of functions.now) deletes (map written.local_of locals.now) (program.stmts_of steps.now)) }
 {
     for (i, local) in locals.iter().enumerate() {
         if i >= steps.len() {
-            return None;
+            return Ok(());
         }
-        if let Some(fault) = locally(local, &steps[i], functions, deletes) {
-            return Some(fault);
-        }
+        locally(local, &steps[i], functions, deletes)?;
     }
-    None
+    Ok(())
 }
 
 #[tactic(auto, using(rc_core::proofs::ShapeRows::block_is))]
@@ -493,22 +406,27 @@ fn start(
     step: &Step,
     functions: &[Function],
     deletes: bool,
-) -> Option<DeletesFault>
-    ensures { result ≡ first (rule.start (map program.function_of functions.now) deletes (written.start_of start.now) (program.stmt_of step.now)) }
+) -> Result<(), DeletesFault>
+    ensures { result ≡ clear (rule.start (map program.function_of functions.now) deletes (written.start_of start.now) (program.stmt_of step.now)) }
 {
     match (start, step) {
         (ForStart::Simple(simple), _) => simply(simple, step, functions, deletes),
         (ForStart::Locals(declared), Step::Block { body }) => locals(
             declared, body, functions, deletes,
         ),
-        (_, _) => None,
+        _ => Ok(()),
     }
 }
 
 #[cycle(statements)]
-#[tactic(auto, using(crate::proofs::Firsts::first_both, rc_syntax::proofs::Rows::block_is, rc_core::proofs::ShapeRows::block_is))]
-fn statement(s: &Stmt, step: &Step, functions: &[Function], deletes: bool) -> Option<DeletesFault>
-    ensures { result ≡ first (rule.stmt (map program.function_of functions.now) deletes (written.stmt_of s.now) (program.stmt_of step.now)) }
+#[tactic(auto, using(crate::proofs::Firsts::clear_both, rc_syntax::proofs::Rows::block_is, rc_core::proofs::ShapeRows::block_is))]
+fn statement(
+    s: &Stmt,
+    step: &Step,
+    functions: &[Function],
+    deletes: bool,
+) -> Result<(), DeletesFault>
+    ensures { result ≡ clear (rule.stmt (map program.function_of functions.now) deletes (written.stmt_of s.now) (program.stmt_of step.now)) }
 {
     match (s, step) {
         (Stmt::Local(local), _) => locally(local, step, functions, deletes),
@@ -516,112 +434,79 @@ fn statement(s: &Stmt, step: &Step, functions: &[Function], deletes: bool) -> Op
             body, steps, functions, deletes,
         ),
         (Stmt::Simple(_, simple), _) => simply(simple, step, functions, deletes),
-        (
-            Stmt::If(_, c, a, b),
-            Step::If {
-                line: _,
-                test,
-                yes,
-                no,
-            },
-        ) => match whole(c, test, functions, deletes) {
-            Some(fault) => Some(fault),
-            None => match statement(a, yes, functions, deletes) {
-                Some(fault) => Some(fault),
-                None => match b {
-                    Some(b) => statement(b, no, functions, deletes),
-                    None => None,
-                },
-            },
-        },
-        (
-            Stmt::While(_, c, a),
-            Step::While {
-                line: _,
-                test,
-                body,
-            },
-        ) => match whole(c, test, functions, deletes) {
-            Some(fault) => Some(fault),
-            None => statement(a, body, functions, deletes),
-        },
-        (
-            Stmt::Do(_, a, c),
-            Step::Do {
-                line: _,
-                body,
-                test,
-            },
-        ) => match statement(a, body, functions, deletes) {
-            Some(fault) => Some(fault),
-            None => whole(c, test, functions, deletes),
-        },
+        (Stmt::If(_, c, a, b), Step::If { test, yes, no, .. }) => {
+            whole(c, test, functions, deletes)?;
+            statement(a, yes, functions, deletes)?;
+            match b {
+                Some(b) => statement(b, no, functions, deletes),
+                None => Ok(()),
+            }
+        }
+        (Stmt::While(_, c, a), Step::While { test, body, .. }) => {
+            whole(c, test, functions, deletes)?;
+            statement(a, body, functions, deletes)
+        }
+        (Stmt::Do(_, a, c), Step::Do { body, test, .. }) => {
+            statement(a, body, functions, deletes)?;
+            whole(c, test, functions, deletes)
+        }
         (
             Stmt::For(_, e, c, next, a),
             Step::For {
-                line: _,
                 first,
                 test,
                 third,
                 body,
+                ..
             },
-        ) => match start(e, first, functions, deletes) {
-            Some(fault) => Some(fault),
-            None => match whole_option(c, test, functions, deletes) {
-                Some(fault) => Some(fault),
-                None => match simply_option(next, third, functions, deletes) {
-                    Some(fault) => Some(fault),
-                    None => statement(a, body, functions, deletes),
-                },
-            },
-        },
-        (Stmt::Return(_, e), Step::Return { line: _, value }) => whole_option(
+        ) => {
+            start(e, first, functions, deletes)?;
+            whole_option(c, test, functions, deletes)?;
+            simply_option(next, third, functions, deletes)?;
+            statement(a, body, functions, deletes)
+        }
+        (Stmt::Return(_, e), Step::Return { value, .. }) => whole_option(
             e, value, functions, deletes,
         ),
-        (_, _) => None,
+        _ => Ok(()),
     }
 }
 
 #[cycle(statements)]
-#[tactic(auto, using(crate::proofs::Firsts::first_both))]
+#[tactic(auto, using(crate::proofs::Firsts::clear_both))]
 fn statements(
     body: &[Stmt],
     steps: &[Step],
     functions: &[Function],
     deletes: bool,
-) -> Option<DeletesFault>
-    ensures { result ≡ first (rule.stmts (map program.function_of functions.now) deletes (written.stmts_of body.now) (program.stmts_of steps.now)) }
+) -> Result<(), DeletesFault>
+    ensures { result ≡ clear (rule.stmts (map program.function_of functions.now) deletes (written.stmts_of body.now) (program.stmts_of steps.now)) }
 {
     for (i, s) in body.iter().enumerate() {
         if i >= steps.len() {
-            return None;
+            return Ok(());
         }
-        match statement(s, &steps[i], functions, deletes) {
-            Some(fault) => return Some(fault),
-            None => {}
-        }
+        statement(s, &steps[i], functions, deletes)?;
     }
-    None
+    Ok(())
 }
 
-#[tactic(auto, using(crate::proofs::Firsts::first_both))]
-fn parameters(params: &[Param]) -> Option<DeletesFault>
-    ensures { result ≡ first (rule.params (map written.param_of params.now)) }
+#[tactic(auto, using(crate::proofs::Firsts::clear_both))]
+fn parameters(params: &[Param]) -> Result<(), DeletesFault>
+    ensures { result ≡ clear (rule.params (map written.param_of params.now)) }
 {
     for param in params {
-        if let Some(fault) = annotation(param.spot, &param.type_name) {
-            return Some(fault);
-        }
+        annotation(param.spot, &param.type_name)?;
     }
-    None
+    Ok(())
 }
 
-fn result_type(at: Spot, gives: &Option<TypeName>) -> Option<DeletesFault>
-    ensures { result ≡ first (rule.result at (written.mapped written.type_of gives.now)) }
+fn result_type(at: Spot, gives: &Option<TypeName>) -> Result<(), DeletesFault>
+    ensures { result ≡ clear (rule.result at (written.mapped written.type_of gives.now)) }
 {
     match gives {
         Some(type_name) => annotation(at, type_name),
-        None => None,
+        None => Ok(()),
     }
 }
 
@@ -631,17 +516,17 @@ fn function_body(
     step: &Step,
     functions: &[Function],
     deletes: bool,
-) -> Option<DeletesFault>
-    ensures { result ≡ first (rule.body_of (map program.function_of functions.now) deletes (written.stmts_of body.now) (program.stmt_of step.now)) }
+) -> Result<(), DeletesFault>
+    ensures { result ≡ clear (rule.body_of (map program.function_of functions.now) deletes (written.stmts_of body.now) (program.stmt_of step.now)) }
 {
     match step {
         Step::Block { body: steps } => statements(body, steps, functions, deletes),
-        _ => None,
+        _ => Ok(()),
     }
 }
 
 /// A function beside that of the program, the one with the number `next`.
-#[tactic(auto, using(crate::proofs::Firsts::first_both, crate::proofs::Firsts::first_own))]
+#[tactic(auto, using(crate::proofs::Firsts::clear_both, crate::proofs::Firsts::clear_own))]
 fn function(
     functions: &[Function],
     deletes: bool,
@@ -650,15 +535,11 @@ fn function(
     params: &[Param],
     body: &Option<Vec<Stmt>>,
     next: usize,
-) -> Option<DeletesFault>
-    ensures { result ≡ first (rule.function (map program.function_of functions.now) deletes at (written.mapped written.type_of gives.now) (map written.param_of params.now) (written.mapped (λ b. written.stmts_of b.items) body.now) (slice_get (map program.function_of functions.now) next)) }
+) -> Result<(), DeletesFault>
+    ensures { result ≡ clear (rule.function (map program.function_of functions.now) deletes at (written.mapped written.type_of gives.now) (map written.param_of params.now) (written.mapped (λ b. written.stmts_of b.items) body.now) (slice_get (map program.function_of functions.now) next)) }
 {
-    if let Some(fault) = parameters(params) {
-        return Some(fault);
-    }
-    if let Some(fault) = inner(functions, deletes, body, next) {
-        return Some(fault);
-    }
+    parameters(params)?;
+    inner(functions, deletes, body, next)?;
     result_type(at, gives)
 }
 
@@ -668,12 +549,12 @@ fn inner(
     deletes: bool,
     body: &Option<Vec<Stmt>>,
     next: usize,
-) -> Option<DeletesFault>
-    ensures { result ≡ first (rule.inner (map program.function_of functions.now) deletes (written.mapped (λ b. written.stmts_of b.items) body.now) (slice_get (map program.function_of functions.now) next)) }
+) -> Result<(), DeletesFault>
+    ensures { result ≡ clear (rule.inner (map program.function_of functions.now) deletes (written.mapped (λ b. written.stmts_of b.items) body.now) (slice_get (map program.function_of functions.now) next)) }
 {
     match (body, functions.get(next)) {
         (Some(body), Some(f)) => function_body(body, &f.body, functions, deletes),
-        (_, _) => None,
+        _ => Ok(()),
     }
 }
 
@@ -685,29 +566,26 @@ fn inner(
 /// The first fault in the order of the text: an annotation on the last star of a local, parameter
 /// or result, a call of a function that `deletes` by a function that doesn't, or such a call
 /// inside of something. What has a fault inside has none of its own.
-#[tactic(auto, using(crate::proofs::Firsts::first_both))]
+#[tactic(auto, using(crate::proofs::Firsts::clear_none, crate::proofs::Firsts::clear_some))]
 pub fn check_deletes(tree: &Tree, parts: &Parts) -> Result<(), DeletesFault>
     ensures ok { OnOk result (rule.deletes_faults (written.tree_of tree.now) (program.program_of parts.now) ≡ []) }
     ensures err { IfErr result (λ fault. first (rule.deletes_faults (written.tree_of tree.now) (program.program_of parts.now)) ≡ Some fault) }
 {
-    match in_items(tree.items.as_slice(), parts.functions.as_slice()) {
-        Some(fault) => Err(fault),
-        None => Ok(()),
-    }
+    in_items(tree.items.as_slice(), parts.functions.as_slice())
 }
 
-fn in_item(item: &Item, functions: &[Function], next: usize) -> Option<DeletesFault>
-    ensures { result ≡ first (rule.item (map program.function_of functions.now) (written.item_of item.now) next) }
+fn in_item(item: &Item, functions: &[Function], next: usize) -> Result<(), DeletesFault>
+    ensures { result ≡ clear (rule.item (map program.function_of functions.now) (written.item_of item.now) next) }
 {
     match item {
         Item::Function(at, deletes, gives, _, params, body) => function(
             functions, *deletes, *at, gives, params, body, next,
         ),
-        _ => None,
+        _ => Ok(()),
     }
 }
 
-/// The number of the program's next function, behind an item.
+/// The number of the program's next function, after an item.
 fn behind(item: &Item, next: usize) -> usize
     requires { next < 18446744073709551615 }
     ensures number { result ≡ rule.behind (written.item_of item.now) next }
@@ -719,16 +597,14 @@ fn behind(item: &Item, next: usize) -> usize
     }
 }
 
-#[tactic(auto, using(crate::proofs::Firsts::first_both))]
-fn in_items(items: &[Item], functions: &[Function]) -> Option<DeletesFault>
-    ensures { result ≡ first (rule.items (map program.function_of functions.now) (map written.item_of items.now) 0) }
+#[tactic(auto, using(crate::proofs::Firsts::clear_both))]
+fn in_items(items: &[Item], functions: &[Function]) -> Result<(), DeletesFault>
+    ensures { result ≡ clear (rule.items (map program.function_of functions.now) (map written.item_of items.now) 0) }
 {
     let mut next = 0;
     for item in items {
-        if let Some(fault) = in_item(item, functions, next) {
-            return Some(fault);
-        }
+        in_item(item, functions, next)?;
         next = behind(item, next);
     }
-    None
+    Ok(())
 }

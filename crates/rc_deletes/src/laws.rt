@@ -1,6 +1,6 @@
 // What holds of typing whatever the tree.
 
-ghost use Rattle.std.specs.Prelude.{◌≡◌, ◌↔◌, ◌≤◌, List, Some, length};
+ghost use Rattle.std.specs.Prelude.{◌≡◌, ◌↔◌, ◌≤◌, List, Some, length, map};
 ghost use Rattle.rc_syntax.specs.declared.tree.Spot.{Spot};
 ghost use Rattle.rc_syntax.specs.Shape as written;
 ghost use Rattle.rc_core.specs.Programs.{Program};
@@ -12,7 +12,11 @@ ghost use Rattle.rc_deletes.specs.Ranges.{ItemsInRange};
 ghost use Rattle.rc_syntax.specs.Grammar.{Derives, Placed, node, placed, Text};
 ghost use Rattle.rc_syntax.specs.Tokens.{Token};
 ghost use Rattle.rc_deletes.specs.Judged.{first_fault};
-ghost use Rattle.rc_deletes.specs.Order.{IsLeast};
+ghost use Rattle.rc_deletes.specs.First.{first};
+ghost use Rattle.rc_deletes.specs.Places.{deletes_faults};
+ghost use Rattle.rc_deletes.specs.PlacedFaults.{PlacedFault, placed_faults, without_place};
+ghost use Rattle.rc_deletes.specs.Order.{IsLeast, IsLeastPlaced};
+ghost use Rattle.rc_deletes.specs.declared.deletes.DeletesFault.{DeletesFault};
 ghost use Rattle.rc_deletes.specs.declared.fault.Fault.{Fault};
 ghost use Rattle.rc_core.specs.WellTyped.{IsWellTyped};
 
@@ -48,4 +52,22 @@ pub fn keeps_limits(_tree: &Tree)
 /// other one stands at an earlier word, and at its node none has a refusal with a smaller number.
 pub fn first_violation_is_least(_tree: &Tree)
     ensures { (tokens : List Token) (first : Fault) → Derives (placed 0 tokens) (node Text (written.tree_of _tree.now).items) → first_fault (judged (written.tree_of _tree.now)) ≡ Some first → IsLeast (written.tree_of _tree.now) first }
+{}
+
+/// What is refused of a program's annotations and deletions is what its tree shows, in the same
+/// order; the tree shows the places too.
+pub fn shows_misplaced(_tree: &Tree)
+    ensures { (program : Program) → Typed (written.tree_of _tree.now) program → deletes_faults (written.tree_of _tree.now) program ≡ map without_place (placed_faults (written.tree_of _tree.now)) }
+{}
+
+/// In the tree of a text the first annotation or deletion that is refused is the least of all: no
+/// other one stands at an earlier word, and at its node none has a refusal with a smaller number.
+pub fn first_misplaced_is_least(_tree: &Tree)
+    ensures { (tokens : List Token) (fault : PlacedFault) → Derives (placed 0 tokens) (node Text (written.tree_of _tree.now).items) → first (placed_faults (written.tree_of _tree.now)) ≡ Some fault → IsLeastPlaced (written.tree_of _tree.now) fault }
+{}
+
+/// What `check_deletes` answers of the tree of a text, beside its program, is the least of all that
+/// is refused of the annotations and deletions in it.
+pub fn first_answer_is_least(_tree: &Tree)
+    ensures { (tokens : List Token) (program : Program) (fault : DeletesFault) → Derives (placed 0 tokens) (node Text (written.tree_of _tree.now).items) → Typed (written.tree_of _tree.now) program → first (deletes_faults (written.tree_of _tree.now) program) ≡ Some fault → (least : PlacedFault) × (without_place least ≡ fault) × IsLeastPlaced (written.tree_of _tree.now) least }
 {}

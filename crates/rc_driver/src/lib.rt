@@ -12,8 +12,6 @@ mod run;
 mod std_sink;
 mod std_source;
 mod tell;
-#[cfg(test)]
-mod tests;
 mod texts;
 mod write_front;
 

@@ -2,4 +2,3 @@ pub mod Totals
 pub mod Greatest
 pub mod FieldSums
 pub mod Functions
-pub mod Smallest

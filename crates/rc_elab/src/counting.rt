@@ -41,7 +41,7 @@ fn function_points_left(f: &Function, sizes: &[u32], left: u32) -> Option<u32>
 
 /// The points of all functions, taken from those that a program may have.
 #[tactic(auto, using(crate::proofs::Functions::points_step, crate::proofs::Functions::points_end))]
-pub(crate) fn points_left(functions: &[Function], sizes: &[u32]) -> Option<u32>
+fn points_left(functions: &[Function], sizes: &[u32]) -> Option<u32>
     ensures { (structs : List Struct) → map length (layouts_of structs) ≡ sizes.now → MatchOption result (65536 < sum (map (function_points structs) (map function_of functions.now))) (λ r. r + sum (map (function_points structs) (map function_of functions.now)) ≡ 65536) }
 {
     let mut left = MOST_POINTS;

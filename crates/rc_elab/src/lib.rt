@@ -13,6 +13,3 @@ mod variables;
 
 pub use counting::count;
 pub use fault::ElabFault;
-
-#[cfg(test)]
-mod tests;

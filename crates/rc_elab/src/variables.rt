@@ -154,7 +154,7 @@ pub(crate) fn is_narrow(f: &Function) -> bool
 }
 
 #[tactic(auto, using(crate::proofs::Totals::first_types, crate::proofs::Totals::other_types))]
-pub(crate) fn variables_left(f: &Function) -> Option<u32>
+fn variables_left(f: &Function) -> Option<u32>
     requires { f.now.parameters ≤ length f.now.locals.items }
     ensures { MatchOption result (128 < region_variables (function_of f.now)) (λ r. r + region_variables (function_of f.now) ≡ 128) }
 {

@@ -6,12 +6,14 @@ use rc_driver::{Folder, StdSink, StdSource, rc_main, status_of};
 use std::io;
 use std::process::ExitCode;
 
-const EXAMPLES: [&str; 9] = [
+const EXAMPLES: [&str; 11] = [
     "hello.c",
     "list.c",
     "tree.c",
     "ring.c",
     "scratch.c",
+    "handles.c",
+    "waiting.c",
     "reverse.c",
     "dangling.c",
     "overflow.c",

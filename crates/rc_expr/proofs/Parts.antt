@@ -1,9 +1,10 @@
 -- How the reader goes through the parts of each production, from a place where the production stands.
-use Rattle.std.proofs.Common.{◌≡◌, ◌≤◌, ◌<◌, ◌+◌, ◌-◌, ℕ, [], ◌∷◌, ◌++◌, List, Some, None, true, false, Bool, nat_lt, refl, ap, sym, ◌∙◌, subst, arith, ◌⊎◌, inl, inr, Result, Ok, Err}
+use Rattle.std.proofs.Common.{◌≡◌, ◌≤◌, ◌<◌, ◌+◌, ◌-◌, ℕ, [], ◌∷◌, List, Some, None, true, false, Bool, nat_lt, refl, ap, sym, ◌∙◌, subst, arith, ◌⊎◌, inl, inr, Result, Ok, Err}
 use Rattle.std.specs.Prelude.{IfOk}
+use Rattle.std.specs.declared.boxed.Box.{Box}
+use Rattle.std.specs.declared.alloc.Global.{Global}
 use Rattle.rc_syntax.specs.declared.fault.ParseFault.{ParseFault}
 use Rattle.rc_syntax.specs.declared.tree.Expr.{Expr}
-use Rattle.rc_syntax.specs.Shape.{expr_of}
 use Rattle.std.proofs.lemmas.Bool.Decides.{nat_tests}
 use Rattle.rc_syntax.specs.declared.word.Token.{Token as CodeToken}
 use Rattle.rc_syntax.specs.declared.word.Mark.{Mark}
@@ -17,11 +18,11 @@ use Rattle.rc_syntax.specs.declared.word.Key.TheVariants as y
 use Rattle.rc_syntax.specs.Tokens as w
 use Rattle.rc_syntax.specs.Tokens.{Word, mark, key}
 use Rattle.rc_syntax.specs.Tree as t
-use Rattle.rc_syntax.specs.Grammar.{Symbol, Level, Unary, Arm, Arguments, TreeOf, Placed, adds, level_of, mark_of, with_last}
-use Rattle.rc_syntax.specs.Todo.{Todo, build, read, sees, try, enter, stop, only}
-use Rattle.rc_syntax.specs.Reading.{is_close, is_comma, is_colon, is_close_bracket, chosen, otherwise, beside, unary_in, prefixed, cast_in, parenthesized}
-use Rattle.rc_syntax.specs.Steps.{Stack, bottom, place, next, Accepts, about, amid as at, run, step, taken, first_of, give, Refuses, Sinks}
-use Rattle.rc_expr.specs.Goes.{amid, inside, spot_of, from, word_at, Within, word_in, Stands, Misses, operator_from, starts, prefix_in, cast_of, key_of, cast_rest, Quiet, Reads, ReaderAnswers, no_postfix}
+use Rattle.rc_syntax.specs.Grammar.{Symbol, Level, Unary, Arm, TreeOf, Placed, adds, level_of, mark_of}
+use Rattle.rc_syntax.specs.reader.Todo.{Todo, build, read, sees, enter, stop}
+use Rattle.rc_syntax.specs.reader.Reading.{is_close, is_colon, chosen, otherwise, unary_in, prefixed, cast_in, parenthesized}
+use Rattle.rc_syntax.specs.reader.Steps.{Stack, bottom, place, next, Accepts, about, amid as at, run, step, taken, first_of, give, Refuses, Sinks}
+use Rattle.rc_expr.specs.Goes.{boxed_of, amid, inside, spot_of, from, word_at, Within, word_in, Stands, Misses, operator_from, starts, prefix_in, cast_of, key_of, cast_rest, Quiet, Reads, ReaderAnswers, no_postfix}
 use Rattle.rc_expr.proofs.Running.{around, deeper, enters, begins_with, closes, part, took, begins, begins_too_deep, begins_too_far, stops_about, skips}
 use Rattle.rc_expr.proofs.Tests.{quiet_plain, quiet_expression, quiet_unary, operates}
 
@@ -225,14 +226,14 @@ pub reader_answers : {A : Type 0} (s : Symbol) (depth i far : ℕ) (ts : List Co
 reader_answers s depth i far ts shape (Ok x) h w q = h s depth (bottom {root = s}) w ∙ accepted s depth (spot_of ts i) (x.1 - i) (shape x.0) (from ts x.1) (q x refl)
 reader_answers s depth i far ts shape (Err f) h w q = h s depth (bottom {root = s}) w
 
-pub expression_answers : (depth i : ℕ) (ts : List CodeToken) (r : Result (Expr × ℕ) ParseFault) →
-    Reads (Level 0) depth (i + 1024) ts i expr_of r → IfOk r (λ x. (operator_from 0 (word_at ts x.1) ≡ None) × Misses ts x.1 (mark m.Question)) → ReaderAnswers (Level 0) depth ts i expr_of r
+pub expression_answers : (depth i : ℕ) (ts : List CodeToken) (r : Result (Box Expr Global × ℕ) ParseFault) →
+    Reads (Level 0) depth (i + 1024) ts i boxed_of r → IfOk r (λ x. (operator_from 0 (word_at ts x.1) ≡ None) × Misses ts x.1 (mark m.Question)) → ReaderAnswers (Level 0) depth ts i boxed_of r
 expression_answers depth i ts r h q =
-    reader_answers (Level 0) depth i (i + 1024) ts expr_of r h (alone_expression depth i ts)
-    (λ x e. quiet_expression ts x.1 (spot_of ts i) (expr_of x.0) (subst (λ y. IfOk y (λ x. (operator_from 0 (word_at ts x.1) ≡ None) × Misses ts x.1 (mark m.Question))) e q))
+    reader_answers (Level 0) depth i (i + 1024) ts boxed_of r h (alone_expression depth i ts)
+    (λ x e. quiet_expression ts x.1 (spot_of ts i) (boxed_of x.0) (subst (λ y. IfOk y (λ x. (operator_from 0 (word_at ts x.1) ≡ None) × Misses ts x.1 (mark m.Question))) e q))
 
-pub unary_answers : (depth i : ℕ) (ts : List CodeToken) (r : Result (Expr × ℕ) ParseFault) →
-    Reads Unary depth (i + 1024) ts i expr_of r → IfOk r (λ x. no_postfix (word_at ts x.1) ≡ true) → ReaderAnswers Unary depth ts i expr_of r
+pub unary_answers : (depth i : ℕ) (ts : List CodeToken) (r : Result (Box Expr Global × ℕ) ParseFault) →
+    Reads Unary depth (i + 1024) ts i boxed_of r → IfOk r (λ x. no_postfix (word_at ts x.1) ≡ true) → ReaderAnswers Unary depth ts i boxed_of r
 unary_answers depth i ts r h q =
-    reader_answers Unary depth i (i + 1024) ts expr_of r h (alone_unary depth i ts)
-    (λ x e. quiet_unary ts x.1 (spot_of ts i) (expr_of x.0) (subst (λ y. IfOk y (λ x. no_postfix (word_at ts x.1) ≡ true)) e q))
+    reader_answers Unary depth i (i + 1024) ts boxed_of r h (alone_unary depth i ts)
+    (λ x e. quiet_unary ts x.1 (spot_of ts i) (boxed_of x.0) (subst (λ y. IfOk y (λ x. no_postfix (word_at ts x.1) ≡ true)) e q))

@@ -1,5 +1,5 @@
 -- Laws of the reader of one word at a time, as code goes along with it.
-use Rattle.std.proofs.Common.{ℕ, ◌≡◌, ◌<◌, ◌≤◌, ◌+◌, ◌-◌, List, [], ◌∷◌, Some, None, Option, Bool, true, false, cond, nat_lt, ◌||◌, length, refl, ap, sym, ◌∙◌, subst, arith, Result, Ok, Err}
+use Rattle.std.proofs.Common.{ℕ, ◌≡◌, ◌<◌, ◌≤◌, ◌+◌, ◌-◌, List, [], ◌∷◌, Some, None, Bool, true, false, cond, nat_lt, ◌||◌, length, refl, ap, sym, ◌∙◌, subst, arith, Result, Ok, Err}
 use Rattle.std.specs.Prelude.{IsErrAnd}
 use Rattle.std.proofs.lemmas.Result.{err_from_is_err_and}
 use Rattle.std.proofs.lemmas.Bool.Decides.{nat_tests}
@@ -10,12 +10,10 @@ use Rattle.rc_syntax.specs.declared.tree.Spot.{Spot}
 use Rattle.rc_syntax.specs.declared.tree.Note.{Note}
 use Rattle.rc_syntax.specs.declared.word.Mark.TheVariants as m
 use Rattle.rc_syntax.specs.Tokens.{Word, mark}
-use Rattle.rc_syntax.specs.WordShapes.{tokens_of}
-use Rattle.rc_syntax.specs.Place.{line_at}
-use Rattle.rc_syntax.specs.Grammar.{Symbol, Level, Unary, Stars, Star, TreeOf, Placed, adds, reach}
-use Rattle.rc_syntax.specs.Todo.{Todo, build, stop, try, enter, begin, read, sees, when, Deeper, only, within}
-use Rattle.rc_syntax.specs.Reading.{first, tail, starred}
-use Rattle.rc_syntax.specs.Steps.{Stack, frame, State, about, amid as at, Answer, Refuses, Sinks, run, next, verdict, step, finish, place, taken, offer, give, first_of, opened, reached, too_deep}
+use Rattle.rc_syntax.specs.Grammar.{Symbol, Stars, Star, TreeOf, Placed, adds, reach}
+use Rattle.rc_syntax.specs.reader.Todo.{Todo, build, stop, try, enter, begin, read, sees, when, only, within}
+use Rattle.rc_syntax.specs.reader.Reading.{first, tail, starred}
+use Rattle.rc_syntax.specs.reader.Steps.{Stack, frame, State, about, amid as at, Answer, Refuses, Sinks, run, next, verdict, step, finish, place, taken, give, first_of, opened, reached, too_deep}
 use Rattle.rc_expr.specs.Goes.{from, line_of, spot_of, word_in, word_at, Stands, Misses, Takes, amid, inside, Around, Within, Faults, Goes, Quiet}
 use Rattle.rc_expr.proofs.Standing.{spot_first}
 

@@ -1,12 +1,12 @@
 -- Laws of the words of a list.
-use Rattle.std.proofs.Common.{ℕ, ◌≡◌, ◌<◌, ◌≤◌, ◌+◌, ◌-◌, List, [], ◌∷◌, Some, None, Option, length, drop, slice_index_or, refl, ap, sym, ◌∙◌, arith}
+use Rattle.std.proofs.Common.{ℕ, ◌≡◌, ◌<◌, ◌≤◌, ◌+◌, ◌-◌, List, [], ◌∷◌, Some, None, length, drop, slice_index_or, ap, sym, ◌∙◌, arith}
 use Rattle.std.specs.Prelude.{slice_get}
 use Rattle.std.proofs.lemmas.List.{drop_more, drop_all}
 use Rattle.rc_syntax.specs.declared.word.Token.{Token as CodeToken}
 use Rattle.rc_syntax.specs.declared.word.Mark.{Mark}
 use Rattle.rc_syntax.specs.declared.word.Key.{Key}
 use Rattle.rc_syntax.specs.Tokens.{Word, Token, mark, key}
-use Rattle.rc_syntax.specs.WordShapes.{word_of, tokens_of, token_of}
+use Rattle.rc_syntax.specs.WordShapes.{word_of, tokens_of}
 use Rattle.rc_syntax.specs.Grammar.{Placed, placed}
 use Rattle.rc_syntax.specs.Place.{line_at, last_line}
 use Rattle.rc_expr.specs.Goes.{from, line_of, spot_of, word_in, word_at, mark_in, key_in, Stands, Misses}

@@ -1,5 +1,5 @@
 -- Words that are tested, and words behind which a symbol is complete.
-use Rattle.std.proofs.Common.{ℕ, ◌≡◌, ◌≤◌, ◌+◌, Bool, true, false, Some, None, Option, [], ◌∷◌, List, cond, nat_le, refl, ap, sym, ◌∙◌, arith}
+use Rattle.std.proofs.Common.{ℕ, ◌≡◌, ◌≤◌, Bool, true, false, Some, None, Option, [], ◌∷◌, List, cond, nat_le, refl, ap, ◌∙◌, arith}
 use Rattle.std.proofs.lemmas.Bool.Decides.{nat_tests}
 use Rattle.rc_syntax.specs.declared.word.Token.{Token as CodeToken}
 use Rattle.rc_syntax.specs.declared.word.Key.TheVariants as y
@@ -11,8 +11,8 @@ use Rattle.rc_syntax.specs.declared.tree.BinaryOp.TheVariants as o
 use Rattle.rc_syntax.specs.Tokens.{Word, mark, key}
 use Rattle.rc_syntax.specs.Tree as t
 use Rattle.rc_syntax.specs.Grammar.{Symbol, Level, Unary, Arguments, Stars, TreeOf, Placed, level_of, mark_of, with_last}
-use Rattle.rc_syntax.specs.Todo.{Todo, stop, only, enter, build, when}
-use Rattle.rc_syntax.specs.Reading.{tail, is_open, is_close, is_close_bracket, is_comma, is_colon, is_int, is_question, more_stars, postfix_in, binary_of, operated, beside, chosen}
+use Rattle.rc_syntax.specs.reader.Todo.{stop, only, enter, build, when}
+use Rattle.rc_syntax.specs.reader.Reading.{tail, is_open, is_close, is_close_bracket, is_comma, is_colon, is_int, is_question, more_stars, postfix_in, binary_of, operated, beside, chosen}
 use Rattle.rc_expr.specs.Goes.{from, word_in, word_at, Misses, Quiet, no_postfix, at_least, operator_from}
 
 pub open_else : (x : Word) → (x ≡ mark m.OpenParenthesis → ⊥) → is_open x ≡ false

@@ -1,5 +1,7 @@
 -- How code that reads a symbol goes along with the reader of one word at a time, whatever is open round the symbol.
 use Rattle.std.specs.Prelude.{ℕ, ◌≡◌, ◌+◌, ◌-◌, ◌<◌, ◌≤◌, List, [], ◌∷◌, Option, Some, None, Result, Ok, Err, drop, length, nat_lt, nat_le, cond, Bool, true, false}
+use Rattle.std.specs.declared.boxed.Box.{Box}
+use Rattle.std.specs.declared.alloc.Global.{Global}
 use Rattle.rc_syntax.specs.declared.fault.ParseFault.{ParseFault}
 use Rattle.rc_syntax.specs.declared.fault.ParseFault.TheVariants.{Syntax, Deep, Memory}
 use Rattle.rc_syntax.specs.declared.word.Token.{Token as CodeToken}
@@ -10,6 +12,7 @@ use Rattle.rc_syntax.specs.declared.word.Mark.TheVariants as m
 use Rattle.rc_syntax.specs.declared.tree.BinaryOp.{BinaryOp}
 use Rattle.rc_syntax.specs.declared.tree.UnaryOp.{UnaryOp}
 use Rattle.rc_syntax.specs.declared.tree.UnaryOp.TheVariants as u
+use Rattle.rc_syntax.specs.declared.tree.Expr.{Expr}
 use Rattle.rc_syntax.specs.declared.tree.Spot.{Spot}
 use Rattle.rc_syntax.specs.declared.tree.Name.{Name}
 use Rattle.rc_syntax.specs.declared.tree.CastType.{CastType}
@@ -19,11 +22,20 @@ use Rattle.rc_syntax.specs.Tokens.{Word}
 use Rattle.rc_syntax.specs.WordShapes.{tokens_of}
 use Rattle.rc_syntax.specs.Place.{line_at}
 use Rattle.rc_syntax.specs.Tree as t
+use Rattle.rc_syntax.specs.Shape.{expr_of}
 use Rattle.rc_syntax.specs.Grammar as g
 use Rattle.rc_syntax.specs.Grammar.{Symbol, TreeOf, Placed, placed, level_of}
-use Rattle.rc_syntax.specs.Todo.{Todo, build, stop, only, try, read, sees, enter}
-use Rattle.rc_syntax.specs.Reading.{tail, binary_of, is_comma, is_close, is_int, cast_to}
-use Rattle.rc_syntax.specs.Steps.{Stack, bottom, frame, State, about, amid as at, Answer, Accepts, Refuses, Sinks, run, opened, reached}
+use Rattle.rc_syntax.specs.reader.Todo.{Todo, build, stop, only, try, read, sees, enter}
+use Rattle.rc_syntax.specs.reader.Reading.{tail, binary_of, is_comma, is_close, is_int, cast_to}
+use Rattle.rc_syntax.specs.reader.Steps.{Stack, bottom, frame, State, about, amid as at, Answer, Accepts, Refuses, Sinks, run, opened, reached}
+
+-- an expression in memory of its own, and what a parser of expressions answers without that memory
+abbrev pub boxed_of : Box Expr Global → t.Expr
+boxed_of b = expr_of b.value
+
+abbrev pub unboxed : Result (Box Expr Global × ℕ) ParseFault → Result (Expr × ℕ) ParseFault
+unboxed (Ok r) = Ok (r.0.value, r.1)
+unboxed (Err f) = Err f
 
 -- the words from a place on
 abbrev pub from : List CodeToken → ℕ → List Placed
@@ -206,6 +218,12 @@ abbrev pub key_of : CastType → Key
 key_of c.Int = Int
 key_of c.Unsigned = Unsigned
 key_of c.Char = Char
+
+-- Code that reads the type of a cast, and the parenthesis after it, from a state inside of them: its operand is left.
+abbrev pub ReadsCast : ℕ → ℕ → List CodeToken → ℕ → ℕ → Todo g.Unary → Result (CastType × ℕ) ParseFault → Type 0
+ReadsCast depth far tokens i q td r =
+    (root : Symbol) (round : ℕ) (k : Stack root g.Unary) → Within round depth far tokens i k →
+    Goes round tokens (λ to e. amid tokens i e (cast_to (spot_of tokens i) to) k) (run round (amid tokens i q td k) (from tokens q)) r
 
 abbrev pub cast_rest : Spot → CastType → Todo g.Unary
 cast_rest i c.Int = read (sees is_close (cast_to i c.Int))

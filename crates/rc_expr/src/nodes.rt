@@ -1,14 +1,18 @@
-// Nodes of trees, in memory of their own.
+// Nodes of trees, each in memory of its own.
 ghost use Rattle.std.specs.Prelude.{◌≡◌, ◌++◌, ◌∷◌, [], IfOk, IfErr, OnOk};
 ghost use Rattle.rc_syntax.specs.declared.fault.ParseFault.TheVariants.{Memory};
-ghost use Rattle.rc_syntax.specs.Shape.{expr_of, exprs_of, type_of};
+ghost use Rattle.rc_syntax.specs.Shape.{exprs_of, type_of};
 ghost use Rattle.rc_syntax.specs.Tree as t;
+ghost use Rattle.rc_expr.specs.Goes.{boxed_of};
 
 use rc_syntax::fault::ParseFault;
 use rc_syntax::tree::{BinaryOp, CastType, Expr, Name, Spot, TypeName, UnaryOp};
 use std::alloc::Global;
 
-/// Puts a value behind those before it.
+/// Puts a value after those before it.
+///
+/// # Errors
+/// `Memory` when out of memory; the value is gone then.
 pub fn add<T: Drop>(values: &mut Vec<T>, value: T) -> Result<(), ParseFault>
     ensures ok { OnOk result (values.new.items ≡ values.old.items ++ value ∷ []) }
     ensures err { IfErr result (λ f. f ≡ Memory) }
@@ -19,7 +23,11 @@ pub fn add<T: Drop>(values: &mut Vec<T>, value: T) -> Result<(), ParseFault>
     Ok(())
 }
 
-fn boxed(alloc: Global, value: Expr) -> Result<Box<Expr>, ParseFault>
+/// The value in memory of its own.
+///
+/// # Errors
+/// `Memory` when out of memory; the value is gone then.
+pub fn boxed<T: Drop>(alloc: Global, value: T) -> Result<Box<T>, ParseFault>
     ensures ok { IfOk result (λ b. b.value ≡ value) }
     ensures err { IfErr result (λ f. f ≡ Memory) }
 {
@@ -29,20 +37,39 @@ fn boxed(alloc: Global, value: Expr) -> Result<Box<Expr>, ParseFault>
     Ok(value)
 }
 
-/// An operator before its operand.
-pub fn unary_node(alloc: Global, spot: Spot, op: UnaryOp, value: Expr) -> Result<Expr, ParseFault>
-    ensures ok { IfOk result (λ e. expr_of e ≡ t.unary spot op (expr_of value)) }
+/// The value in memory of its own, and the place after it.
+pub fn leaf<T: Drop>(alloc: Global, value: T, end: u32) -> Result<(Box<T>, u32), ParseFault>
+    ensures ok { IfOk result (λ r. (r.0.value ≡ value) × (r.1 ≡ end)) }
     ensures err { IfErr result (λ f. f ≡ Memory) }
 {
-    Ok(Expr::Unary(spot, op, boxed(alloc, value)?))
+    let value = boxed(alloc, value)?;
+    Ok((value, end))
+}
+
+/// An operator before its operand.
+pub fn unary_node(
+    alloc: Global,
+    spot: Spot,
+    op: UnaryOp,
+    value: Box<Expr>,
+) -> Result<Box<Expr>, ParseFault>
+    ensures ok { IfOk result (λ e. boxed_of e ≡ t.unary spot op (boxed_of value)) }
+    ensures err { IfErr result (λ f. f ≡ Memory) }
+{
+    boxed(alloc, Expr::Unary(spot, op, value))
 }
 
 /// A cast.
-pub fn cast_node(alloc: Global, spot: Spot, to: CastType, value: Expr) -> Result<Expr, ParseFault>
-    ensures ok { IfOk result (λ e. expr_of e ≡ t.cast spot to (expr_of value)) }
+pub fn cast_node(
+    alloc: Global,
+    spot: Spot,
+    to: CastType,
+    value: Box<Expr>,
+) -> Result<Box<Expr>, ParseFault>
+    ensures ok { IfOk result (λ e. boxed_of e ≡ t.cast spot to (boxed_of value)) }
     ensures err { IfErr result (λ f. f ≡ Memory) }
 {
-    Ok(Expr::Cast(spot, to, boxed(alloc, value)?))
+    boxed(alloc, Expr::Cast(spot, to, value))
 }
 
 /// An operator between its operands.
@@ -50,88 +77,99 @@ pub fn binary_node(
     alloc: Global,
     spot: Spot,
     op: BinaryOp,
-    left: Expr,
-    right: Expr,
-) -> Result<Expr, ParseFault>
-    ensures ok { IfOk result (λ e. expr_of e ≡ t.binary spot op (expr_of left) (expr_of right)) }
+    left: Box<Expr>,
+    right: Box<Expr>,
+) -> Result<Box<Expr>, ParseFault>
+    ensures ok { IfOk result (λ e. boxed_of e ≡ t.binary spot op (boxed_of left) (boxed_of right)) }
     ensures err { IfErr result (λ f. f ≡ Memory) }
 {
-    let left = boxed(alloc, left)?;
-    Ok(Expr::Binary(spot, op, left, boxed(alloc, right)?))
+    boxed(alloc, Expr::Binary(spot, op, left, right))
 }
 
 /// A conditional.
 pub fn conditional_node(
     alloc: Global,
     spot: Spot,
-    test: Expr,
-    yes: Expr,
-    no: Expr,
-) -> Result<Expr, ParseFault>
-    ensures ok { IfOk result (λ e. expr_of e ≡ t.conditional spot (expr_of test) (expr_of yes) (expr_of no)) }
+    test: Box<Expr>,
+    yes: Box<Expr>,
+    no: Box<Expr>,
+) -> Result<Box<Expr>, ParseFault>
+    ensures ok { IfOk result (λ e. boxed_of e ≡ t.conditional spot (boxed_of test) (boxed_of yes) (boxed_of no)) }
     ensures err { IfErr result (λ f. f ≡ Memory) }
 {
-    let test = boxed(alloc, test)?;
-    let yes = boxed(alloc, yes)?;
-    Ok(Expr::Conditional(spot, test, yes, boxed(alloc, no)?))
+    boxed(alloc, Expr::Conditional(spot, test, yes, no))
 }
 
-/// An index behind what it goes into.
-pub fn index_node(alloc: Global, spot: Spot, value: Expr, index: Expr) -> Result<Expr, ParseFault>
-    ensures ok { IfOk result (λ e. expr_of e ≡ t.index spot (expr_of value) (expr_of index)) }
+/// An index, after what it goes into.
+pub fn index_node(
+    alloc: Global,
+    spot: Spot,
+    value: Box<Expr>,
+    index: Box<Expr>,
+) -> Result<Box<Expr>, ParseFault>
+    ensures ok { IfOk result (λ e. boxed_of e ≡ t.index spot (boxed_of value) (boxed_of index)) }
     ensures err { IfErr result (λ f. f ≡ Memory) }
 {
-    let value = boxed(alloc, value)?;
-    Ok(Expr::Index(spot, value, boxed(alloc, index)?))
+    boxed(alloc, Expr::Index(spot, value, index))
 }
 
 /// A field of what stands before it.
-pub fn member_node(alloc: Global, spot: Spot, value: Expr, field: Name) -> Result<Expr, ParseFault>
-    ensures ok { IfOk result (λ e. expr_of e ≡ t.member spot (expr_of value) field) }
+pub fn member_node(
+    alloc: Global,
+    spot: Spot,
+    value: Box<Expr>,
+    field: Name,
+) -> Result<Box<Expr>, ParseFault>
+    ensures ok { IfOk result (λ e. boxed_of e ≡ t.member spot (boxed_of value) field) }
     ensures err { IfErr result (λ f. f ≡ Memory) }
 {
-    Ok(Expr::Member(spot, boxed(alloc, value)?, field))
+    boxed(alloc, Expr::Member(spot, value, field))
 }
 
 /// A field of what the value before it points to.
-pub fn arrow_node(alloc: Global, spot: Spot, value: Expr, field: Name) -> Result<Expr, ParseFault>
-    ensures ok { IfOk result (λ e. expr_of e ≡ t.arrow spot (expr_of value) field) }
+pub fn arrow_node(
+    alloc: Global,
+    spot: Spot,
+    value: Box<Expr>,
+    field: Name,
+) -> Result<Box<Expr>, ParseFault>
+    ensures ok { IfOk result (λ e. boxed_of e ≡ t.arrow spot (boxed_of value) field) }
     ensures err { IfErr result (λ f. f ≡ Memory) }
 {
-    Ok(Expr::Arrow(spot, boxed(alloc, value)?, field))
+    boxed(alloc, Expr::Arrow(spot, value, field))
 }
 
 /// A call.
-pub fn call_node(name: Name, values: Vec<Expr>) -> Expr
-    ensures { expr_of result ≡ t.call name (exprs_of values.items) }
+pub fn call_node(alloc: Global, name: Name, values: Vec<Expr>) -> Result<Box<Expr>, ParseFault>
+    ensures ok { IfOk result (λ e. boxed_of e ≡ t.call name (exprs_of values.items)) }
+    ensures err { IfErr result (λ f. f ≡ Memory) }
 {
-    Expr::Call(name, values)
+    boxed(alloc, Expr::Call(name, values))
 }
 
 /// `ralloc`.
 pub fn ralloc_node(
     alloc: Global,
     spot: Spot,
-    region: Expr,
+    region: Box<Expr>,
     type_name: TypeName,
-) -> Result<Expr, ParseFault>
-    ensures ok { IfOk result (λ e. expr_of e ≡ t.ralloc spot (expr_of region) (type_of type_name)) }
+) -> Result<Box<Expr>, ParseFault>
+    ensures ok { IfOk result (λ e. boxed_of e ≡ t.ralloc spot (boxed_of region) (type_of type_name)) }
     ensures err { IfErr result (λ f. f ≡ Memory) }
 {
-    Ok(Expr::Ralloc(spot, boxed(alloc, region)?, type_name))
+    boxed(alloc, Expr::Ralloc(spot, region, type_name))
 }
 
 /// `rarrayalloc`.
 pub fn rarrayalloc_node(
     alloc: Global,
     spot: Spot,
-    region: Expr,
-    count: Expr,
+    region: Box<Expr>,
+    count: Box<Expr>,
     type_name: TypeName,
-) -> Result<Expr, ParseFault>
-    ensures ok { IfOk result (λ e. expr_of e ≡ t.rarrayalloc spot (expr_of region) (expr_of count) (type_of type_name)) }
+) -> Result<Box<Expr>, ParseFault>
+    ensures ok { IfOk result (λ e. boxed_of e ≡ t.rarrayalloc spot (boxed_of region) (boxed_of count) (type_of type_name)) }
     ensures err { IfErr result (λ f. f ≡ Memory) }
 {
-    let region = boxed(alloc, region)?;
-    Ok(Expr::RarrayAlloc(spot, region, boxed(alloc, count)?, type_name))
+    boxed(alloc, Expr::RarrayAlloc(spot, region, count, type_name))
 }

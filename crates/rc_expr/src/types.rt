@@ -3,8 +3,8 @@ ghost use Rattle.std.specs.Prelude.{◌≡◌, ◌<◌, ◌≤◌, ◌+◌, ◌+
 ghost use Rattle.rc_syntax.specs.declared.word.Mark.TheVariants as m;
 ghost use Rattle.rc_syntax.specs.Tokens.{mark};
 ghost use Rattle.rc_syntax.specs.Grammar as g;
-ghost use Rattle.rc_syntax.specs.Todo.{build};
-ghost use Rattle.rc_syntax.specs.Reading as r;
+ghost use Rattle.rc_syntax.specs.reader.Todo.{build};
+ghost use Rattle.rc_syntax.specs.reader.Reading as r;
 ghost use Rattle.rc_syntax.specs.Shape.{type_of};
 ghost use Rattle.rc_expr.specs.Goes.{spot_of, word_at, Stands, Misses, ReadsAnywhere, ContinuesAnywhere, begins_base};
 
@@ -95,7 +95,7 @@ pub fn stars(
     Ok((notes, place))
 }
 
-/// Reads a star and its annotation, behind `count` stars that begin at `at`.
+/// Reads a star and its annotation, after `count` stars that begin at `at`.
 fn star(
     tokens: &[Token],
     at: u32,

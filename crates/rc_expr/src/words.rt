@@ -113,7 +113,7 @@ pub fn deep_at(tokens: &[Token], at: u32) -> ParseFault
     ParseFault::Deep(line_at(tokens, at))
 }
 
-/// Takes the word at a place, unless it stands at `far` or behind, and answers the place after it.
+/// Takes the word at a place, unless it stands at `far` or after, and answers the place after it.
 pub fn taken(tokens: &[Token], at: u32, far: u32) -> Result<u32, ParseFault>
     requires { at < length tokens.now }
     ensures { MatchResult result (λ e. (at < far) × (e ≡ at + 1)) (λ f. (far ≤ at) × (f ≡ Deep (line_of tokens.now at))) }
@@ -131,17 +131,6 @@ pub fn expect_mark(tokens: &[Token], at: u32, far: u32, wanted: Mark) -> Result<
     ensures { Takes tokens.now at far (mark wanted) result }
 {
     if !is_mark(tokens, at, wanted) {
-        return Err(refused_at(tokens, at));
-    }
-    taken(tokens, at, far)
-}
-
-/// Takes this reserved word, and answers the place after it.
-pub fn expect_key(tokens: &[Token], at: u32, far: u32, wanted: Key) -> Result<u32, ParseFault>
-    requires { length tokens.now ≤ 1048576 }
-    ensures { Takes tokens.now at far (key wanted) result }
-{
-    if !is_key(tokens, at, wanted) {
         return Err(refused_at(tokens, at));
     }
     taken(tokens, at, far)

@@ -10,6 +10,3 @@ mod spread;
 
 pub use fact::Fact;
 pub use fact_set::FactSet;
-
-#[cfg(test)]
-mod tests;

@@ -2,7 +2,7 @@
 use Rattle.std.proofs.Common.{ℕ, zero, suc, ◌≡◌, ◌<◌, ◌≤◌, ◌+◌, ◌-◌, List, [], ◌∷◌, ◌++◌, append_assoc, append-nil, length, take, drop, get_or, Option, Some, None, true, false, refl, ap, sym, ◌∙◌, arith, length-drop}
 use Rattle.std.proofs.lemmas.Bool.Decides.{nat_tests}
 use Rattle.std.specs.Prelude.{◌==◌}
-use Rattle.rc_syntax.specs.Look.{value_next, one_further, one_value, body_at}
+use Rattle.rc_syntax.specs.reader.Look.{value_next, one_further, one_value, body_at}
 use Rattle.rc_syntax.proofs.LiteralLaws.{next_fits}
 
 pub test_not : (a b : ℕ) → (a ≡ b → ⊥) → (a == b) ≡ false

@@ -5,7 +5,7 @@ use Rattle.std.proofs.lemmas.Bool.Decides.{nat_tests}
 use Rattle.std.specs.List.{prefix_len}
 use Rattle.rc_syntax.specs.Bytes.{is_hexadecimal, Each}
 use Rattle.rc_syntax.specs.Numerals.{digit_value, value_in}
-use Rattle.rc_syntax.specs.Look.{value_at, hexadecimal_at}
+use Rattle.rc_syntax.specs.reader.Look.{value_at, hexadecimal_at}
 use Rattle.rc_syntax.proofs.ByteLaws.{all_of_each, front_length}
 use Rattle.rc_syntax.proofs.LiteralLaws.{run}
 use Rattle.rc_lexer.proofs.Values.{value_whole}

@@ -10,8 +10,8 @@ use Rattle.rc_syntax.specs.Tokens.{Word, Token, number, character, string, mark}
 use Rattle.rc_syntax.specs.WordShapes.{token_of, tokens_of}
 use Rattle.rc_syntax.specs.Bytes.{is_decimal, line_behind}
 use Rattle.rc_syntax.specs.Words.{opens_comment, Piece, blank, line_comment, block_comment, skipped_line, identifier, keyword, integer_constant, character_constant, string_literal, punctuator, with_line, Cut, IsStuck, StopsAt, BeginsWord, UnreadByte, UnreadToken, Words}
-use Rattle.rc_syntax.specs.Look as at
-use Rattle.rc_syntax.specs.Look.{Seen, found_mark, look, class_of}
+use Rattle.rc_syntax.specs.reader.Look as at
+use Rattle.rc_syntax.specs.reader.Look.{Seen, found_mark, look, class_of}
 use Rattle.rc_syntax.specs.Spellings.{key_spelling, mark_spelling}
 use Rattle.rc_syntax.specs.Literals.{plain}
 use Rattle.rc_syntax.specs.Numerals.{value_in, decimal, octal, number_type, Number, unsuffixed}

@@ -5,7 +5,7 @@ use Rattle.std.specs.List.{prefix_len}
 use Rattle.std.proofs.lemmas.List.Sums.{fold_more}
 use Rattle.rc_syntax.specs.Bytes.{is_margin, in_name, begins}
 use Rattle.rc_syntax.specs.Tokens.{Word}
-use Rattle.rc_syntax.specs.Look.{letter, class_of, name_word, found_word, number_word, number_at, further_end, comment_end, is_in_margin, look}
+use Rattle.rc_syntax.specs.reader.Look.{letter, class_of, name_word, found_word, number_word, number_at, further_end, comment_end, is_in_margin, look}
 
 -- a number, its whole length given
 pub number_from : (text : List ℕ) (n : ℕ) → 0 < length text → n ≡ 1 + prefix_len in_name (drop 1 text) →

@@ -6,7 +6,7 @@ use Rattle.std.proofs.lemmas.List.Folds.{list_all_at, list_all_more}
 use Rattle.std.specs.Prelude.{fold, nat_le}
 use Rattle.std.specs.List.{list_all}
 use Rattle.rc_syntax.specs.Numerals.{digit_value, value_in}
-use Rattle.rc_syntax.specs.Look.{is_digit_in, value_at}
+use Rattle.rc_syntax.specs.reader.Look.{is_digit_in, value_at}
 
 pub value_more : (base : ℕ) (digits : List ℕ) (i : ℕ) → i < length digits → value_in base (take (i + 1) digits) ≡ value_in base (take i digits) * base + digit_value (get_or digits i 0)
 value_more base digits i h = fold_more (λ value b. value * base + digit_value b) 0 digits i 0 h

@@ -1,6 +1,6 @@
 -- What definitions see of the pieces that the code finds.
 use Rattle.std.specs.Prelude.{ℕ, List, Option, Some, None}
-use Rattle.rc_syntax.specs.Look as look
+use Rattle.rc_syntax.specs.reader.Look as look
 use Rattle.rc_lexer.specs.declared.literal.Body.{Body}
 use Rattle.rc_lexer.specs.declared.piece.Piece.{Piece}
 use Rattle.rc_lexer.specs.declared.fault.LexFault.{LexFault}

@@ -4,7 +4,7 @@ use Rattle.rc_syntax.specs.declared.word.Word.{Word as CodeWord}
 use Rattle.rc_syntax.specs.Tokens.{Word}
 use Rattle.rc_syntax.specs.WordShapes.{word_of}
 use Rattle.rc_syntax.specs.Bytes.{is_margin, is_octal, is_hexadecimal, in_name, in_line}
-use Rattle.rc_syntax.specs.Look as look
+use Rattle.rc_syntax.specs.reader.Look as look
 use Rattle.rc_lexer.specs.declared.class.Class.{Class}
 use Rattle.rc_lexer.specs.declared.class.Class.TheVariants.{Blank, Letter, Digit, Quote, DoubleQuote, Slash, Hash, Other}
 use Rattle.rc_lexer.specs.declared.byte_set.ByteSet.{ByteSet}

@@ -1,6 +1,6 @@
 // Bytes by what they can begin.
 ghost use Rattle.std.specs.Prelude.{◌≡◌};
-ghost use Rattle.rc_syntax.specs.Look.{class_of};
+ghost use Rattle.rc_syntax.specs.reader.Look.{class_of};
 ghost use Rattle.rc_lexer.specs.Shapes.{class_shape};
 
 /// What a byte can begin.

@@ -6,7 +6,7 @@ ghost use Rattle.rc_syntax.specs.Words.{with_line, Words, UnreadByte, UnreadToke
 ghost use Rattle.rc_lexer.specs.Lexes.{Lexes, GivesWords, Refuses};
 ghost use Rattle.rc_lexer.specs.declared.fault.LexFault.TheVariants.{TooLong, Byte, Token as TokenFault, Memory};
 ghost use Rattle.rc_lexer.specs.Shapes.{word_in};
-ghost use Rattle.rc_syntax.specs.Look.{class_of};
+ghost use Rattle.rc_syntax.specs.reader.Look.{class_of};
 ghost use Rattle.rc_lexer.specs.Pieces.{fault_of};
 
 use crate::class::{Class, class_of};

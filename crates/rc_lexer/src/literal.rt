@@ -3,7 +3,7 @@ ghost use Rattle.std.specs.Prelude.{◌≡◌, ◌<◌, ◌≤◌, length, take,
 ghost use Rattle.std.specs.List.{prefix_len};
 ghost use Rattle.rc_syntax.specs.Bytes.{is_octal, is_hexadecimal};
 ghost use Rattle.rc_syntax.specs.Literals.{simple_escape};
-ghost use Rattle.rc_syntax.specs.Look.{octal_at, hexadecimal_at, escape_at, value_next, body_at};
+ghost use Rattle.rc_syntax.specs.reader.Look.{octal_at, hexadecimal_at, escape_at, value_next, body_at};
 ghost use Rattle.rc_lexer.specs.Pieces.{body_in};
 ghost use Rattle.rc_lexer.specs.declared.fault.LexFault.TheVariants.{Memory};
 

@@ -2,7 +2,7 @@
 ghost use Rattle.std.specs.Prelude.{◌≡◌, ◌<◌, ◌≤◌, length};
 ghost use Rattle.rc_syntax.specs.Bytes.{is_decimal};
 ghost use Rattle.rc_syntax.specs.Numerals.{digit_value};
-ghost use Rattle.rc_syntax.specs.Look.{base_of, is_digit_in, value_at, number_in, numeral_word, number_word};
+ghost use Rattle.rc_syntax.specs.reader.Look.{base_of, is_digit_in, value_at, number_in, numeral_word, number_word};
 ghost use Rattle.rc_lexer.specs.Shapes.{word_in};
 
 use rc_syntax::word::Word;

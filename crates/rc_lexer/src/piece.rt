@@ -2,7 +2,7 @@
 ghost use Rattle.std.specs.Prelude.{◌≡◌, ◌<◌, ◌≤◌, ◌+◌, ◌==◌, ◌&&◌, length, drop, slice_index, option_map, IfOk, IfErr, IfSome};
 ghost use Rattle.std.specs.List.{prefix_len};
 ghost use Rattle.rc_syntax.specs.Bytes.{in_name, begins};
-ghost use Rattle.rc_syntax.specs.Look.{name_word, number_at, comment_end, slash_at, mark_at, is_in_margin, include_at, hash_at, closed, string_of, body_at, value_next, look};
+ghost use Rattle.rc_syntax.specs.reader.Look.{name_word, number_at, comment_end, slash_at, mark_at, is_in_margin, include_at, hash_at, closed, string_of, body_at, value_next, look};
 ghost use Rattle.rc_syntax.specs.WordShapes.{word_of};
 ghost use Rattle.rc_lexer.specs.Pieces.{piece_in};
 ghost use Rattle.rc_lexer.specs.declared.fault.LexFault.TheVariants.{Memory};

@@ -12,6 +12,3 @@ mod raw;
 
 pub use bank::Bank;
 pub use pages::Pages;
-
-#[cfg(test)]
-mod tests;

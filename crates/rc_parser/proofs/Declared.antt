@@ -11,26 +11,22 @@ use Rattle.rc_syntax.specs.Tokens.{Word, mark, key}
 use Rattle.rc_syntax.specs.Tree.{Field}
 use Rattle.rc_syntax.specs.Shape.{type_of}
 use Rattle.rc_syntax.specs.declared.tree.TypeName.{TypeName as TypeTree}
-use Rattle.rc_syntax.specs.Grammar.{Symbol, TreeOf, Placed, FieldDec, LocalDec, Stars, Base, Fields, Field as FieldSymbol, TypeName, Param as ParamSymbol, Params, ParamsEnd, Constant as ConstantSymbol}
-use Rattle.rc_syntax.specs.Todo.{Todo, begin, build, stop, is_stop, read, sees, Deeper, within}
-use Rattle.rc_syntax.specs.Reading.{field_starred, local_starred, base, base_in, fields_of, first, tail, type_name, param_typed, params_end_in, constant_in, is_close}
-use Rattle.rc_syntax.specs.Steps.{Stack, frame, State, about, run, amid as at, step, place, taken}
+use Rattle.rc_syntax.specs.Grammar.{Symbol, TreeOf, Placed, FieldDec, Stars, Base, Fields, Field as FieldSymbol, TypeName, Param as ParamSymbol, Params, ParamsEnd, Constant as ConstantSymbol}
+use Rattle.rc_syntax.specs.reader.Todo.{Todo, begin, build, stop, is_stop, read, sees, Deeper, within}
+use Rattle.rc_syntax.specs.reader.Reading.{field_starred, base, base_in, fields_of, first, tail, type_name, param_typed, params_end_in, constant_in, is_close}
+use Rattle.rc_syntax.specs.reader.Steps.{Stack, frame, State, about, run, amid as at, step, place, taken}
 use Rattle.rc_expr.specs.Goes.{from, spot_of, word_at, amid, inside, begins_base, Goes, Misses}
 use Rattle.rc_expr.proofs.Standing.{spot_first}
 use Rattle.rc_expr.proofs.Running.{same_run, faults_along}
-use Rattle.rc_parser.specs.Along.{Parses, Starts, Proceeds, constant_of}
-use Rattle.rc_parser.proofs.Going.{along_start, takes_some}
-use Rattle.rc_parser.proofs.Inside.{Enters}
+use Rattle.rc_stmt.specs.Along.{Parses, Starts, Proceeds}
+use Rattle.rc_parser.specs.Items.{constant_of}
+use Rattle.rc_stmt.proofs.Going.{along_start, takes_some}
+use Rattle.rc_stmt.proofs.Inside.{Enters}
 
 field_step : {root : Symbol} (sp : Spot) (x : Word) (k : Stack root FieldDec) → step (about k) (record { word = x; spot = sp }) ≡ step (at sp (begin Stars [] (field_starred sp)) 0 k) (record { word = x; spot = sp })
 field_step sp (mark m.Star) k = refl
 field_step sp (w.name x) k = refl
 field_step sp _ k = refl
-
-local_step : {root : Symbol} (sp : Spot) (x : Word) (k : Stack root LocalDec) → step (about k) (record { word = x; spot = sp }) ≡ step (at sp (begin Stars [] (local_starred sp)) 0 k) (record { word = x; spot = sp })
-local_step sp (mark m.Star) k = refl
-local_step sp (w.name x) k = refl
-local_step sp _ k = refl
 
 pub field_starts : {A : Type 0} {depth : ℕ} {ts : List CodeToken} {q : ℕ} {shape : A → TreeOf FieldDec} {r : Result (A × ℕ) ParseFault} →
     Proceeds FieldDec depth ts q q (begin Stars [] (field_starred (spot_of ts q))) shape r → Starts FieldDec depth ts q shape r
@@ -42,18 +38,6 @@ field_starts {A} {depth} {ts} {q} {shape} {r} p =
     field_step x.spot x.word k
     ∙ ap (λ sp. step (at sp (begin Stars [] (field_starred sp)) 0 k) x) (sym (spot_first ts q x xs e))
     ∙ ap (λ n. step (at (spot_of ts q) (begin Stars [] (field_starred (spot_of ts q))) n k) x) (sym none)))
-    p
-
-pub local_starts : {A : Type 0} {depth : ℕ} {ts : List CodeToken} {q : ℕ} {shape : A → TreeOf LocalDec} {r : Result (A × ℕ) ParseFault} →
-    Proceeds LocalDec depth ts q q (begin Stars [] (local_starred (spot_of ts q))) shape r → Starts LocalDec depth ts q shape r
-local_starts {A} {depth} {ts} {q} {shape} {r} p =
-    let none : q - q ≡ 0 = omega arith in
-    along_start
-    (λ root round k a. same_run round (about k) (amid ts q q (begin Stars [] (local_starred (spot_of ts q))) k) (from ts q) refl
-    (λ x xs e.
-    local_step x.spot x.word k
-    ∙ ap (λ sp. step (at sp (begin Stars [] (local_starred sp)) 0 k) x) (sym (spot_first ts q x xs e))
-    ∙ ap (λ n. step (at (spot_of ts q) (begin Stars [] (local_starred (spot_of ts q))) n k) x) (sym none)))
     p
 
 -- Fields go on where a base begins.

@@ -1,5 +1,5 @@
 -- How items and their parts begin.
-use Rattle.std.proofs.Common.{ℕ, ◌≡◌, ◌≤◌, ◌-◌, List, Some, false, refl, ap, sym, ◌∙◌, subst, arith, Result, Ok, Err}
+use Rattle.std.proofs.Common.{ℕ, ◌≡◌, ◌≤◌, ◌-◌, List, [], Some, false, refl, ap, sym, ◌∙◌, subst, arith, Result, Ok, Err}
 use Rattle.rc_syntax.specs.declared.fault.ParseFault.{ParseFault}
 use Rattle.rc_syntax.specs.declared.word.Token.{Token as CodeToken}
 use Rattle.rc_syntax.specs.declared.word.Key.TheVariants as y
@@ -7,14 +7,15 @@ use Rattle.rc_syntax.specs.declared.word.Mark.TheVariants as m
 use Rattle.rc_syntax.specs.declared.tree.Spot.{Spot}
 use Rattle.rc_syntax.specs.declared.tree.Base.{Base as BaseTree}
 use Rattle.rc_syntax.specs.Tokens.{Word, mark, key}
-use Rattle.rc_syntax.specs.Grammar.{Symbol, TreeOf, Placed, Item, Base, BodyEnd, Block, FunctionEnd}
-use Rattle.rc_syntax.specs.Todo.{build, Deeper, within}
-use Rattle.rc_syntax.specs.Reading.{first, base, item_in, item_based, body_end_in, function_end_in}
-use Rattle.rc_syntax.specs.Steps.{Stack, frame, about, amid as at, run, place}
-use Rattle.rc_expr.specs.Goes.{from, spot_of, word_in, word_at, inside, Misses, Goes}
+use Rattle.rc_syntax.specs.Grammar.{Symbol, TreeOf, Placed, Item, Base, BodyEnd, Block, FunctionEnd, Stars}
+use Rattle.rc_syntax.specs.reader.Todo.{begin, build, read, Deeper, within}
+use Rattle.rc_syntax.specs.reader.Reading.{first, base, item_in, item_based, item_named, named, body_end_in, function_end_in}
+use Rattle.rc_syntax.specs.reader.Steps.{Stack, frame, about, amid as at, run, step, place}
+use Rattle.rc_expr.specs.Goes.{from, spot_of, word_in, word_at, amid, inside, Misses, Goes}
 use Rattle.rc_expr.proofs.Standing.{spot_first}
 use Rattle.rc_expr.proofs.Running.{same_run, faults_along}
-use Rattle.rc_parser.specs.Along.{Parses, Starts, Proceeds}
+use Rattle.rc_stmt.specs.Along.{Parses, Starts, Proceeds}
+use Rattle.rc_stmt.proofs.Going.{along}
 
 body_else : (x : Word) (d : Deeper BodyEnd) → (x ≡ mark m.Semicolon → ⊥) → body_end_in x d ≡ d
 body_else (mark m.Semicolon) d h = absurd (h refl)
@@ -66,3 +67,12 @@ module _ {A : Type 0} {depth : ℕ} {ts : List CodeToken} {q : ℕ} {shape : A �
         goes = λ root outer round own i g k le2 a.
             faults_along ts _ _ f (item_begins round ts q (frame own (q - i) g k) s d v) (c.goes root Item round (spot_of ts q) q (item_based (spot_of ts q)) (frame own (q - i) g k) le a);
       }
+
+-- The first declarator after a base.
+pub peeked : {A : Type 0} {depth : ℕ} {ts : List CodeToken} {i : ℕ} {shape : A → TreeOf Item} {r : Result (A × ℕ) ParseFault} (q : ℕ) (sp : Spot) (base : BaseTree) →
+    Proceeds Item depth ts i q (begin Stars [] (λ ns. read (named (item_named sp base (q - i) (spot_of ts q) ns)))) shape r → Proceeds Item depth ts i q (item_based sp base) shape r
+peeked {A} {depth} {ts} {i} {shape} {r} q sp base p = along
+    (λ root round k a.
+    same_run round (amid ts i q (item_based sp base) k) (amid ts i q (begin Stars [] (λ ns. read (named (item_named sp base (q - i) (spot_of ts q) ns)))) k) (from ts q) refl
+    (λ w ws e. ap (λ own. step (amid ts i q (begin Stars [] (λ ns. read (named (item_named sp base (q - i) own ns)))) k) w) (sym (spot_first ts q w ws e))))
+    p

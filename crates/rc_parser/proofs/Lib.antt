@@ -1,7 +1,4 @@
-pub mod Going
-pub mod Tests
+pub mod Numbers
 pub mod Declared
-pub mod Inside
 pub mod Itemed
 pub mod Texts
-pub mod Stated

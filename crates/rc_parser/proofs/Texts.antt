@@ -14,14 +14,15 @@ use Rattle.rc_syntax.specs.Tree as t
 use Rattle.rc_syntax.specs.Shape.{tree_of}
 use Rattle.rc_syntax.specs.Place.{AnswersAll, line_at}
 use Rattle.rc_syntax.specs.Grammar.{Symbol, Placed, placed, Text, Item, Base}
-use Rattle.rc_syntax.specs.Todo.{Todo, build, read}
-use Rattle.rc_syntax.specs.Reading.{first, base_in, item_based, item_deleting, function_named, named, struct_named}
-use Rattle.rc_syntax.specs.Steps.{Stack, bottom, frame, State, entry, about, amid as at, Answer, Accepts, run, next, place, first_of}
+use Rattle.rc_syntax.specs.reader.Todo.{Todo, build, read}
+use Rattle.rc_syntax.specs.reader.Reading.{first, base_in, item_based, item_deleting, function_named, named, struct_named}
+use Rattle.rc_syntax.specs.reader.Steps.{Stack, bottom, frame, State, entry, about, amid as at, Answer, Accepts, run, next, place, first_of}
 use Rattle.rc_syntax.proofs.Whole.{MeansAll, text_means}
 use Rattle.rc_expr.specs.Goes.{from, line_of, word_in, word_at, Faults}
 use Rattle.rc_expr.proofs.Standing.{from_more, from_past}
-use Rattle.rc_parser.specs.Along.{Outside, Parses, begins_item}
-use Rattle.rc_parser.proofs.Inside.{goes_into_at}
+use Rattle.rc_stmt.specs.Along.{Outside, Parses}
+use Rattle.rc_parser.specs.Items.{begins_item}
+use Rattle.rc_stmt.proofs.Inside.{goes_into_at}
 
 item_places : {root : Symbol} (sp : Spot) (x : Word) (k : Stack root Item) → begins_item (Some x) ≡ true → (st : State root) × (place (record { word = x; spot = sp }) (first Item (record { word = x; spot = sp })) sp 0 k ≡ Some st)
 item_places sp (key y.Struct) k h = (at sp (read (named (struct_named sp))) (0 + 1) k, refl)
@@ -43,7 +44,7 @@ item_stays sp (key y.Char) k h = absurd cc
 item_stays sp (key y.Region) k h = absurd cc
 item_stays sp _ k h = refl
 
--- The items that were read, before a word; and behind the first of them.
+-- The items that were read, before a word; and after the first of them.
 abbrev pub start : Spot
 start = record { place = 0; line = 0 }
 
@@ -93,10 +94,10 @@ all_words ts = placed 0 (tokens_of ts)
 fault_answers : (ts : List CodeToken) (a : Answer Text) (f : ParseFault) → MeansAll (all_words ts) a → Faults ts a f → AnswersAll (tokens_of ts) (Err f)
 fault_answers ts a (Syntax line) m (rest, e, l) =
     let x = subst (MeansAll (all_words ts)) e m in
-    (x.0, rest, x.1, x.2, x.3, l)
+    record { front = x.0; rest = rest; stretch = x.1; shallow = x.2; no_tree = x.3; on_line = l }
 fault_answers ts a (Deep line) m (rest, e, l) =
     let x = subst (MeansAll (all_words ts)) e m in
-    (rest, x, l)
+    record { rest = rest; too_deep = x; on_line = l }
 fault_answers ts a Memory m h = tt
 
 all_means : (ts : List CodeToken) (a : Answer Text) → run 0 (entry Text) (from ts 0) ≡ a → MeansAll (all_words ts) a
@@ -117,7 +118,7 @@ rest_refused ts is q f h within same along =
     let ps = w.1 in
     let none : begins_item (Some p.word) ≡ false = ap (λ ws. begins_item (word_in ws)) (sym w.2) ∙ h in
     let x = all_means ts (Accepts is (p ∷ ps)) (along ∙ ap (run 0 (behind is q)) w.2 ∙ text_stops is q p ps none) in
-    subst (λ y. AnswersAll (tokens_of ts) (Err y)) (sym same) (x.0, p ∷ ps, x.1, x.2, x.3, ap (line_at (tokens_of ts)) w.2)
+    subst (λ y. AnswersAll (tokens_of ts) (Err y)) (sym same) (record { front = x.0; rest = p ∷ ps; stretch = x.1; shallow = x.2; no_tree = x.3; on_line = ap (line_at (tokens_of ts)) w.2 })
   where
     some_word : (ts : List CodeToken) (q : ℕ) → q < length ts → (p : Placed) × (ps : List Placed) × (from ts q ≡ p ∷ ps)
     some_word [] q within = absurd (omega (arith, within))

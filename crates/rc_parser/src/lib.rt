@@ -1,10 +1,12 @@
 //! Reads whole texts: from their words to their tree.
 #![tactic(auto)]
 
-pub mod decls;
-pub mod items;
-pub mod parts;
-pub mod stmts;
+mod fields;
+mod functions;
+mod globals;
+mod items;
+mod params;
+mod parts;
 
 pub use items::parse;
 pub use rc_syntax::fault::ParseFault;

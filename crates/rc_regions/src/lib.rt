@@ -4,8 +4,6 @@
 mod ascent;
 mod record;
 mod table;
-#[cfg(test)]
-mod tests;
 mod tree;
 
 pub use tree::Tree;

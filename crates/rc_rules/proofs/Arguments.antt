@@ -1,20 +1,21 @@
 -- What arguments are converted to, one after another.
 use Rattle.std.proofs.Common.{◌≡◌, ◌<◌, ◌+◌, ℕ, zero, suc, refl, ap, sym, ◌∙◌, List, [], ◌∷◌, ◌++◌, append_assoc, Option, Some, None, Bool, true, false, ◌&&◌, nat_eq, length, map, drop, is_none, is_some, ◌≤◌, arith, add-one}
 use Rattle.rc_syntax.specs.declared.tree.Spot.{Spot}
-use Rattle.std.specs.declared.vec.Vec.{Vec}
+use Rattle.std.proofs.lemmas.List.{map-append}
+use Rattle.std.specs.declared.boxed.Box.{Box}
 use Rattle.std.specs.declared.alloc.Global.{Global as Alloc}
 use Rattle.rc_core.specs.declared.ty.Ty.{Ty as CodeTy}
+use Rattle.std.specs.declared.vec.Vec.{Vec}
 use Rattle.rc_core.specs.declared.expr.Expr.{Expr as CodeExpr, Call}
 use Rattle.rc_core.specs.Programs.{Expr, call}
-use Rattle.rc_core.specs.Shapes.{ty_of, expr_of, arguments_of}
-use Rattle.rc_core.proofs.ShapeRows.{made_call}
-use Rattle.rc_deletes.specs.Kinds.{number_or}
-use Rattle.rc_deletes.specs.Scopes.{Signature}
+use Rattle.rc_core.specs.Shapes.{ty_of, expr_of, arguments_listed}
+use Rattle.rc_core.proofs.ShapeRows.{call_is}
 use Rattle.rc_deletes.specs.declared.fault.Refusal.TheVariants.{Unknown, Mistyped, Arity}
 use Rattle.rc_deletes.specs.Judged.{Holds, first_fault}
 use Rattle.rc_deletes.specs.Values.{Typed}
-use Rattle.rc_deletes.specs.Calls.{Callee, the_function, Parameter, of_type, is_defined, gives, parameters, fitted_arguments, with_argument, call_rule, called}
+use Rattle.rc_deletes.specs.Calls.{Callee, Parameter, of_type, is_defined, is_function, gives, parameters, fitted_arguments, with_argument, call_rule}
 use Rattle.rc_rules.specs.Parameters.{fitted_at}
+use Rattle.rc_rules.specs.Shapes.{code_of}
 
 -- the arguments that are converted, and what the rest gives
 abbrev pub after : List Expr → Option (List Expr) → Option (List Expr)
@@ -43,17 +44,20 @@ argument_taken ps place v vs h = rw add-one (taken ps place v vs h)
 pub call_unknown : (wanted : Bool) (at : Spot) (f : Callee) (vs : List Typed) → is_defined f ≡ false → first_fault (call_rule wanted at f vs) ≡ Some (record { at = at; refusal = Unknown })
 call_unknown wanted at f vs d = rw d refl
 
-pub call_mistyped : (wanted : Bool) (at : Spot) (f : Callee) (vs : List Typed) → is_defined f ≡ true → fitted_arguments (parameters f) vs ≡ None → first_fault (call_rule wanted at f vs) ≡ Some (record { at = at; refusal = Mistyped })
-call_mistyped wanted at f vs d p = rw (d, p) refl
+pub call_no_function : (wanted : Bool) (at : Spot) (f : Callee) (vs : List Typed) → is_defined f ≡ true → is_function f ≡ false → first_fault (call_rule wanted at f vs) ≡ Some (record { at = at; refusal = Mistyped })
+call_no_function wanted at f vs d k = rw (d, k) refl
 
-pub call_without_value : (wanted : Bool) (at : Spot) (f : Callee) (vs : List Typed) (es : List Expr) → is_defined f ≡ true → fitted_arguments (parameters f) vs ≡ Some es → (wanted && is_none (gives f)) ≡ true → first_fault (call_rule wanted at f vs) ≡ Some (record { at = at; refusal = Mistyped })
-call_without_value wanted at f vs es d p w = rw (d, p, w) refl
+pub call_mistyped : (wanted : Bool) (at : Spot) (f : Callee) (vs : List Typed) → is_defined f ≡ true → is_function f ≡ true → fitted_arguments (parameters f) vs ≡ None → first_fault (call_rule wanted at f vs) ≡ Some (record { at = at; refusal = Mistyped })
+call_mistyped wanted at f vs d k p = rw (d, k, p) refl
 
-pub call_arity : (wanted : Bool) (at : Spot) (f : Callee) (vs : List Typed) (es : List Expr) → is_defined f ≡ true → fitted_arguments (parameters f) vs ≡ Some es → (wanted && is_none (gives f)) ≡ false → nat_eq (length (parameters f)) (length vs) ≡ false → first_fault (call_rule wanted at f vs) ≡ Some (record { at = at; refusal = Arity })
-call_arity wanted at f vs es d p w n = rw (d, p, w, n) refl
+pub call_without_value : (wanted : Bool) (at : Spot) (f : Callee) (vs : List Typed) (es : List Expr) → is_defined f ≡ true → is_function f ≡ true → fitted_arguments (parameters f) vs ≡ Some es → (wanted && is_none (gives f)) ≡ true → first_fault (call_rule wanted at f vs) ≡ Some (record { at = at; refusal = Mistyped })
+call_without_value wanted at f vs es d k p w = rw (d, k, p, w) refl
 
-pub call_holds : (wanted : Bool) (at : Spot) (f : Callee) (vs : List Typed) (es : List Expr) → is_defined f ≡ true → fitted_arguments (parameters f) vs ≡ Some es → (wanted && is_none (gives f)) ≡ false → nat_eq (length (parameters f)) (length vs) ≡ true → call_rule wanted at f vs ≡ Holds es
-call_holds wanted at f vs es d p w n = rw (d, p, w, n) refl
+pub call_arity : (wanted : Bool) (at : Spot) (f : Callee) (vs : List Typed) (es : List Expr) → is_defined f ≡ true → is_function f ≡ true → fitted_arguments (parameters f) vs ≡ Some es → (wanted && is_none (gives f)) ≡ false → nat_eq (length (parameters f)) (length vs) ≡ false → first_fault (call_rule wanted at f vs) ≡ Some (record { at = at; refusal = Arity })
+call_arity wanted at f vs es d k p w n = rw (d, k, p, w, n) refl
+
+pub call_holds : (wanted : Bool) (at : Spot) (f : Callee) (vs : List Typed) (es : List Expr) → is_defined f ≡ true → is_function f ≡ true → fitted_arguments (parameters f) vs ≡ Some es → (wanted && is_none (gives f)) ≡ false → nat_eq (length (parameters f)) (length vs) ≡ true → call_rule wanted at f vs ≡ Holds es
+call_holds wanted at f vs es d k p w n = rw (d, k, p, w, n) refl
 
 -- an argument beyond the parameters
 
@@ -79,6 +83,10 @@ pub types_taken : (ts : List CodeTy) → map (λ t. of_type (ty_of t)) ts ≡ ma
 types_taken [] = refl
 types_taken (t ∷ ts) = ap (λ ps. of_type (ty_of t) ∷ ps) (types_taken ts)
 
+-- one argument more in a row
+pub row_more : (all : List Expr) (es : List CodeExpr) (b : Box CodeExpr Alloc) (rest : List (Box CodeExpr Alloc)) → all ≡ map expr_of es ++ map code_of (b ∷ rest) → all ≡ map expr_of (es ++ b.value ∷ []) ++ map code_of rest
+row_more all es b rest h = h ∙ (sym (append_assoc (map expr_of es) (expr_of b.value ∷ []) (map code_of rest)) ∙ sym (ap (λ l. l ++ map code_of rest) (map-append expr_of es (b.value ∷ []))))
+
 -- the code of a call
-pub call_code : (line f : ℕ) (number : Option ℕ) (s : Signature) (g : Callee) (v : Vec CodeExpr Alloc) → g ≡ the_function number s → f ≡ number_or number 0 → expr_of (Call line f v) ≡ called line g (map expr_of v.items)
-call_code line f number s g v h e = made_call line f v ∙ (ap (λ k. call line k (arguments_of v.items)) e ∙ sym (ap (λ q. called line q (map expr_of v.items)) h))
+pub call_made : (e : CodeExpr) (line f : ℕ) (v : Vec CodeExpr Alloc) (es : List Expr) → e ≡ Call line f v → map expr_of v.items ≡ es → expr_of e ≡ call line f (arguments_listed es)
+call_made e line f v es h k = call_is e line f v h ∙ ap (λ l. call line f (arguments_listed l)) k

@@ -1,4 +1,3 @@
-pub mod Stops
 pub mod Shapes
 pub mod Sizes
 pub mod Parameters

@@ -1,6 +1,6 @@
 // The rules of calls.
 ghost use Rattle.std.specs.Prelude.{◌≡◌, ◌<◌, ◌++◌, [], ◌∷◌, List, map, length, option_map, slice_get, IfOk, IfErr, OnOk, Option, Some, None, is_some, is_none, ◌&&◌};
-ghost use Rattle.rc_core.specs.Shapes.{ty_of, expr_of, stmt_of};
+ghost use Rattle.rc_core.specs.Shapes.{ty_of, expr_of, stmt_of, arguments_listed};
 ghost use Rattle.rc_core.specs.Programs as p;
 ghost use Rattle.rc_core.specs.Types.{int, region as region_type, pointer};
 ghost use Rattle.rc_core.specs.Typing.{value_type};
@@ -9,35 +9,39 @@ ghost use Rattle.rc_deletes.specs.Calls as rule;
 ghost use Rattle.rc_deletes.specs.Judged.{Holds};
 ghost use Rattle.rc_deletes.specs.Values.{fitted as fitted_value};
 ghost use Rattle.rc_deletes.specs.Kinds.{sort_of, number_or};
+ghost use Rattle.rc_operators.specs.Shapes.{typed_of};
+ghost use Rattle.rc_operators.specs.Stops.{StopsAt, IsRule};
 ghost use Rattle.rc_rules.specs.Parameters.{parameters_of, fitted_at};
-ghost use Rattle.rc_rules.specs.Shapes.{typed_of, meaning_of, callee_of};
-ghost use Rattle.rc_rules.specs.Stops.{StopsAt, IsRule};
+ghost use Rattle.rc_rules.specs.Shapes.{meaning_of, callee_of, code_of};
 
-use crate::kinds;
-use crate::meanings::{Callee, Meaning, Typed};
-use crate::stop::{Stop, add, boxed, fails, fails_with, mistyped, nothing};
-use crate::values::fitted;
+use crate::meanings::{Callee, Meaning};
 use rc_core::expr::Expr;
 use rc_core::stmt::Stmt;
 use rc_core::ty::{Note, Ty};
 use rc_deletes::{Builtin, Refusal, Sort};
+use rc_operators::{Stop, Typed, add, boxed, copy_of, fails, fitted, sort_of, typed, value_type};
 use rc_syntax::tree::Spot;
 use std::alloc::Global;
 
 /// What the parameters of a function take.
 #[derive(Clone, Copy)]
-pub enum Parameters<'a> {
+enum Parameters<'a> {
     /// Each what its type takes.
     Types(&'a [Ty]),
+    None,
+    /// One, which takes a region.
+    Region,
+    /// One, which takes an `int`.
+    Int,
     /// One, which takes every pointer.
     AnyPointer,
 }
 
-/// The function that a called name stands for.
+/// What a called name stands for.
 ///
 /// # Errors
 ///
-/// The name is unknown, or the name of no function: the node is mistyped.
+/// The name is unknown.
 pub fn callee_rule<'a>(at: Spot, meaning: Option<&'a Meaning>) -> Result<Callee<'a>, Stop>
     ensures ok { IfOk result (λ f. rule.callee_rule at (option_map (λ m. meaning_of m.now) meaning.entry) ≡ Holds (callee_of f)) }
     ensures err { IfErr result (StopsAt (rule.callee_rule at (option_map (λ m. meaning_of m.now) meaning.entry))) }
@@ -45,20 +49,29 @@ pub fn callee_rule<'a>(at: Spot, meaning: Option<&'a Meaning>) -> Result<Callee<
 {
     match meaning {
         None => fails(at, Refusal::Unknown),
-        Some(Meaning::Local(_, _)) => fails(at, Refusal::Mistyped),
-        Some(Meaning::Global(_, _, _)) => fails(at, Refusal::Mistyped),
+        Some(Meaning::Local(_, _)) => Ok(Callee::NoFunction),
+        Some(Meaning::Global(_, _, _)) => Ok(Callee::NoFunction),
         Some(Meaning::Function(number, signature)) => Ok(Callee::Function(*number, signature)),
         Some(Meaning::Builtin(builtin)) => Ok(Callee::Builtin(*builtin)),
     }
 }
 
+/// Whether a function is defined.
 fn is_defined(callee: Callee) -> bool
     ensures { result ≡ rule.is_defined (callee_of callee.entry) }
 {
     match callee {
         Callee::Function(number, _) => number.is_some(),
         Callee::Builtin(_) => true,
+        Callee::NoFunction => true,
     }
+}
+
+/// Whether what is called is a function.
+fn is_function(callee: Callee) -> bool
+    ensures { result ≡ rule.is_function (callee_of callee.entry) }
+{
+    !matches!(callee, Callee::NoFunction)
 }
 
 /// The type of a call, none where the function gives no value.
@@ -69,8 +82,8 @@ fn gives(alloc: Global, callee: Callee) -> Result<Option<Ty>, Stop>
     match callee {
         Callee::Function(_, signature) => match &signature.gives {
             Some(ty) => {
-                let ty = kinds::copy_of(alloc, ty)?;
-                Ok(Some(kinds::value_type(ty)))
+                let ty = copy_of(alloc, ty)?;
+                Ok(Some(value_type(ty)))
             }
             None => Ok(None),
         },
@@ -80,45 +93,64 @@ fn gives(alloc: Global, callee: Callee) -> Result<Option<Ty>, Stop>
         Callee::Builtin(Builtin::RegionOf) => Ok(Some(Ty::Region)),
         Callee::Builtin(Builtin::Putchar) => Ok(Some(Ty::Int)),
         Callee::Builtin(Builtin::Getchar) => Ok(Some(Ty::Int)),
+        Callee::NoFunction => Ok(None),
     }
 }
 
+/// Whether a function gives a value.
 fn gives_value(callee: Callee) -> bool
     ensures { result ≡ is_some (rule.gives (callee_of callee.entry)) }
 {
     match callee {
         Callee::Function(_, signature) => signature.gives.is_some(),
-        Callee::Builtin(Builtin::NewRegion) => true,
-        Callee::Builtin(Builtin::NewSubregion) => true,
-        Callee::Builtin(Builtin::DeleteRegion) => false,
-        Callee::Builtin(Builtin::RegionOf) => true,
-        Callee::Builtin(Builtin::Putchar) => true,
-        Callee::Builtin(Builtin::Getchar) => true,
+        Callee::Builtin(builtin) => !matches!(builtin, Builtin::DeleteRegion),
+        Callee::NoFunction => false,
     }
 }
 
 /// Whether a value is other than the word `NULL`.
-fn has_type(v: Typed) -> bool
-    ensures { result ≡ is_some (typed_of v).ty }
+fn has_type(v: &Typed) -> bool
+    ensures { result ≡ is_some (typed_of v.now).ty }
 {
     v.ty.is_some()
 }
 
 /// The code of a pointer.
-fn if_pointer(v: Typed) -> Option<Expr>
-    ensures { option_map expr_of result ≡ rule.if_pointer (sort_of (typed_of v).ty) (typed_of v).code }
+fn if_pointer(v: Typed) -> Option<Box<Expr>>
+    ensures { option_map code_of result ≡ rule.if_pointer (sort_of (typed_of v).ty) (typed_of v).code }
 {
-    match kinds::sort_of(&v.ty) {
+    match sort_of(&v.ty) {
         Sort::Pointer => Some(v.code),
-        _ => nothing(v),
+        _ => None,
     }
 }
 
+/// What the parameters of a called function take.
+#[tactic(auto, using(crate::proofs::Arguments::types_taken))]
+fn taken_by<'a>(callee: Callee<'a>) -> Parameters<'a>
+    ensures { parameters_of result ≡ rule.parameters (callee_of callee.entry) }
+{
+    match callee {
+        Callee::Function(_, signature) => Parameters::Types(&signature.takes),
+        Callee::Builtin(Builtin::NewRegion) => Parameters::None,
+        Callee::Builtin(Builtin::NewSubregion) => Parameters::Region,
+        Callee::Builtin(Builtin::DeleteRegion) => Parameters::Region,
+        Callee::Builtin(Builtin::RegionOf) => Parameters::AnyPointer,
+        Callee::Builtin(Builtin::Putchar) => Parameters::Int,
+        Callee::Builtin(Builtin::Getchar) => Parameters::None,
+        Callee::NoFunction => Parameters::None,
+    }
+}
+
+/// How many parameters there are.
 fn count(parameters: Parameters) -> usize
     ensures { result ≡ length (parameters_of parameters.entry) }
 {
     match parameters {
         Parameters::Types(types) => types.len(),
+        Parameters::None => 0,
+        Parameters::Region => 1,
+        Parameters::Int => 1,
         Parameters::AnyPointer => 1,
     }
 }
@@ -129,13 +161,16 @@ fn fitted_argument(
     parameters: Parameters,
     place: usize,
     v: Typed,
-) -> Result<Option<Expr>, Stop>
+) -> Result<Option<Box<Expr>>, Stop>
     requires { place < length (parameters_of parameters) }
-    ensures ok { IfOk result (λ e. option_map expr_of e ≡ fitted_at (parameters_of parameters.entry) place (typed_of v)) }
+    ensures ok { IfOk result (λ e. option_map code_of e ≡ fitted_at (parameters_of parameters.entry) place (typed_of v)) }
     ensures err { IfErr result (λ s. s ≡ Stop.Memory) }
 {
     match parameters {
         Parameters::Types(types) => fitted(alloc, &types[place], v),
+        Parameters::None => Ok(None),
+        Parameters::Region => fitted(alloc, &Ty::Region, v),
+        Parameters::Int => fitted(alloc, &Ty::Int, v),
         Parameters::AnyPointer => Ok(if_pointer(v)),
     }
 }
@@ -147,8 +182,8 @@ fn fitted_arguments(
     alloc: Global,
     parameters: Parameters,
     values: Vec<Typed>,
-) -> Result<Option<Vec<Expr>>, Stop>
-    ensures ok { IfOk result (λ es. option_map (λ es. map expr_of es.items) es ≡ rule.fitted_arguments (parameters_of parameters.entry) (map typed_of values.items)) }
+) -> Result<Option<Vec<Box<Expr>>>, Stop>
+    ensures ok { IfOk result (λ es. option_map (λ es. map code_of es.items) es ≡ rule.fitted_arguments (parameters_of parameters.entry) (map typed_of values.items)) }
     ensures err { IfErr result (λ s. s ≡ Stop.Memory) }
 {
     let mut codes = Vec::new(alloc);
@@ -160,101 +195,74 @@ fn fitted_arguments(
             };
             add(&mut codes, code)?;
             place += 1;
-        } else if !has_type(v) {
+        } else if !has_type(&v) {
             return Ok(None);
         }
     }
     Ok(Some(codes))
 }
 
-/// Arguments that fit the parameters of a function, of which there are as many.
-#[tactic(auto, using(crate::proofs::Arguments::call_unknown, crate::proofs::Arguments::call_mistyped, crate::proofs::Arguments::call_without_value, crate::proofs::Arguments::call_arity, crate::proofs::Arguments::call_holds))]
-fn ruled(
-    alloc: Global,
-    wanted: bool,
-    at: Spot,
-    callee: Callee,
-    parameters: Parameters,
-    values: Vec<Typed>,
-) -> Result<Vec<Expr>, Stop>
-    requires { parameters_of parameters ≡ rule.parameters (callee_of callee) }
-    ensures ok { IfOk result (λ es. rule.call_rule wanted at (callee_of callee.entry) (map typed_of values.items) ≡ Holds (map expr_of es.items)) }
-    ensures err { IfErr result (StopsAt (rule.call_rule wanted at (callee_of callee.entry) (map typed_of values.items))) }
-{
-    if !is_defined(callee) {
-        return fails_with(at, Refusal::Unknown, values);
-    }
-    let arguments = values.len();
-    let Some(codes) = fitted_arguments(alloc, parameters, values)? else {
-        return fails(at, Refusal::Mistyped);
-    };
-    if lacks_value(wanted, callee) {
-        return fails_with(at, Refusal::Mistyped, codes);
-    }
-    if count(parameters) != arguments {
-        return fails_with(at, Refusal::Arity, codes);
-    }
-    Ok(codes)
-}
-
 /// A value is wanted of a function that gives none.
 fn lacks_value(wanted: bool, callee: Callee) -> bool
     ensures { result ≡ (wanted && is_none (rule.gives (callee_of callee.entry))) }
 {
-    if wanted {
-        return !gives_value(callee);
-    }
-    false
+    wanted && !gives_value(callee)
 }
 
 /// The converted arguments of a call.
+#[tactic(auto, using(crate::proofs::Arguments::call_unknown, crate::proofs::Arguments::call_no_function, crate::proofs::Arguments::call_mistyped, crate::proofs::Arguments::call_without_value, crate::proofs::Arguments::call_arity, crate::proofs::Arguments::call_holds))]
 fn call_rule(
     alloc: Global,
     wanted: bool,
     at: Spot,
     callee: Callee,
     values: Vec<Typed>,
-) -> Result<Vec<Expr>, Stop>
-    ensures ok { IfOk result (λ es. rule.call_rule wanted at (callee_of callee.entry) (map typed_of values.items) ≡ Holds (map expr_of es.items)) }
+) -> Result<Vec<Box<Expr>>, Stop>
+    ensures ok { IfOk result (λ es. rule.call_rule wanted at (callee_of callee.entry) (map typed_of values.items) ≡ Holds (map code_of es.items)) }
     ensures err { IfErr result (StopsAt (rule.call_rule wanted at (callee_of callee.entry) (map typed_of values.items))) }
 {
-    match callee {
-        Callee::Function(_, signature) => {
-            let types = Parameters::Types(&signature.takes);
-            ruled(alloc, wanted, at, callee, types, values)
-        }
-        Callee::Builtin(Builtin::NewSubregion) => {
-            let types = [Ty::Region];
-            ruled(alloc, wanted, at, callee, Parameters::Types(&types), values)
-        }
-        Callee::Builtin(Builtin::DeleteRegion) => {
-            let types = [Ty::Region];
-            ruled(alloc, wanted, at, callee, Parameters::Types(&types), values)
-        }
-        Callee::Builtin(Builtin::RegionOf) => {
-            ruled(alloc, wanted, at, callee, Parameters::AnyPointer, values)
-        }
-        Callee::Builtin(Builtin::Putchar) => {
-            let types = [Ty::Int];
-            ruled(alloc, wanted, at, callee, Parameters::Types(&types), values)
-        }
-        Callee::Builtin(Builtin::NewRegion) => {
-            ruled(alloc, wanted, at, callee, Parameters::Types(&[]), values)
-        }
-        Callee::Builtin(Builtin::Getchar) => {
-            ruled(alloc, wanted, at, callee, Parameters::Types(&[]), values)
-        }
+    if !is_defined(callee) {
+        return fails(at, Refusal::Unknown);
     }
+    if !is_function(callee) {
+        return fails(at, Refusal::Mistyped);
+    }
+    let parameters = taken_by(callee);
+    let given = values.len();
+    let Some(codes) = fitted_arguments(alloc, parameters, values)? else {
+        return fails(at, Refusal::Mistyped);
+    };
+    if lacks_value(wanted, callee) {
+        return fails(at, Refusal::Mistyped);
+    }
+    if count(parameters) != given {
+        return fails(at, Refusal::Arity);
+    }
+    Ok(codes)
 }
 
 /// The first of the arguments, or null at the line where there is none.
-fn first_argument(line: u32, arguments: Vec<Expr>) -> Expr
-    ensures { expr_of result ≡ rule.first_argument line (map expr_of arguments.items) }
+fn first_argument(alloc: Global, line: u32, arguments: Vec<Box<Expr>>) -> Result<Box<Expr>, Stop>
+    ensures ok { IfOk result (λ e. code_of e ≡ rule.first_argument line (map code_of arguments.items)) }
+    ensures err { IfErr result (λ s. s ≡ Stop.Memory) }
 {
     match arguments.into_iter().next() {
-        Some(argument) => argument,
-        None => Expr::Null { line },
+        Some(argument) => Ok(argument),
+        None => boxed(alloc, Expr::Null { line }),
     }
+}
+
+/// The arguments in one row.
+#[tactic(auto, using(crate::proofs::Arguments::row_more))]
+fn in_a_row(alloc: Global, codes: Vec<Box<Expr>>) -> Result<Vec<Expr>, Stop>
+    ensures ok { IfOk result (λ es. map expr_of es.items ≡ map code_of codes.items) }
+    ensures err { IfErr result (λ s. s ≡ Stop.Memory) }
+{
+    let mut row = Vec::new(alloc);
+    for code in codes {
+        add(&mut row, Box::into_inner(code))?;
+    }
+    Ok(row)
 }
 
 /// The number of a function, where it has one.
@@ -267,19 +275,42 @@ fn number_or_first(number: Option<u32>) -> u32
     }
 }
 
+/// The code of a call of a function that the text defines.
+#[tactic(auto, using(crate::proofs::Arguments::call_made))]
+fn called_function(
+    alloc: Global,
+    line: u32,
+    function: u32,
+    arguments: Vec<Box<Expr>>,
+) -> Result<Box<Expr>, Stop>
+    ensures ok { IfOk result (λ e. code_of e ≡ p.call line function (arguments_listed (map code_of arguments.items))) }
+    ensures err { IfErr result (λ s. s ≡ Stop.Memory) }
+{
+    let arguments = in_a_row(alloc, arguments)?;
+    let code = Expr::Call {
+        line,
+        function,
+        arguments,
+    };
+    boxed(alloc, code)
+}
+
 /// The code of a call.
-#[tactic(auto, using(rc_core::proofs::ShapeRows::made_call))]
-fn called(alloc: Global, line: u32, callee: Callee, arguments: Vec<Expr>) -> Result<Expr, Stop>
-    ensures ok { IfOk result (λ e. expr_of e ≡ rule.called line (callee_of callee.entry) (map expr_of arguments.items)) }
+fn called(
+    alloc: Global,
+    line: u32,
+    callee: Callee,
+    arguments: Vec<Box<Expr>>,
+) -> Result<Box<Expr>, Stop>
+    ensures ok { IfOk result (λ e. code_of e ≡ rule.called line (callee_of callee.entry) (map code_of arguments.items)) }
     ensures err { IfErr result (λ s. s ≡ Stop.Memory) }
 {
     match callee {
-        Callee::Function(number, _) => Ok(Expr::Call {
-            line,
-            function: number_or_first(number),
-            arguments,
-        }),
+        Callee::Function(number, _) => {
+            called_function(alloc, line, number_or_first(number), arguments)
+        }
         Callee::Builtin(builtin) => called_builtin(alloc, line, builtin, arguments),
+        Callee::NoFunction => boxed(alloc, Expr::Null { line }),
     }
 }
 
@@ -288,27 +319,27 @@ fn called_builtin(
     alloc: Global,
     line: u32,
     builtin: Builtin,
-    arguments: Vec<Expr>,
-) -> Result<Expr, Stop>
-    ensures ok { IfOk result (λ e. expr_of e ≡ rule.called line (rule.the_builtin builtin) (map expr_of arguments.items)) }
+    arguments: Vec<Box<Expr>>,
+) -> Result<Box<Expr>, Stop>
+    ensures ok { IfOk result (λ e. code_of e ≡ rule.called line (rule.the_builtin builtin) (map code_of arguments.items)) }
     ensures err { IfErr result (λ s. s ≡ Stop.Memory) }
 {
     match builtin {
-        Builtin::NewRegion => Ok(Expr::NewRegion { line }),
+        Builtin::NewRegion => boxed(alloc, Expr::NewRegion { line }),
         Builtin::NewSubregion => {
-            let parent = boxed(alloc, first_argument(line, arguments))?;
-            Ok(Expr::NewSubregion { line, parent })
+            let parent = first_argument(alloc, line, arguments)?;
+            boxed(alloc, Expr::NewSubregion { line, parent })
         }
-        Builtin::DeleteRegion => Ok(first_argument(line, arguments)),
+        Builtin::DeleteRegion => first_argument(alloc, line, arguments),
         Builtin::RegionOf => {
-            let pointer = boxed(alloc, first_argument(line, arguments))?;
-            Ok(Expr::RegionOf { line, pointer })
+            let pointer = first_argument(alloc, line, arguments)?;
+            boxed(alloc, Expr::RegionOf { line, pointer })
         }
         Builtin::Putchar => {
-            let byte = boxed(alloc, first_argument(line, arguments))?;
-            Ok(Expr::Putchar { line, byte })
+            let byte = first_argument(alloc, line, arguments)?;
+            boxed(alloc, Expr::Putchar { line, byte })
         }
-        Builtin::Getchar => Ok(Expr::Getchar { line }),
+        Builtin::Getchar => boxed(alloc, Expr::Getchar { line }),
     }
 }
 
@@ -317,9 +348,10 @@ fn called_builtin(
 ///
 /// # Errors
 ///
-/// The function is nowhere defined: it is unknown. An argument doesn't fit its parameter, one
-/// beyond is the word `NULL`, or the function gives no value: the node is mistyped. The arguments
-/// are more or fewer than the parameters: the arity is wrong. Or memory is wanting.
+/// The function is nowhere defined: it is unknown. What is called is no function, an argument
+/// doesn't fit its parameter, one beyond is the word `NULL`, or the function gives no value: the
+/// node is mistyped. The arguments
+/// are more or fewer than the parameters: the arity is wrong. Or out of memory.
 pub fn call_value(
     alloc: Global,
     at: Spot,
@@ -339,23 +371,26 @@ pub fn call_value(
     })
 }
 
+/// A call as a statement, with its arguments converted.
 fn called_alone(
     alloc: Global,
     line: u32,
     callee: Callee,
-    arguments: Vec<Expr>,
-) -> Result<Stmt, Stop>
-    ensures ok { IfOk result (λ s. stmt_of s ≡ rule.called_alone line (callee_of callee.entry) (map expr_of arguments.items)) }
+    arguments: Vec<Box<Expr>>,
+) -> Result<Box<Stmt>, Stop>
+    ensures ok { IfOk result (λ s. stmt_of s.value ≡ rule.called_alone line (callee_of callee.entry) (map code_of arguments.items)) }
     ensures err { IfErr result (λ s. s ≡ Stop.Memory) }
 {
     match callee {
-        Callee::Builtin(Builtin::DeleteRegion) => Ok(Stmt::Delete {
-            line,
-            region: first_argument(line, arguments),
-        }),
+        Callee::Builtin(Builtin::DeleteRegion) => {
+            let region = first_argument(alloc, line, arguments)?;
+            let region = Box::into_inner(region);
+            boxed(alloc, Stmt::Delete { line, region })
+        }
         _ => {
             let value = called(alloc, line, callee, arguments)?;
-            Ok(Stmt::Evaluate { line, value })
+            let value = Box::into_inner(value);
+            boxed(alloc, Stmt::Evaluate { line, value })
         }
     }
 }
@@ -370,8 +405,8 @@ pub fn call_statement(
     at: Spot,
     callee: Callee,
     values: Vec<Typed>,
-) -> Result<Stmt, Stop>
-    ensures ok { IfOk result (λ s. rule.call_statement at (callee_of callee.entry) (map typed_of values.items) ≡ Holds (stmt_of s)) }
+) -> Result<Box<Stmt>, Stop>
+    ensures ok { IfOk result (λ s. rule.call_statement at (callee_of callee.entry) (map typed_of values.items) ≡ Holds (stmt_of s.value)) }
     ensures err { IfErr result (StopsAt (rule.call_statement at (callee_of callee.entry) (map typed_of values.items))) }
 {
     let arguments = call_rule(alloc, false, at, callee, values)?;
@@ -382,7 +417,7 @@ pub fn call_statement(
 ///
 /// # Errors
 ///
-/// The first argument is no region: the node is mistyped. Or memory is wanting.
+/// The first argument is no region: the node is mistyped. Or out of memory.
 pub fn allocation(alloc: Global, at: Spot, ty: Ty, region: Typed) -> Result<Typed, Stop>
     ensures ok { IfOk result (λ v. rule.allocation at (ty_of ty) (fitted_value region_type (typed_of region)) ≡ Holds (typed_of v)) }
     ensures err { IfErr result (StopsAt (rule.allocation at (ty_of ty) (fitted_value region_type (typed_of region)))) }
@@ -393,30 +428,27 @@ pub fn allocation(alloc: Global, at: Spot, ty: Ty, region: Typed) -> Result<Type
     allocated(alloc, at.line, ty, region)
 }
 
-fn allocated(alloc: Global, line: u32, ty: Ty, region: Expr) -> Result<Typed, Stop>
-    ensures ok { IfOk result (λ v. typed_of v ≡ record { line = line; ty = Some (pointer Plain (ty_of ty)); code = p.allocate line (expr_of region) (ty_of ty) }) }
+/// One object in a region.
+fn allocated(alloc: Global, line: u32, ty: Ty, region: Box<Expr>) -> Result<Typed, Stop>
+    ensures ok { IfOk result (λ v. typed_of v ≡ record { line = line; ty = Some (pointer Plain (ty_of ty)); code = p.allocate line (expr_of region.value) (ty_of ty) }) }
     ensures err { IfErr result (λ s. s ≡ Stop.Memory) }
 {
-    let region = boxed(alloc, region)?;
-    let element = kinds::copy_of(alloc, &ty)?;
+    let element = copy_of(alloc, &ty)?;
     let target = boxed(alloc, ty)?;
-    Ok(Typed {
+    let code = Expr::Allocate {
         line,
-        ty: Some(Ty::Pointer(Note::Plain, target)),
-        code: Expr::Allocate {
-            line,
-            region,
-            element,
-        },
-    })
+        region,
+        element,
+    };
+    typed(alloc, line, Some(Ty::Pointer(Note::Plain, target)), code)
 }
 
-/// `rarrayalloc`: so many objects of a type in a region.
+/// `rarrayalloc`: objects of a type, `number` of them, in a region.
 ///
 /// # Errors
 ///
-/// The first argument is no region, or the second no number: the node is mistyped. Or memory is
-/// wanting.
+/// The first argument is no region, or the second no number: the node is mistyped. Or out of
+/// memory.
 pub fn array_allocation(
     alloc: Global,
     at: Spot,
@@ -431,32 +463,28 @@ pub fn array_allocation(
     let number = fitted(alloc, &Ty::Int, number)?;
     match (region, number) {
         (Some(region), Some(number)) => allocated_array(alloc, at.line, ty, region, number),
-        (region, number) => mistyped(at, (ty, region, number)),
+        (_, _) => fails(at, Refusal::Mistyped),
     }
 }
 
+/// Objects in a region, as many as a number says.
 fn allocated_array(
     alloc: Global,
     line: u32,
     ty: Ty,
-    region: Expr,
-    number: Expr,
+    region: Box<Expr>,
+    number: Box<Expr>,
 ) -> Result<Typed, Stop>
-    ensures ok { IfOk result (λ v. typed_of v ≡ record { line = line; ty = Some (pointer Plain (ty_of ty)); code = p.allocate_array line (expr_of region) (expr_of number) (ty_of ty) }) }
+    ensures ok { IfOk result (λ v. typed_of v ≡ record { line = line; ty = Some (pointer Plain (ty_of ty)); code = p.allocate_array line (expr_of region.value) (expr_of number.value) (ty_of ty) }) }
     ensures err { IfErr result (λ s. s ≡ Stop.Memory) }
 {
-    let element = kinds::copy_of(alloc, &ty)?;
+    let element = copy_of(alloc, &ty)?;
     let target = boxed(alloc, ty)?;
-    let region = boxed(alloc, region)?;
-    let number = boxed(alloc, number)?;
-    Ok(Typed {
+    let code = Expr::AllocateArray {
         line,
-        ty: Some(Ty::Pointer(Note::Plain, target)),
-        code: Expr::AllocateArray {
-            line,
-            region,
-            number,
-            element,
-        },
-    })
+        region,
+        number,
+        element,
+    };
+    typed(alloc, line, Some(Ty::Pointer(Note::Plain, target)), code)
 }

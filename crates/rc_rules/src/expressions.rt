@@ -1,27 +1,28 @@
 // The rules of expressions, one node at a time.
 ghost use Rattle.std.specs.Prelude.{◌≡◌, pos, option_map, IfOk, IfErr, Option, Some, None, negsuc};
 ghost use Rattle.rc_core.specs.Programs as p;
-ghost use Rattle.rc_core.specs.Shapes.{ty_of, expr_of, place_of, inward as inward_step};
+ghost use Rattle.rc_core.specs.Shapes.{ty_of, expr_of, place_of};
 ghost use Rattle.rc_core.specs.Types.{int, char, pointer};
 ghost use Rattle.rc_core.specs.declared.ty.Note.TheVariants.{Plain};
 ghost use Rattle.rc_deletes.specs.Expressions as rule;
 ghost use Rattle.rc_deletes.specs.Judged.{Holds, with_part};
-ghost use Rattle.rc_deletes.specs.Kinds.{sort_of};
 ghost use Rattle.rc_deletes.specs.Operators as operator;
 ghost use Rattle.rc_deletes.specs.Scopes.{a_global};
 ghost use Rattle.rc_deletes.specs.Values as values;
-ghost use Rattle.rc_rules.specs.Shapes.{typed_of, meant_of, meaning_of, found_of};
-ghost use Rattle.rc_rules.specs.Stops.{StopsAt, IsRule};
+ghost use Rattle.rc_operators.specs.Shapes.{typed_of, meant_of};
+ghost use Rattle.rc_operators.specs.Stops.{StopsAt};
+ghost use Rattle.rc_rules.specs.Shapes.{meaning_of};
 
-use crate::kinds;
-use crate::meanings::{Found, Meaning, Meant, Typed};
-use crate::operators::{address_rule, arithmetic, unary_rule};
-use crate::stop::{Stop, add, boxed, fails, fails_with, mistyped};
-use crate::values::{as_value, promoted_value};
+use crate::meanings::Meaning;
+use crate::places::step_inward;
 use rc_core::expr::{Expr, PathStep, Place};
 use rc_core::ty::{Note, Signedness, Ty};
 use rc_deletes::{Refusal, Sort};
-use rc_syntax::tree::{Name, Spot, UnaryOp};
+use rc_operators::{
+    Meant, Stop, Typed, address_rule, arithmetic_type, as_value, boxed, copy_of, fails,
+    promoted_value, sort_of, typed, unary_rule,
+};
+use rc_syntax::tree::{Spot, UnaryOp};
 use std::alloc::Global;
 
 /// Whether a number is `unsigned`: it says so, or is past the greatest `int`.
@@ -38,80 +39,94 @@ pub fn signedness(is_unsigned: bool, value: u32) -> Signedness
 }
 
 /// A number that is written.
-pub fn number_value(at: Spot, signedness: Signedness, value: u32) -> Typed
-    ensures { typed_of result ≡ rule.number_value at signedness value }
+///
+/// # Errors
+///
+/// Out of memory.
+pub fn number_value(
+    alloc: Global,
+    at: Spot,
+    signedness: Signedness,
+    value: u32,
+) -> Result<Typed, Stop>
+    ensures ok { IfOk result (λ v. typed_of v ≡ rule.number_value at signedness value) }
+    ensures err { IfErr result (λ s. s ≡ Stop.Memory) }
 {
-    Typed {
-        line: at.line,
-        ty: Some(arithmetic(signedness)),
-        code: Expr::Constant {
-            line: at.line,
-            signedness,
-            value: value as i64,
-        },
-    }
+    let line = at.line;
+    let code = Expr::Constant {
+        line,
+        signedness,
+        value: value as i64,
+    };
+    typed(alloc, line, Some(arithmetic_type(signedness)), code)
 }
 
 /// The pointer to the first byte of the string literal with this number.
 ///
 /// # Errors
 ///
-/// Memory is wanting.
+/// Out of memory.
 pub fn string_value(alloc: Global, at: Spot, string: u32) -> Result<Typed, Stop>
     ensures ok { IfOk result (λ v. typed_of v ≡ operator.result at.line (pointer Plain char) (p.string at.line string)) }
     ensures err { IfErr result (λ s. s ≡ Stop.Memory) }
 {
+    let line = at.line;
     let target = boxed(alloc, Ty::Char)?;
-    Ok(Typed {
-        line: at.line,
-        ty: Some(Ty::Pointer(Note::Plain, target)),
-        code: Expr::Str {
-            line: at.line,
-            string,
-        },
-    })
+    let code = Expr::Str { line, string };
+    typed(alloc, line, Some(Ty::Pointer(Note::Plain, target)), code)
 }
 
 /// The word `NULL`, which has no type of its own.
-pub fn null_value(at: Spot) -> Typed
-    ensures { typed_of result ≡ record { line = at.line; ty = None; code = p.null at.line } }
+///
+/// # Errors
+///
+/// Out of memory.
+pub fn null_value(alloc: Global, at: Spot) -> Result<Typed, Stop>
+    ensures ok { IfOk result (λ v. typed_of v ≡ record { line = at.line; ty = None; code = p.null at.line }) }
+    ensures err { IfErr result (λ s. s ≡ Stop.Memory) }
 {
-    Typed {
-        line: at.line,
-        ty: None,
-        code: Expr::Null { line: at.line },
-    }
+    typed(alloc, at.line, None, Expr::Null { line: at.line })
 }
 
 /// The word `EOF`: the `int` -1.
-pub fn eof_value(at: Spot) -> Typed
-    ensures { typed_of result ≡ operator.result at.line int (p.constant at.line Signedness.Signed (negsuc 0)) }
+///
+/// # Errors
+///
+/// Out of memory.
+pub fn eof_value(alloc: Global, at: Spot) -> Result<Typed, Stop>
+    ensures ok { IfOk result (λ v. typed_of v ≡ operator.result at.line int (p.constant at.line Signedness.Signed (negsuc 0))) }
+    ensures err { IfErr result (λ s. s ≡ Stop.Memory) }
 {
-    Typed {
+    let code = Expr::Constant {
         line: at.line,
-        ty: Some(Ty::Int),
-        code: Expr::Constant {
-            line: at.line,
-            signedness: Signedness::Signed,
-            value: -1,
-        },
-    }
+        signedness: Signedness::Signed,
+        value: -1,
+    };
+    typed(alloc, at.line, Some(Ty::Int), code)
 }
 
+/// A global array: the pointer to its first element.
 fn array_value(alloc: Global, line: u32, global: u32, ty: &Ty) -> Result<Typed, Stop>
     ensures ok { IfOk result (λ v. typed_of v ≡ operator.result line (pointer Plain (ty_of ty.now)) (p.address line global)) }
     ensures err { IfErr result (λ s. s ≡ Stop.Memory) }
 {
-    let element = kinds::copy_of(alloc, ty)?;
+    let element = copy_of(alloc, ty)?;
     let target = boxed(alloc, element)?;
-    Ok(Typed {
-        line,
-        ty: Some(Ty::Pointer(Note::Plain, target)),
-        code: Expr::Address { line, global },
-    })
+    let code = Expr::Address { line, global };
+    typed(alloc, line, Some(Ty::Pointer(Note::Plain, target)), code)
 }
 
+/// A global that is no array.
 #[tactic(auto, using(crate::proofs::Paths::global_here))]
+fn global_place(alloc: Global, global: u32) -> Result<Box<Place>, Stop>
+    ensures ok { IfOk result (λ place. place_of place.value ≡ p.global global p.here) }
+    ensures err { IfErr result (λ s. s ≡ Stop.Memory) }
+{
+    let path = Vec::new(alloc);
+    boxed(alloc, Place::Global { global, path })
+}
+
+/// A name that stands for a global.
 fn global_meant(
     alloc: Global,
     at: Spot,
@@ -124,12 +139,8 @@ fn global_meant(
 {
     match length {
         None => {
-            let ty = kinds::copy_of(alloc, ty)?;
-            let place = Place::Global {
-                global,
-                path: Vec::new(alloc),
-            };
-            Ok(Meant::Place(place, ty))
+            let ty = copy_of(alloc, ty)?;
+            Ok(Meant::Place(global_place(alloc, global)?, ty))
         }
         Some(_) => Ok(Meant::Value(array_value(alloc, at.line, global, ty)?)),
     }
@@ -139,7 +150,7 @@ fn global_meant(
 ///
 /// # Errors
 ///
-/// The name is unknown, or that of a function: the node is mistyped. Or memory is wanting.
+/// The name is unknown, or that of a function: the node is mistyped. Or out of memory.
 pub fn name_rule(alloc: Global, at: Spot, meaning: Option<&Meaning>) -> Result<Meant, Stop>
     ensures ok { IfOk result (λ m. rule.name_rule at (option_map (λ m. meaning_of m.now) meaning.entry) ≡ Holds (meant_of m)) }
     ensures err { IfErr result (StopsAt (rule.name_rule at (option_map (λ m. meaning_of m.now) meaning.entry))) }
@@ -147,7 +158,7 @@ pub fn name_rule(alloc: Global, at: Spot, meaning: Option<&Meaning>) -> Result<M
     match meaning {
         None => fails(at, Refusal::Unknown),
         Some(Meaning::Local(local, ty)) => {
-            let ty = kinds::copy_of(alloc, ty)?;
+            let ty = copy_of(alloc, ty)?;
             Ok(Meant::Variable(*local, ty))
         }
         Some(Meaning::Global(global, ty, length)) => global_meant(alloc, at, *global, ty, *length),
@@ -156,137 +167,71 @@ pub fn name_rule(alloc: Global, at: Spot, meaning: Option<&Meaning>) -> Result<M
     }
 }
 
-/// A place one step further in.
-#[tactic(auto, using(crate::proofs::Paths::global_more, crate::proofs::Paths::pointed_more, crate::proofs::Paths::indexed_more))]
-fn inward(place: Place, step: PathStep) -> Result<Place, Stop>
-    ensures ok { IfOk result (λ q. place_of q ≡ rule.inward (place_of place) (inward_step step p.here)) }
-    ensures err { IfErr result (λ s. s ≡ Stop.Memory) }
-{
-    match place {
-        Place::Global { global, path } => {
-            let mut path = path;
-            add(&mut path, step)?;
-            Ok(Place::Global { global, path })
-        }
-        Place::Pointed { pointer, path } => {
-            let mut path = path;
-            add(&mut path, step)?;
-            Ok(Place::Pointed { pointer, path })
-        }
-        Place::Indexed {
-            pointer,
-            index,
-            path,
-        } => {
-            let mut path = path;
-            add(&mut path, step)?;
-            Ok(Place::Indexed {
-                pointer,
-                index,
-                path,
-            })
-        }
-    }
-}
-
-/// A field of the struct with the number `structure`, which lies at a place.
-///
-/// # Errors
-///
-/// Memory is wanting.
-pub fn field_meant(alloc: Global, place: Place, structure: u32, found: Found) -> Result<Meant, Stop>
-    ensures ok { let f = found_of found.entry in IfOk result (λ m. meant_of m ≡ rule.field_meant (place_of place) structure f.0 f.1.ty f.1.count) }
-    ensures err { IfErr result (λ s. s ≡ Stop.Memory) }
-{
-    let ty = kinds::copy_of(alloc, &found.field.ty)?;
-    match found.field.length {
-        None => {
-            let step = PathStep::Field {
-                structure,
-                field: found.number,
-            };
-            Ok(Meant::Place(inward(place, step)?, ty))
-        }
-        Some(_) => Ok(Meant::Array(place, structure, found.number, ty)),
-    }
-}
-
-/// A field of the struct with the number `structure`, which lies at a place, as it was found by
-/// its name.
-///
-/// # Errors
-///
-/// It wasn't found: the name is unknown. Or memory is wanting.
-pub fn field_rule(
-    alloc: Global,
-    name: &Name,
-    place: Place,
-    structure: u32,
-    found: Option<Found>,
-) -> Result<Meant, Stop>
-    ensures ok { IfOk result (λ m. rule.field_rule name.now (place_of place) structure (option_map found_of found.entry) ≡ Holds (meant_of m)) }
-    ensures err { IfErr result (StopsAt (rule.field_rule name.now (place_of place) structure (option_map found_of found.entry))) }
-{
-    match found {
-        Some(found) => field_meant(alloc, place, structure, found),
-        None => fails_with(name.spot, Refusal::Unknown, place),
-    }
-}
-
 /// What an index is applied to: an array field, or a value.
 ///
 /// # Errors
 ///
-/// It is a struct: the node is mistyped.
-pub fn indexed_part(at: Spot, meant: Meant) -> Result<Meant, Stop>
+/// It is a struct: the node is mistyped. Or out of memory.
+pub fn indexed_part(alloc: Global, at: Spot, meant: Meant) -> Result<Meant, Stop>
     ensures ok { IfOk result (λ m. rule.indexed_part at (meant_of meant) ≡ Holds (meant_of m)) }
     ensures err { IfErr result (StopsAt (rule.indexed_part at (meant_of meant))) }
-    ensures no_memory { IfErr result IsRule }
 {
     match meant {
         Meant::Array(place, structure, field, ty) => {
             Ok(Meant::Array(place, structure, field, ty))
         }
-        meant => Ok(Meant::Value(as_value(at, meant)?)),
+        meant => Ok(Meant::Value(as_value(alloc, at, meant)?)),
     }
 }
 
+/// The place of an element that a pointer leads to.
 #[tactic(auto, using(crate::proofs::Paths::indexed_here))]
-fn element_behind(alloc: Global, at: Spot, v: Typed, index: Expr) -> Result<Meant, Stop>
-    ensures ok { IfOk result (λ m. rule.element_behind at (typed_of v).ty (typed_of v).code (expr_of index) ≡ Holds (meant_of m)) }
-    ensures err { IfErr result (StopsAt (rule.element_behind at (typed_of v).ty (typed_of v).code (expr_of index))) }
+fn indexed_place(alloc: Global, pointer: Box<Expr>, index: Box<Expr>) -> Result<Box<Place>, Stop>
+    ensures ok { IfOk result (λ place. place_of place.value ≡ p.indexed (expr_of pointer.value) (expr_of index.value) p.here) }
+    ensures err { IfErr result (λ s. s ≡ Stop.Memory) }
+{
+    let path = Vec::new(alloc);
+    boxed(
+        alloc,
+        Place::Indexed {
+            pointer,
+            index,
+            path,
+        },
+    )
+}
+
+/// An element that a pointer leads to.
+fn pointed_element(alloc: Global, at: Spot, v: Typed, index: Box<Expr>) -> Result<Meant, Stop>
+    ensures ok { IfOk result (λ m. rule.element_behind at (typed_of v).ty (typed_of v).code (expr_of index.value) ≡ Holds (meant_of m)) }
+    ensures err { IfErr result (StopsAt (rule.element_behind at (typed_of v).ty (typed_of v).code (expr_of index.value))) }
 {
     let Typed { line: _, ty, code } = v;
     match ty {
         Some(Ty::Pointer(_, target)) => {
-            let pointer = boxed(alloc, code)?;
-            let index = boxed(alloc, index)?;
-            let place = Place::Indexed {
-                pointer,
-                index,
-                path: Vec::new(alloc),
-            };
+            let place = indexed_place(alloc, code, index)?;
             Ok(Meant::Place(place, Box::into_inner(target)))
         }
-        ty => mistyped(at, (ty, code, index)),
+        _ => fails(at, Refusal::Mistyped),
     }
 }
 
-fn element(alloc: Global, at: Spot, meant: Meant, index: Expr) -> Result<Meant, Stop>
-    ensures ok { IfOk result (λ m. rule.element at (meant_of meant) (expr_of index) ≡ Holds (meant_of m)) }
-    ensures err { IfErr result (StopsAt (rule.element at (meant_of meant) (expr_of index))) }
+/// An element of an array field, or one that a pointer leads to.
+fn element(alloc: Global, at: Spot, meant: Meant, index: Box<Expr>) -> Result<Meant, Stop>
+    ensures ok { IfOk result (λ m. rule.element at (meant_of meant) (expr_of index.value) ≡ Holds (meant_of m)) }
+    ensures err { IfErr result (StopsAt (rule.element at (meant_of meant) (expr_of index.value))) }
 {
     match meant {
         Meant::Array(place, structure, field, ty) => {
             let step = PathStep::Element {
                 structure,
                 field,
-                index,
+                index: Box::into_inner(index),
             };
-            Ok(Meant::Place(inward(place, step)?, ty))
+            Ok(Meant::Place(step_inward(alloc, place, step)?, ty))
         }
-        Meant::Value(v) => element_behind(alloc, at, v, index),
-        meant => mistyped(at, (meant, index)),
+        Meant::Value(v) => pointed_element(alloc, at, v, index),
+        _ => fails(at, Refusal::Mistyped),
     }
 }
 
@@ -294,20 +239,21 @@ fn element(alloc: Global, at: Spot, meant: Meant, index: Expr) -> Result<Meant, 
 ///
 /// # Errors
 ///
-/// It is neither, or the index is no number: the node is mistyped. Or memory is wanting.
+/// It is neither, or the index is no number: the node is mistyped. Or out of memory.
 pub fn index_rule(alloc: Global, at: Spot, meant: Meant, index: Typed) -> Result<Meant, Stop>
     ensures ok { IfOk result (λ m. rule.index_rule at (meant_of meant) (typed_of index) ≡ Holds (meant_of m)) }
     ensures err { IfErr result (StopsAt (rule.index_rule at (meant_of meant) (typed_of index))) }
 {
-    match kinds::sort_of(&index.ty) {
+    match sort_of(&index.ty) {
         Sort::Number(from) => {
             let index = promoted_value(alloc, from, index)?;
             element(alloc, at, meant, index)
         }
-        _ => mistyped(at, (meant, index)),
+        _ => fails(at, Refusal::Mistyped),
     }
 }
 
+/// An operator before the value of its operand.
 fn unary_value(
     alloc: Global,
     at: Spot,
@@ -318,7 +264,7 @@ fn unary_value(
     ensures ok { IfOk result (λ m. with_part (values.as_value inner (meant_of meant)) (operator.unary_rule at op) ≡ Holds (meant_of m)) }
     ensures err { IfErr result (StopsAt (with_part (values.as_value inner (meant_of meant)) (operator.unary_rule at op))) }
 {
-    let v = as_value(inner, meant)?;
+    let v = as_value(alloc, inner, meant)?;
     unary_rule(alloc, at, op, v)
 }
 
@@ -328,7 +274,7 @@ fn unary_value(
 /// # Errors
 ///
 /// It doesn't take such an operand: the node is mistyped. A value is wanted of an operand that is
-/// none: the operand is mistyped. Or memory is wanting.
+/// none: the operand is mistyped. Or out of memory.
 pub fn unary_meant(
     alloc: Global,
     at: Spot,

@@ -7,16 +7,15 @@ ghost use Rattle.rc_deletes.specs.Items as rule;
 ghost use Rattle.rc_deletes.specs.Judged.{Holds, failing, ruled};
 ghost use Rattle.rc_deletes.specs.Scopes.{Context, builtin_signature};
 ghost use Rattle.rc_deletes.specs.declared.fault.Refusal.TheVariants.{Mistyped, TooBig};
+ghost use Rattle.rc_operators.specs.Stops.{StopsAt, IsRule};
 ghost use Rattle.rc_rules.specs.Shapes.{meaning_of, signature_of};
-ghost use Rattle.rc_rules.specs.Stops.{StopsAt, IsRule};
 ghost use Rattle.rc_syntax.specs.Shape as written;
 ghost use Rattle.rc_syntax.specs.Tree as t;
 
-use crate::kinds;
 use crate::meanings::{Meaning, Signature};
-use crate::stop::{Stop, fails};
 use rc_core::ty::{NumberType, Ty};
 use rc_deletes::{Builtin, Refusal, Sort};
+use rc_operators::{Stop, fails, is_struct, same_type, sort_of_type};
 use rc_syntax::tree::{Base, Constant, Name, Param, Spot, TypeName};
 
 /// A name that is declared once.
@@ -81,6 +80,7 @@ fn converted(to: NumberType, value: i64) -> i64
     }
 }
 
+/// The first value of a global of a sort, by the value that is written, where it fits.
 fn initial_by(sort: Sort, value: Option<i64>) -> Option<i64>
     ensures { result ≡ rule.initial_by sort value }
 {
@@ -100,12 +100,12 @@ pub fn initial_of(ty: &Ty, length: Option<u32>, constant: &Option<Constant>) -> 
 {
     match (length, constant) {
         (_, None) => Some(0),
-        (None, Some(constant)) => initial_by(kinds::sort_of_type(ty), written_value(constant)),
+        (None, Some(constant)) => initial_by(sort_of_type(ty), written_value(constant)),
         (Some(_), Some(_)) => None,
     }
 }
 
-/// The first value of a global, where the globals up to it have so many cells together.
+/// The first value of a global, where the globals up to and with it have `cells` cells together.
 ///
 /// # Errors
 ///
@@ -133,16 +133,18 @@ pub fn global_rule(
     Ok(value)
 }
 
+/// Whether two functions give the same, all annotations included.
 fn same_result(a: &Option<Ty>, b: &Option<Ty>) -> bool
     ensures { result ≡ rule.same_result (option_map ty_of a.now) (option_map ty_of b.now) }
 {
     match (a, b) {
         (None, None) => true,
-        (Some(a), Some(b)) => kinds::same_type(a, b),
+        (Some(a), Some(b)) => same_type(a, b),
         (_, _) => false,
     }
 }
 
+/// Whether two functions take the same, all annotations included.
 #[tactic(auto, using(crate::proofs::Agreeing::other_lengths))]
 fn same_takes(a: &[Ty], b: &[Ty]) -> bool
     ensures { result ≡ rule.same_takes (map ty_of a.now) (map ty_of b.now) }
@@ -151,13 +153,14 @@ fn same_takes(a: &[Ty], b: &[Ty]) -> bool
         return false;
     }
     for i in 0..a.len() {
-        if !kinds::same_type(&a[i], &b[i]) {
+        if !same_type(&a[i], &b[i]) {
             return false;
         }
     }
     true
 }
 
+/// Whether both are true, or both false.
 fn same_bool(a: bool, b: bool) -> bool
     ensures { result ≡ rule.same_bool a b }
 {
@@ -181,7 +184,7 @@ fn has_parts(takes: &[Ty], gives: &Option<Ty>, deletes: bool, s: &Signature) -> 
 }
 
 /// Whether two declarations of a function agree, the annotation of each last star included.
-pub fn agrees(a: &Signature, b: &Signature) -> bool
+fn agrees(a: &Signature, b: &Signature) -> bool
     ensures { result ≡ rule.agrees (signature_of a.now) (signature_of b.now) }
 {
     has_parts(&a.takes, &a.gives, a.deletes, b)
@@ -189,7 +192,7 @@ pub fn agrees(a: &Signature, b: &Signature) -> bool
 
 /// Whether a declaration agrees with a function that every text has. None does with `regionof`,
 /// which takes pointers of every type.
-pub fn builtin_agrees(builtin: Builtin, s: &Signature) -> bool
+fn builtin_agrees(builtin: Builtin, s: &Signature) -> bool
     ensures { result ≡ rule.agrees_with (builtin_signature builtin) (signature_of s.now) }
 {
     match builtin {
@@ -202,6 +205,7 @@ pub fn builtin_agrees(builtin: Builtin, s: &Signature) -> bool
     }
 }
 
+/// The name of a function that was declared before.
 fn declared_again(name: &Name, twice: bool, agrees: bool) -> Result<(), Stop>
     ensures ok { OnOk result (rule.declared_again name.now twice agrees ≡ Holds tt) }
     ensures err { IfErr result (StopsAt (rule.declared_again name.now twice agrees)) }
@@ -226,7 +230,7 @@ pub fn is_defined_before(count: u32, number: Option<u32>) -> bool
     }
 }
 
-/// Whether a body defines a function once more, where so many are defined before.
+/// Whether a body defines a function once more, where `functions` are defined before.
 fn is_defined_again(has_body: bool, functions: u32, number: Option<u32>) -> bool
     ensures { result ≡ (has_body && rule.is_defined_before functions number) }
 {
@@ -236,7 +240,7 @@ fn is_defined_again(has_body: bool, functions: u32, number: Option<u32>) -> bool
     false
 }
 
-/// The name of a function, where so many are defined before: it is new, or was declared before in
+/// The name of a function, where `functions` are defined before: it is new, or was declared before in
 /// the same way, and isn't defined twice.
 ///
 /// # Errors
@@ -274,18 +278,16 @@ pub fn is_struct_option(ty: &Option<Ty>) -> bool
     ensures { result ≡ rule.is_struct_option (option_map ty_of ty.now) }
 {
     match ty {
-        Some(ty) => kinds::is_struct(ty),
+        Some(ty) => is_struct(ty),
         None => false,
     }
 }
 
+/// Whether a base is `int`.
 fn is_int(base: &Base) -> bool
     ensures { result ≡ answer.is_int base.now }
 {
-    match base {
-        Base::Int(_) => true,
-        _ => false,
-    }
+    matches!(base, Base::Int(_))
 }
 
 /// Whether a result is exactly `int`.

@@ -1,31 +1,10 @@
-// What names, expressions and their parts are found to be.
+// What names and parts of expressions are found to be.
 
-use rc_core::expr::{Expr, Place};
+use rc_core::expr::Place;
 use rc_core::parts::Field;
 use rc_core::ty::Ty;
 use rc_deletes::Builtin;
-
-/// What computes a value, with the line where it begins and its type: none for the word `NULL`,
-/// whose type its place decides, and none with an annotation on its last star.
-#[derive(Drop)]
-pub struct Typed {
-    pub line: u32,
-    pub ty: Option<Ty>,
-    pub code: Expr,
-}
-
-/// What an expression is.
-#[derive(Drop)]
-pub enum Meant {
-    Value(Typed),
-    /// A local, by its number.
-    Variable(u32, Ty),
-    /// A place in memory, with the type of what lies there.
-    Place(Place, Ty),
-    /// An array field of the struct at a place: the numbers of the struct and of the field, and the
-    /// type of the elements.
-    Array(Place, u32, u32, Ty),
-}
+use rc_operators::Typed;
 
 /// What declarations of a function agree in: its parameters, its result (none for `void`), and
 /// whether it `deletes`.
@@ -47,11 +26,14 @@ pub enum Meaning {
     Builtin(Builtin),
 }
 
-/// A function that is called, with its number where the text defines it.
+/// What is called.
 #[derive(Clone, Copy)]
 pub enum Callee<'a> {
+    /// A function, with its number where the text defines it.
     Function(Option<u32>, &'a Signature),
     Builtin(Builtin),
+    /// A local or a global, which is no function.
+    NoFunction,
 }
 
 /// A field that was found by its name, with its number in its struct.
@@ -65,5 +47,5 @@ pub struct Found<'a> {
 #[derive(Drop)]
 pub enum RightSide {
     Value(Typed),
-    Struct(Place, u32),
+    Struct(Box<Place>, u32),
 }

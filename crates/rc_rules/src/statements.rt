@@ -2,35 +2,60 @@
 ghost use Rattle.std.specs.Prelude.{◌≡◌, option_map, IfOk, IfErr, Option, Some, None, nat_le, get_or};
 ghost use Rattle.rc_core.specs.Programs as p;
 ghost use Rattle.rc_core.specs.Shapes.{ty_of, expr_of, place_of, stmt_of};
-ghost use Rattle.rc_deletes.specs.Judged.{Holds};
+ghost use Rattle.rc_deletes.specs.Judged.{Holds, fitting as fits};
 ghost use Rattle.rc_deletes.specs.Operators as operator;
 ghost use Rattle.rc_deletes.specs.Scopes.{Context};
 ghost use Rattle.rc_deletes.specs.Statements as rule;
 ghost use Rattle.rc_deletes.specs.Values as values;
 ghost use Rattle.rc_deletes.specs.Values.{fitted as fitted_value};
-ghost use Rattle.rc_rules.specs.Shapes.{typed_of, meant_of, meaning_of, right_of};
+ghost use Rattle.rc_operators.specs.Shapes.{typed_of, meant_of};
+ghost use Rattle.rc_operators.specs.Stops.{StopsAt};
+ghost use Rattle.rc_rules.specs.Shapes.{meaning_of, right_of};
 ghost use Rattle.rc_rules.specs.Sizes.{TellSmall};
-ghost use Rattle.rc_rules.specs.Stops.{StopsAt, IsRule};
 
-use crate::kinds;
-use crate::meanings::{Meaning, Meant, RightSide, Typed};
-use crate::operators::{change_of, changed};
-use crate::stop::{Stop, mistyped, nothing};
-use crate::values::{as_value, fitted};
+use crate::meanings::{Meaning, RightSide};
 use rc_core::expr::{Expr, Place};
-use rc_core::stmt::{Change, Stmt};
+use rc_core::stmt::Stmt;
 use rc_core::ty::{Signedness, Ty};
+use rc_deletes::Refusal;
+use rc_operators::{
+    Meant, Stop, Typed, as_value, boxed, change_of, changed, fails, fitted, is_struct, typed,
+    value_type,
+};
 use rc_syntax::tree::{BinaryOp, Spot, StepOp};
 use std::alloc::Global;
 
-fn place_side(at: Spot, place: Place, ty: Ty) -> Result<RightSide, Stop>
-    ensures ok { IfOk result (λ r. rule.right_side at (values.a_place (place_of place) (ty_of ty)) ≡ Holds (right_of r)) }
-    ensures err { IfErr result (StopsAt (rule.right_side at (values.a_place (place_of place) (ty_of ty)))) }
-    ensures no_memory { IfErr result IsRule }
+/// A statement whose types fit.
+///
+/// # Errors
+///
+/// The node is mistyped, where there is none.
+pub fn fitting(at: Spot, step: Option<Box<Stmt>>) -> Result<Box<Stmt>, Stop>
+    ensures ok { IfOk result (λ s. fits at (option_map (λ s. stmt_of s.value) step) ≡ Holds (stmt_of s.value)) }
+    ensures err { IfErr result (StopsAt (fits at (option_map (λ s. stmt_of s.value) step))) }
+{
+    match step {
+        Some(step) => Ok(step),
+        None => fails(at, Refusal::Mistyped),
+    }
+}
+
+/// A statement that fits.
+fn made(alloc: Global, step: Stmt) -> Result<Option<Box<Stmt>>, Stop>
+    ensures ok { IfOk result (λ s. option_map (λ s. stmt_of s.value) s ≡ Some (stmt_of step)) }
+    ensures err { IfErr result (λ s. s ≡ Stop.Memory) }
+{
+    Ok(Some(boxed(alloc, step)?))
+}
+
+/// The right side of `=` where it is a place: a value, or a place of struct type.
+fn place_side(alloc: Global, at: Spot, place: Box<Place>, ty: Ty) -> Result<RightSide, Stop>
+    ensures ok { IfOk result (λ r. rule.right_side at (values.a_place (place_of place.value) (ty_of ty)) ≡ Holds (right_of r)) }
+    ensures err { IfErr result (StopsAt (rule.right_side at (values.a_place (place_of place.value) (ty_of ty)))) }
 {
     match ty {
         Ty::Struct(structure) => Ok(RightSide::Struct(place, structure)),
-        ty => Ok(RightSide::Value(as_value(at, Meant::Place(place, ty))?)),
+        ty => Ok(RightSide::Value(as_value(alloc, at, Meant::Place(place, ty))?)),
     }
 }
 
@@ -38,15 +63,14 @@ fn place_side(at: Spot, place: Place, ty: Ty) -> Result<RightSide, Stop>
 ///
 /// # Errors
 ///
-/// It is an array field: the node is mistyped.
-pub fn right_side(at: Spot, meant: Meant) -> Result<RightSide, Stop>
+/// It is an array field: the node is mistyped. Or out of memory.
+pub fn right_side(alloc: Global, at: Spot, meant: Meant) -> Result<RightSide, Stop>
     ensures ok { IfOk result (λ r. rule.right_side at (meant_of meant) ≡ Holds (right_of r)) }
     ensures err { IfErr result (StopsAt (rule.right_side at (meant_of meant))) }
-    ensures no_memory { IfErr result IsRule }
 {
     match meant {
-        Meant::Place(place, ty) => place_side(at, place, ty),
-        meant => Ok(RightSide::Value(as_value(at, meant)?)),
+        Meant::Place(place, ty) => place_side(alloc, at, place, ty),
+        meant => Ok(RightSide::Value(as_value(alloc, at, meant)?)),
     }
 }
 
@@ -60,63 +84,91 @@ fn is_small(sizes: &[u32], structure: u32) -> bool
     }
 }
 
+/// An assignment of a whole struct, between places of the structs with these numbers.
 fn copied(
+    alloc: Global,
     line: u32,
     sizes: &[u32],
-    left: Place,
+    left: Box<Place>,
     structure: u32,
-    right: Place,
+    right: Box<Place>,
     other: u32,
-) -> Option<Stmt>
-    ensures { (context : Context) → TellSmall context sizes.now → rule.copy_of context line (place_of left) structure (place_of right) other ≡ option_map stmt_of result }
+) -> Result<Option<Box<Stmt>>, Stop>
+    ensures ok { (context : Context) → TellSmall context sizes.now → IfOk result (λ s. rule.copy_of context line (place_of left.value) structure (place_of right.value) other ≡ option_map (λ s. stmt_of s.value) s) }
+    ensures err { IfErr result (λ s. s ≡ Stop.Memory) }
 {
     if structure != other {
-        return nothing((left, right));
+        return Ok(None);
     }
     if !is_small(sizes, structure) {
-        return nothing((left, right));
+        return Ok(None);
     }
-    Some(Stmt::Copy {
+    let step = Stmt::Copy {
         line,
         structure,
-        left,
-        right,
-    })
+        left: Box::into_inner(left),
+        right: Box::into_inner(right),
+    };
+    made(alloc, step)
 }
 
+/// An assignment of a whole struct to a place, which may be none.
 fn copied_struct(
+    alloc: Global,
     line: u32,
     sizes: &[u32],
-    place: Place,
+    place: Box<Place>,
     ty: Ty,
-    from: Place,
+    from: Box<Place>,
     other: u32,
-) -> Option<Stmt>
-    ensures { (context : Context) → TellSmall context sizes.now → rule.assignment context line (values.a_place (place_of place) (ty_of ty)) (rule.whole_struct (place_of from) other) ≡ option_map stmt_of result }
+) -> Result<Option<Box<Stmt>>, Stop>
+    ensures ok { (context : Context) → TellSmall context sizes.now → IfOk result (λ s. rule.assignment context line (values.a_place (place_of place.value) (ty_of ty)) (rule.whole_struct (place_of from.value) other) ≡ option_map (λ s. stmt_of s.value) s) }
+    ensures err { IfErr result (λ s. s ≡ Stop.Memory) }
 {
     match ty {
-        Ty::Struct(structure) => copied(line, sizes, place, structure, from, other),
-        ty => nothing((place, ty, from)),
+        Ty::Struct(structure) => copied(alloc, line, sizes, place, structure, from, other),
+        _ => Ok(None),
     }
 }
 
-fn assigned(alloc: Global, line: u32, local: u32, ty: &Ty, v: Typed) -> Result<Option<Stmt>, Stop>
-    ensures ok { IfOk result (λ s. option_map (p.assign line local) (fitted_value (ty_of ty.now) (typed_of v)) ≡ option_map stmt_of s) }
+/// An assignment of a value to a local.
+fn assigned(
+    alloc: Global,
+    line: u32,
+    local: u32,
+    ty: &Ty,
+    v: Typed,
+) -> Result<Option<Box<Stmt>>, Stop>
+    ensures ok { IfOk result (λ s. option_map (p.assign line local) (fitted_value (ty_of ty.now) (typed_of v)) ≡ option_map (λ s. stmt_of s.value) s) }
     ensures err { IfErr result (λ s. s ≡ Stop.Memory) }
 {
     match fitted(alloc, ty, v)? {
-        Some(value) => Ok(Some(Stmt::Assign { line, local, value })),
+        Some(value) => {
+            let value = Box::into_inner(value);
+            made(alloc, Stmt::Assign { line, local, value })
+        }
         None => Ok(None),
     }
 }
 
-fn stored(alloc: Global, line: u32, place: Place, ty: &Ty, v: Typed) -> Result<Option<Stmt>, Stop>
-    ensures ok { IfOk result (λ s. option_map (p.store line (place_of place)) (fitted_value (ty_of ty.now) (typed_of v)) ≡ option_map stmt_of s) }
+/// An assignment of a value to a place that is no local.
+fn stored(
+    alloc: Global,
+    line: u32,
+    place: Box<Place>,
+    ty: &Ty,
+    v: Typed,
+) -> Result<Option<Box<Stmt>>, Stop>
+    ensures ok { IfOk result (λ s. option_map (p.store line (place_of place.value)) (fitted_value (ty_of ty.now) (typed_of v)) ≡ option_map (λ s. stmt_of s.value) s) }
     ensures err { IfErr result (λ s. s ≡ Stop.Memory) }
 {
     match fitted(alloc, ty, v)? {
-        Some(value) => Ok(Some(Stmt::Store { line, place, value })),
-        None => Ok(nothing(place)),
+        Some(value) => {
+            let place = Box::into_inner(place);
+            let value = Box::into_inner(value);
+            made(alloc, Stmt::Store { line, place, value })
+        }
+        None => Ok(None),
     }
 }
 
@@ -126,27 +178,28 @@ fn stored(alloc: Global, line: u32, place: Place, ty: &Ty, v: Typed) -> Result<O
 ///
 /// # Errors
 ///
-/// Memory is wanting.
+/// Out of memory.
 pub fn assignment(
     alloc: Global,
     line: u32,
     sizes: &[u32],
     left: Meant,
     right: RightSide,
-) -> Result<Option<Stmt>, Stop>
-    ensures ok { (context : Context) → TellSmall context sizes.now → IfOk result (λ s. rule.assignment context line (meant_of left) (right_of right) ≡ option_map stmt_of s) }
+) -> Result<Option<Box<Stmt>>, Stop>
+    ensures ok { (context : Context) → TellSmall context sizes.now → IfOk result (λ s. rule.assignment context line (meant_of left) (right_of right) ≡ option_map (λ s. stmt_of s.value) s) }
     ensures err { IfErr result (λ s. s ≡ Stop.Memory) }
 {
     match (left, right) {
         (Meant::Variable(local, ty), RightSide::Value(v)) => assigned(alloc, line, local, &ty, v),
         (Meant::Place(place, ty), RightSide::Value(v)) => stored(alloc, line, place, &ty, v),
         (Meant::Place(place, ty), RightSide::Struct(from, other)) => {
-            Ok(copied_struct(line, sizes, place, ty, from, other))
+            copied_struct(alloc, line, sizes, place, ty, from, other)
         }
-        (left, right) => Ok(nothing((left, right))),
+        (_, _) => Ok(None),
     }
 }
 
+/// `op=` on a local.
 fn updated_local(
     alloc: Global,
     line: u32,
@@ -155,42 +208,42 @@ fn updated_local(
     local: u32,
     ty: Ty,
     v: Typed,
-) -> Result<Option<Stmt>, Stop>
-    ensures ok { IfOk result (λ s. rule.update_of line left op (values.a_variable local (ty_of ty)) (typed_of v) ≡ option_map stmt_of s) }
+) -> Result<Option<Box<Stmt>>, Stop>
+    ensures ok { IfOk result (λ s. rule.update_of line left op (values.a_variable local (ty_of ty)) (typed_of v) ≡ option_map (λ s. stmt_of s.value) s) }
     ensures err { IfErr result (λ s. s ≡ Stop.Memory) }
 {
     let Some((change, value)) = change_of(alloc, op, &ty, v)? else {
         return Ok(None);
     };
-    let old = Typed {
-        line: left,
-        ty: Some(kinds::value_type(ty)),
-        code: Expr::Local { line: left, local },
-    };
+    let old = Expr::Local { line: left, local };
+    let old = typed(alloc, left, Some(value_type(ty)), old)?;
     let value = changed(alloc, line, old, change, value)?;
-    Ok(Some(Stmt::Assign { line, local, value }))
+    let value = Box::into_inner(value);
+    made(alloc, Stmt::Assign { line, local, value })
 }
 
+/// `op=` on a place that is no local.
 fn updated_place(
     alloc: Global,
     line: u32,
     op: BinaryOp,
-    place: Place,
+    place: Box<Place>,
     ty: &Ty,
     v: Typed,
-) -> Result<Option<Stmt>, Stop>
-    ensures ok { IfOk result (λ s. rule.updated_place line (place_of place) (operator.change_of op (ty_of ty.now) (typed_of v)) ≡ option_map stmt_of s) }
+) -> Result<Option<Box<Stmt>>, Stop>
+    ensures ok { IfOk result (λ s. rule.updated_place line (place_of place.value) (operator.change_of op (ty_of ty.now) (typed_of v)) ≡ option_map (λ s. stmt_of s.value) s) }
     ensures err { IfErr result (λ s. s ≡ Stop.Memory) }
 {
-    match change_of(alloc, op, ty, v)? {
-        Some((change, value)) => Ok(Some(Stmt::Update {
-            line,
-            place,
-            change,
-            value,
-        })),
-        None => Ok(nothing(place)),
-    }
+    let Some((change, value)) = change_of(alloc, op, ty, v)? else {
+        return Ok(None);
+    };
+    let step = Stmt::Update {
+        line,
+        place: Box::into_inner(place),
+        change,
+        value: Box::into_inner(value),
+    };
+    made(alloc, step)
 }
 
 /// `op=`: on a local an assignment, on another place an update. The left side is read at its own
@@ -198,7 +251,7 @@ fn updated_place(
 ///
 /// # Errors
 ///
-/// Memory is wanting.
+/// Out of memory.
 pub fn update_of(
     alloc: Global,
     line: u32,
@@ -206,14 +259,14 @@ pub fn update_of(
     op: BinaryOp,
     meant: Meant,
     v: Typed,
-) -> Result<Option<Stmt>, Stop>
-    ensures ok { IfOk result (λ s. rule.update_of line left op (meant_of meant) (typed_of v) ≡ option_map stmt_of s) }
+) -> Result<Option<Box<Stmt>>, Stop>
+    ensures ok { IfOk result (λ s. rule.update_of line left op (meant_of meant) (typed_of v) ≡ option_map (λ s. stmt_of s.value) s) }
     ensures err { IfErr result (λ s. s ≡ Stop.Memory) }
 {
     match meant {
         Meant::Variable(local, ty) => updated_local(alloc, line, left, op, local, ty, v),
         Meant::Place(place, ty) => updated_place(alloc, line, op, place, &ty, v),
-        meant => Ok(nothing((meant, v))),
+        _ => Ok(None),
     }
 }
 
@@ -228,37 +281,39 @@ pub fn step_operator(op: StepOp) -> BinaryOp
 }
 
 /// The 1 that `++` and `--` add and subtract.
-pub fn one(line: u32) -> Typed
-    ensures { typed_of result ≡ rule.one line }
+///
+/// # Errors
+///
+/// Out of memory.
+pub fn one(alloc: Global, line: u32) -> Result<Typed, Stop>
+    ensures ok { IfOk result (λ v. typed_of v ≡ rule.one line) }
+    ensures err { IfErr result (λ s. s ≡ Stop.Memory) }
 {
-    Typed {
+    let code = Expr::Constant {
         line,
-        ty: Some(Ty::Int),
-        code: Expr::Constant {
-            line,
-            signedness: Signedness::Signed,
-            value: 1,
-        },
-    }
+        signedness: Signedness::Signed,
+        value: 1,
+    };
+    typed(alloc, line, Some(Ty::Int), code)
 }
 
 /// A value as a statement.
 ///
 /// # Errors
 ///
-/// It is the word `NULL`: the node is mistyped.
-pub fn alone_rule(at: Spot, v: Typed) -> Result<Stmt, Stop>
-    ensures ok { IfOk result (λ s. rule.alone_rule at (typed_of v) ≡ Holds (stmt_of s)) }
+/// It is the word `NULL`: the node is mistyped. Or out of memory.
+pub fn alone_rule(alloc: Global, at: Spot, v: Typed) -> Result<Box<Stmt>, Stop>
+    ensures ok { IfOk result (λ s. rule.alone_rule at (typed_of v) ≡ Holds (stmt_of s.value)) }
     ensures err { IfErr result (StopsAt (rule.alone_rule at (typed_of v))) }
-    ensures no_memory { IfErr result IsRule }
 {
     if v.ty.is_none() {
-        return mistyped(at, v);
+        return fails(at, Refusal::Mistyped);
     }
-    Ok(Stmt::Evaluate {
+    let step = Stmt::Evaluate {
         line: at.line,
-        value: v.code,
-    })
+        value: Box::into_inner(v.code),
+    };
+    boxed(alloc, step)
 }
 
 /// Whether a name stands for a local of the scope whose first local has the number `first`.
@@ -276,53 +331,59 @@ pub fn is_twice(first: u32, meaning: Option<&Meaning>) -> bool
 ///
 /// # Errors
 ///
-/// Memory is wanting.
+/// Out of memory.
 pub fn declaration(
     alloc: Global,
     line: u32,
     local: u32,
     ty: &Ty,
     initial: Option<Typed>,
-) -> Result<Option<Stmt>, Stop>
-    ensures ok { IfOk result (λ s. rule.declaration line local (ty_of ty.now) (option_map typed_of initial) ≡ option_map stmt_of s) }
+) -> Result<Option<Box<Stmt>>, Stop>
+    ensures ok { IfOk result (λ s. rule.declaration line local (ty_of ty.now) (option_map typed_of initial) ≡ option_map (λ s. stmt_of s.value) s) }
     ensures err { IfErr result (λ s. s ≡ Stop.Memory) }
 {
-    if kinds::is_struct(ty) {
-        return Ok(nothing(initial));
+    if is_struct(ty) {
+        return Ok(None);
     }
     match initial {
-        None => Ok(Some(Stmt::Declare {
-            line,
-            local,
-            value: None,
-        })),
+        None => {
+            let value = None;
+            made(alloc, Stmt::Declare { line, local, value })
+        }
         Some(v) => declared(alloc, line, local, ty, v),
     }
 }
 
-fn declared(alloc: Global, line: u32, local: u32, ty: &Ty, v: Typed) -> Result<Option<Stmt>, Stop>
-    ensures ok { IfOk result (λ s. option_map (λ e. p.declare line local (Some e)) (fitted_value (ty_of ty.now) (typed_of v)) ≡ option_map stmt_of s) }
+/// A declarator of a local with an initial value.
+fn declared(
+    alloc: Global,
+    line: u32,
+    local: u32,
+    ty: &Ty,
+    v: Typed,
+) -> Result<Option<Box<Stmt>>, Stop>
+    ensures ok { IfOk result (λ s. option_map (λ e. p.declare line local (Some e)) (fitted_value (ty_of ty.now) (typed_of v)) ≡ option_map (λ s. stmt_of s.value) s) }
     ensures err { IfErr result (λ s. s ≡ Stop.Memory) }
 {
     match fitted(alloc, ty, v)? {
-        Some(value) => Ok(Some(Stmt::Declare {
-            line,
-            local,
-            value: Some(value),
-        })),
+        Some(value) => {
+            let value = Some(Box::into_inner(value));
+            made(alloc, Stmt::Declare { line, local, value })
+        }
         None => Ok(None),
     }
 }
 
-fn returned_value(alloc: Global, line: u32, ty: &Ty, v: Typed) -> Result<Option<Stmt>, Stop>
-    ensures ok { IfOk result (λ s. option_map (λ e. p.return line (Some e)) (fitted_value (ty_of ty.now) (typed_of v)) ≡ option_map stmt_of s) }
+/// A `return` with a value of a type.
+fn returned_value(alloc: Global, line: u32, ty: &Ty, v: Typed) -> Result<Option<Box<Stmt>>, Stop>
+    ensures ok { IfOk result (λ s. option_map (λ e. p.return line (Some e)) (fitted_value (ty_of ty.now) (typed_of v)) ≡ option_map (λ s. stmt_of s.value) s) }
     ensures err { IfErr result (λ s. s ≡ Stop.Memory) }
 {
     match fitted(alloc, ty, v)? {
-        Some(value) => Ok(Some(Stmt::Return {
-            line,
-            value: Some(value),
-        })),
+        Some(value) => {
+            let value = Some(Box::into_inner(value));
+            made(alloc, Stmt::Return { line, value })
+        }
         None => Ok(None),
     }
 }
@@ -332,19 +393,19 @@ fn returned_value(alloc: Global, line: u32, ty: &Ty, v: Typed) -> Result<Option<
 ///
 /// # Errors
 ///
-/// Memory is wanting.
+/// Out of memory.
 pub fn returned(
     alloc: Global,
     line: u32,
     gives: &Option<Ty>,
     value: Option<Typed>,
-) -> Result<Option<Stmt>, Stop>
-    ensures ok { IfOk result (λ s. rule.returned line (option_map ty_of gives.now) (option_map typed_of value) ≡ option_map stmt_of s) }
+) -> Result<Option<Box<Stmt>>, Stop>
+    ensures ok { IfOk result (λ s. rule.returned line (option_map ty_of gives.now) (option_map typed_of value) ≡ option_map (λ s. stmt_of s.value) s) }
     ensures err { IfErr result (λ s. s ≡ Stop.Memory) }
 {
     match (gives, value) {
-        (None, None) => Ok(Some(Stmt::Return { line, value: None })),
+        (None, None) => made(alloc, Stmt::Return { line, value: None }),
         (Some(ty), Some(v)) => returned_value(alloc, line, ty, v),
-        (_, value) => Ok(nothing(value)),
+        (_, _) => Ok(None),
     }
 }

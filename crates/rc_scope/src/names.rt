@@ -87,25 +87,3 @@ impl Names {
         Some(place as u32)
     }
 }
-
-#[cfg(test)]
-mod tests {
-    use super::*;
-    use std::test::Fail;
-
-    #[test]
-    fn numbers_go_up_in_order_of_first_sight(rt: HostRuntime) -> Result<(), Fail> {
-        let mut names = Names::new(rt.alloc());
-        assert_eq!(rt; names.len(), 0);
-        assert_eq!(rt; names.find(b"main"), None);
-        assert_eq!(rt; names.number(b"main")?, 0);
-        assert_eq!(rt; names.number(b"")?, 1);
-        assert_eq!(rt; names.number(b"mai")?, 2);
-        assert_eq!(rt; names.number(b"main")?, 0);
-        assert_eq!(rt; names.len(), 3);
-        assert_eq!(rt; names.find(b"mai"), Some(2));
-        assert_eq!(rt; names.find(b""), Some(1));
-        assert_eq!(rt; names.find(b"mains"), None);
-        Ok(())
-    }
-}

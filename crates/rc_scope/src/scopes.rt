@@ -137,32 +137,3 @@ fn make_room(slots: &mut Vec<Option<usize>>, number: u32) -> Result<(), NoMemory
     }
     Ok(())
 }
-
-#[cfg(test)]
-mod tests {
-    use super::*;
-    use std::test::Fail;
-
-    #[test]
-    fn inner_names_hide_outer_ones_until_their_scope_is_left(rt: HostRuntime) -> Result<(), Fail> {
-        let mut scopes = Scopes::<u32>::new(rt.alloc());
-        assert_eq!(rt; scopes.find(b"x"), None);
-        scopes.push(b"x", 1)?;
-        scopes.push(b"y", 2)?;
-        let depth = scopes.len();
-        assert_eq!(rt; depth, 2);
-        scopes.push(b"x", 3)?;
-        scopes.push(b"", 4)?;
-        assert_eq!(rt; scopes.find(b"x"), Some(&3));
-        assert_eq!(rt; scopes.find(b"y"), Some(&2));
-        assert_eq!(rt; scopes.find(b""), Some(&4));
-        scopes.leave(depth);
-        assert_eq!(rt; scopes.find(b"x"), Some(&1));
-        assert_eq!(rt; scopes.find(b""), None);
-        scopes.leave(5);
-        assert_eq!(rt; scopes.len(), 2);
-        scopes.leave(0);
-        assert_eq!(rt; scopes.find(b"x"), None);
-        Ok(())
-    }
-}

@@ -9,7 +9,7 @@ use Rattle.rc_core.specs.declared.expr.Expr.TheVariants.{rolls-Call, rolls-NewSu
 use Rattle.rc_core.specs.declared.ty.Ty.{Ty as CodeTy}
 use Rattle.rc_core.specs.Shapes.{expr_of}
 use Rattle.rc_slow.specs.Advancing.{begins_alone}
-use Rattle.rc_slow.specs.Coming.{stays_inside}
+use Rattle.rc_nodes.specs.Coming.{stays_inside}
 
 pub alone_code : (e : CodeExpr) → ((line f : ℕ) (v : Vec CodeExpr Alloc) → e ≡ Call line f v → ⊥) → ((line : ℕ) → e ≡ NewRegion line → ⊥) → ((line : ℕ) → e ≡ Getchar line → ⊥) → begins_alone (expr_of e) ≡ true
 unfolding X.roll-Expr denote.Hole.Carrier.roll X.out-Expr denote.Hole.Carrier.out

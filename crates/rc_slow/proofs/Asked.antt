@@ -2,7 +2,7 @@
 use Rattle.std.proofs.Common.{◌≡◌, ◌++◌, ◌∷◌, [], ℕ, pos, negsuc, List, drop, refl, sym, subst}
 use Rattle.rc_base.specs.Acts.{Getchar}
 use Rattle.rc_core.specs.Runs.{Go}
-use Rattle.rc_slow.specs.KeptWorld.{KeptWorld, kept, byte_from}
+use Rattle.rc_memory.specs.KeptWorld.{KeptWorld, kept, byte_from}
 use Rattle.rc_slow.specs.Outside.{later}
 
 pub asked_none : (w : KeptWorld) → w.input ≡ [] → kept.get_byte w ≡ Go (negsuc 0) (later (Getchar ∷ []) w)

@@ -21,21 +21,21 @@ use Rattle.rc_core.specs.Programs.{Program}
 use Rattle.rc_core.specs.Runs.{Stop, Ends as EndsStop, Stale as StaleStop, Run, Go, Stopped, bind}
 use Rattle.rc_core.specs.Source.{World, source}
 use Rattle.rc_safety.proofs.Never.{never_touches_deleted}
-use Rattle.rc_slow.specs.declared.stop.Stop.{Stop as CodeStop}
-use Rattle.rc_slow.specs.declared.stop.Stop.TheVariants.{Ends, Stale, Cut}
-use Rattle.rc_slow.specs.declared.value.Value.{Value as CodeValue}
+use Rattle.rc_memory.specs.declared.stop.Stop.{Stop as CodeStop}
+use Rattle.rc_memory.specs.declared.stop.Stop.TheVariants.{Ends, Stale, Cut}
+use Rattle.rc_memory.specs.declared.value.Value.{Value as CodeValue}
 use Rattle.rc_slow.specs.Advancing.{Finishes}
 use Rattle.rc_slow.specs.Beginning.{from_beginning}
-use Rattle.rc_slow.specs.Change.{mapped}
+use Rattle.rc_memory.specs.Change.{mapped}
 use Rattle.rc_slow.specs.Evaluates.{Did, Evaluates, HasEvaluationCause}
 use Rattle.rc_slow.specs.Going.{Arrives, CutOff, Finished, Halted, Left, way_from}
-use Rattle.rc_slow.specs.KeptWorld.{KeptWorld, byte_from, doing, kept, kept_world}
+use Rattle.rc_memory.specs.KeptWorld.{KeptWorld, byte_from, doing, kept, kept_world}
 use Rattle.rc_slow.specs.Outside.{later}
-use Rattle.rc_slow.specs.Performing.{HasFaultCause}
+use Rattle.rc_slow.specs.Performing.{LeavesOutside}
 use Rattle.rc_slow.specs.Prefix.{behind_acts}
-use Rattle.rc_slow.specs.Values.{value_of}
+use Rattle.rc_memory.specs.Values.{value_of}
 use Rattle.rc_slow.specs.Whole.{Activation, State, whole}
-use Rattle.rc_slow.proofs.Keeps.{kept_agrees}
+use Rattle.rc_memory.proofs.Keeps.{kept_agrees}
 use Rattle.rc_slow.proofs.Prefixes.{acts_agree}
 use Rattle.rc_slow.proofs.Simulation.{main_agrees}
 use Rattle.rc_slow.proofs.WholeAgrees.{whole_same}
@@ -238,45 +238,40 @@ module _ (program : Program) (limits : Limits) where
     }
 
     -- causes
-    pub caused : (r : ran) (answer : Result End RunFault) → input'.tells ≡ input.tells → out'.tells ≡ out.tells → (IsTrue out.tells → out'.flushed ≡ out.flushed) → HasFaultCause ReadFault input.faults input'.faults r → HasFaultCause WriteFault out.faults out'.faults r → (IsErrOf answer ReadFault → IsErrOf r (Cut ReadFault)) → (IsErrOf r (Cut ReadFault) → IsErrOf answer ReadFault) → (IsErrOf answer WriteFault → IsErrOf r (Cut WriteFault)) → (IsErrOf r (Cut WriteFault) → IsErrOf answer WriteFault) → HasEvaluationCause input input' out out' answer
-    caused r answer input_tells out_tells flushed read write read_to read_from write_to write_from = record {
-      input_tells = input_tells;
-      out_tells = out_tells;
-      unflushed = flushed;
-      input_later = read.never_falls;
-      out_later = write.never_falls;
-      read = λ is. read.failed (read_to is);
-      write = λ is. write.failed (write_to is);
-      input_kept = λ other. read.kept (λ is. other (read_from is));
-      out_kept = λ other. write.kept (λ is. other (write_from is));
+    pub caused : (r : ran) (answer : Result End RunFault) → LeavesOutside input input' out out' r → (IsErrOf answer ReadFault → IsErrOf r (Cut ReadFault)) → (IsErrOf r (Cut ReadFault) → IsErrOf answer ReadFault) → (IsErrOf answer WriteFault → IsErrOf r (Cut WriteFault)) → (IsErrOf r (Cut WriteFault) → IsErrOf answer WriteFault) → HasEvaluationCause input input' out out' answer
+    caused r answer leaves read_to read_from write_to write_from = record {
+      input_tells = leaves.input_tells;
+      out_tells = leaves.out_tells;
+      unflushed = leaves.flushed;
+      input_later = leaves.read_cause.never_falls;
+      out_later = leaves.write_cause.never_falls;
+      read = λ is. leaves.read_cause.failed (read_to is);
+      write = λ is. leaves.write_cause.failed (write_to is);
+      input_kept = λ other. leaves.read_cause.kept (λ is. other (read_from is));
+      out_kept = λ other. leaves.write_cause.kept (λ is. other (write_from is));
     }
 
-    module _ (input_tells : input'.tells ≡ input.tells) (out_tells : out'.tells ≡ out.tells) (flushed : IsTrue out.tells → out'.flushed ≡ out.flushed) where
-      abbrev arrival : Result CodeValue CodeStop → Type 0
-      arrival r = Arrives program limits (way_from (from_beginning program limits) input input' out out') r
+    abbrev arrival : Result CodeValue CodeStop → Type 0
+    arrival r = Arrives program limits (way_from (from_beginning program limits) input input' out out') r
 
-      abbrev read_cause : Result CodeValue CodeStop → Type 0
-      read_cause r = HasFaultCause ReadFault input.faults input'.faults r
+    abbrev leaving : Result CodeValue CodeStop → Type 0
+    leaving r = LeavesOutside input input' out out' r
 
-      abbrev write_cause : Result CodeValue CodeStop → Type 0
-      write_cause r = HasFaultCause WriteFault out.faults out'.faults r
+    abbrev evaluation : Result End RunFault → Type 0
+    evaluation answer = Evaluates program limits input input' out out' answer
 
-      abbrev evaluation : Result End RunFault → Type 0
-      evaluation answer = Evaluates program limits input input' out out' answer
+    pub evaluates_exit : (value : CodeValue) (n : ℤ) → n ≡ as_int (number_in (value_of value)) → arrival (Ok value) → leaving (Ok value) → evaluation (Ok (Exit n))
+    evaluates_exit value n is arrived leaves = exits (value_of value) n is arrived (caused (Ok value) (Ok (Exit n)) leaves (λ e. cc) (λ e. cc) (λ e. cc) (λ e. cc))
 
-      pub evaluates_exit : (value : CodeValue) (n : ℤ) → n ≡ as_int (number_in (value_of value)) → arrival (Ok value) → read_cause (Ok value) → write_cause (Ok value) → evaluation (Ok (Exit n))
-      evaluates_exit value n is arrived read write = exits (value_of value) n is arrived (caused (Ok value) (Ok (Exit n)) input_tells out_tells flushed read write (λ e. cc) (λ e. cc) (λ e. cc) (λ e. cc))
+    pub evaluates_end : (stop : CodeStop) (end : End) → stop ≡ Ends end → arrival (Err stop) → leaving (Err stop) → evaluation (Ok end)
+    evaluates_end stop end is arrived leaves = ends end (subst (λ s. arrival (Err s)) is arrived) (caused (Err (Ends end)) (Ok end) (subst (λ s. leaving (Err s)) is leaves) (λ e. cc) (λ e. cc) (λ e. cc) (λ e. cc))
 
-      pub evaluates_end : (stop : CodeStop) (end : End) → stop ≡ Ends end → arrival (Err stop) → read_cause (Err stop) → write_cause (Err stop) → evaluation (Ok end)
-      evaluates_end stop end is arrived read write = ends end (subst (λ s. arrival (Err s)) is arrived) (caused (Err (Ends end)) (Ok end) input_tells out_tells flushed (subst (λ s. read_cause (Err s)) is read) (subst (λ s. write_cause (Err s)) is write) (λ e. cc) (λ e. cc) (λ e. cc) (λ e. cc))
+    pub evaluates_stale : (stop : CodeStop) (line : ℕ) (fault : RunFault) → stop ≡ Stale line → fault ≡ Memory → ¬ IsTrue input.tells → leaving (Err stop) → evaluation (Err fault)
+    evaluates_stale stop line fault is memory none leaves =
+        subst (λ f. evaluation (Err f)) (sym memory) (unforeseen none (caused (Err (Stale line)) (Err Memory) (subst (λ s. leaving (Err s)) is leaves) (λ e. cc) (λ e. cc) (λ e. cc) (λ e. cc)))
 
-      pub evaluates_stale : (stop : CodeStop) (line : ℕ) (fault : RunFault) → stop ≡ Stale line → fault ≡ Memory → ¬ IsTrue input.tells → read_cause (Err stop) → write_cause (Err stop) → evaluation (Err fault)
-      evaluates_stale stop line fault is memory none read write =
-          subst (λ f. evaluation (Err f)) (sym memory)
-          (unforeseen none (caused (Err (Stale line)) (Err Memory) input_tells out_tells flushed (subst (λ s. read_cause (Err s)) is read) (subst (λ s. write_cause (Err s)) is write) (λ e. cc) (λ e. cc) (λ e. cc) (λ e. cc)))
-
-      pub evaluates_cut : (stop : CodeStop) (fault : RunFault) → stop ≡ Cut fault → arrival (Err stop) → read_cause (Err stop) → write_cause (Err stop) → evaluation (Err fault)
-      evaluates_cut stop fault is arrived read write = cut fault (subst (λ s. arrival (Err s)) is arrived) (caused (Err (Cut fault)) (Err fault) input_tells out_tells flushed (subst (λ s. read_cause (Err s)) is read) (subst (λ s. write_cause (Err s)) is write) (λ e. cc) (λ e. cc) (λ e. cc) (λ e. cc))
+    pub evaluates_cut : (stop : CodeStop) (fault : RunFault) → stop ≡ Cut fault → arrival (Err stop) → leaving (Err stop) → evaluation (Err fault)
+    evaluates_cut stop fault is arrived leaves = cut fault (subst (λ s. arrival (Err s)) is arrived) (caused (Err (Cut fault)) (Err fault) (subst (λ s. leaving (Err s)) is leaves) (λ e. cc) (λ e. cc) (λ e. cc) (λ e. cc))
 
 -- nothing was done
 pub evaluates_nothing : (program : Program) (limits : Limits) (input : SourceState) (out : SinkState) → Evaluates program limits input input out out (Err Memory)

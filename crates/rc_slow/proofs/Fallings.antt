@@ -10,7 +10,7 @@ use Rattle.rc_slow.specs.Advancing.{LeadsTo, standing, state_at}
 use Rattle.rc_slow.specs.Falling.{Lessens}
 use Rattle.rc_slow.specs.Performing.{Follows}
 use Rattle.rc_slow.specs.Size.{Falls}
-use Rattle.rc_slow.specs.Stepping.{Control}
+use Rattle.rc_nodes.specs.Stepping.{Control}
 use Rattle.rc_slow.proofs.Goings.{nowhere, step_from}
 use Rattle.rc_slow.proofs.Sizes.{step_falls}
 

@@ -1,5 +1,5 @@
 -- One step further.
-use Rattle.std.proofs.Common.{arith, ◌≡◌, ◌∙◌, ℕ, ℤ, List, [], ◌∷◌, ◌++◌, drop, Result, Ok, Err, OnOk, OnErr, IsTrue, refl, sym, ap, subst, append_assoc, append-nil}
+use Rattle.std.proofs.Common.{arith, ◌≡◌, ◌∙◌, ℕ, ℤ, List, [], ◌∷◌, ◌++◌, drop, Result, Ok, Err, IfErr, OnOk, OnErr, IsTrue, IsErrAnd, refl, sym, ap, subst, append_assoc, append-nil}
 use Rattle.std.proofs.lemmas.List.{drop-drop}
 use Rattle.rc_base.specs.Acts.{Act, Write, Getchar, Gave, output, getchars}
 use Rattle.rc_base.proofs.ActLaws.{output-append, getchars-append, took_then}
@@ -17,16 +17,16 @@ use Rattle.rc_slow.specs.declared.machine.Progress.{Progress as CodeProgress}
 use Rattle.rc_slow.specs.declared.machine.Progress.TheVariants.{Onward as OnwardProgress, Ended as EndedProgress, Asks, Writes}
 use Rattle.rc_slow.specs.declared.outside.Next.{Next as CodeNext}
 use Rattle.rc_slow.specs.declared.outside.Next.TheVariants.{Onward, Ended}
-use Rattle.rc_slow.specs.declared.stop.Stop.{Stop as CodeStop}
-use Rattle.rc_slow.specs.declared.stop.Stop.TheVariants.{Ends, Stale, Cut}
+use Rattle.rc_memory.specs.declared.stop.Stop.{Stop as CodeStop}
+use Rattle.rc_memory.specs.declared.stop.Stop.TheVariants.{Ends, Stale, Cut}
 use Rattle.rc_slow.specs.Advancing.{Finishes, Halts, HaltsAs, standing, state_at}
-use Rattle.rc_slow.specs.Codes.{control_of}
-use Rattle.rc_slow.specs.Values.{value_of}
-use Rattle.rc_slow.specs.Going.{Way, way_from, at, Fits, Came, Going, Halted, Left, CutOff, StopsAt, Comes}
-use Rattle.rc_slow.specs.KeptWorld.{KeptWorld, kept}
-use Rattle.rc_slow.specs.Outside.{later}
-use Rattle.rc_slow.specs.Performing.{HasFaultCause, Performs, acts_of, past}
-use Rattle.rc_slow.specs.Stepping.{Control, gives}
+use Rattle.rc_nodes.specs.Codes.{control_of}
+use Rattle.rc_memory.specs.Values.{value_of}
+use Rattle.rc_slow.specs.Going.{Way, at, Fits, Came, Going, GoesOn, Halted, Left, CutOff, StopsAt, Comes}
+use Rattle.rc_memory.specs.KeptWorld.{KeptWorld, kept}
+use Rattle.rc_slow.specs.Outside.{HasStopCause, later}
+use Rattle.rc_slow.specs.Performing.{HasFaultCause, LeavesOutside, Performs, acts_of, past}
+use Rattle.rc_nodes.specs.Stepping.{Control, gives}
 use Rattle.rc_slow.specs.Whole.{State, Progress, onward, ended, control_step, finally, whole}
 use Rattle.rc_slow.proofs.Steps.{assoc}
 use Rattle.rc_slow.proofs.Whole.{step_right}
@@ -58,27 +58,127 @@ past_later (Writes byte) a w = later_both a (Write byte ∷ []) w
 abbrev pub nowhere : KeptWorld
 nowhere = record { turns = 0; input = []; acts = []; heap = []; waiting = []; regions = 0; blocks = 0 }
 
--- a step that stops the run has no fault of the outside
-pub step_cause : (fault : RunFault) (stop : CodeStop) (n : ℕ) (step : Run KeptWorld Progress) → (fault ≡ Memory → ⊥) → HaltsAs stop nowhere step → HasFaultCause {T = CodeNext} fault n n (Err stop)
-step_cause fault (Ends end) n step other halts = record { never_falls = omega arith; failed = λ is. absurd cc; kept = λ no. refl }
-step_cause fault (Stale line) n step other halts = record { never_falls = omega arith; failed = λ is. absurd cc; kept = λ no. refl }
-step_cause fault (Cut f) n step other halts =
-    let is_memory : f ≡ Memory = halts in
+-- a stop that is no fault of the outside
+abbrev pub IsInside : CodeStop → Type 0
+IsInside (Ends end) = Unit {0}
+IsInside (Stale line) = Unit {0}
+IsInside (Cut fault) = fault ≡ Memory
+
+pub halts_inside : (stop : CodeStop) (step : Run KeptWorld Progress) → HaltsAs stop nowhere step → IsInside stop
+halts_inside (Ends end) step halts = tt
+halts_inside (Stale line) step halts = tt
+halts_inside (Cut fault) step halts = halts
+
+inside_cause : {T : Type 0} (fault : RunFault) (stop : CodeStop) (n : ℕ) → (fault ≡ Memory → ⊥) → IsInside stop → HasFaultCause {T = T} fault n n (Err stop)
+inside_cause {T} fault (Ends end) n other inside = record { never_falls = omega arith; failed = λ is. absurd cc; kept = λ no. refl }
+inside_cause {T} fault (Stale line) n other inside = record { never_falls = omega arith; failed = λ is. absurd cc; kept = λ no. refl }
+inside_cause {T} fault (Cut f) n other inside =
+    let is_memory : f ≡ Memory = inside in
     record { never_falls = omega arith; failed = λ is. absurd (other cc); kept = λ no. refl }
 
 -- a count that stayed so far
-pub cause_on : {T : Type 0} (fault : RunFault) (first before after : ℕ) (r : Result T CodeStop) → before ≡ first → HasFaultCause fault before after r → HasFaultCause fault first after r
+cause_on : {T : Type 0} (fault : RunFault) (first before after : ℕ) (r : Result T CodeStop) → before ≡ first → HasFaultCause fault before after r → HasFaultCause fault first after r
 cause_on fault first before after r is cause = subst (λ n. HasFaultCause fault n after r) is cause
 
-pub cause_at : (fault : RunFault) (first before after : ℕ) (next next1 : CodeNext) → before ≡ first → next ≡ next1 → HasFaultCause fault before after (Ok next) → HasFaultCause fault first after (Ok next1)
-cause_at fault first before after next next1 is at cause = subst (λ n. HasFaultCause fault first after (Ok n)) at (cause_on fault first before after (Ok next) is cause)
-
 -- the same stop, or another value
-pub cause_of_stop : {T U : Type 0} (fault : RunFault) (before after : ℕ) (stop : CodeStop) → HasFaultCause {T = T} fault before after (Err stop) → HasFaultCause {T = U} fault before after (Err stop)
+cause_of_stop : {T U : Type 0} (fault : RunFault) (before after : ℕ) (stop : CodeStop) → HasFaultCause {T = T} fault before after (Err stop) → HasFaultCause {T = U} fault before after (Err stop)
 cause_of_stop {T} {U} fault before after stop cause = record { never_falls = cause.never_falls; failed = λ is. cause.failed cc; kept = λ no. cause.kept (λ is. no cc) }
 
-pub cause_of_value : {T U : Type 0} (fault : RunFault) (before after : ℕ) (x : T) (y : U) → HasFaultCause {T = T} fault before after (Ok x) → HasFaultCause {T = U} fault before after (Ok y)
+cause_of_value : {T U : Type 0} (fault : RunFault) (before after : ℕ) (x : T) (y : U) → HasFaultCause {T = T} fault before after (Ok x) → HasFaultCause {T = U} fault before after (Ok y)
 cause_of_value {T} {U} fault before after x y cause = record { never_falls = cause.never_falls; failed = λ is. absurd cc; kept = λ no. cause.kept (λ is. cc) }
+
+-- a run that goes on so far
+abbrev pub LeavesSoFar : (input input' : SourceState) → (out out' : SinkState) → Type 0
+LeavesSoFar input input' out out' = LeavesOutside {T = Unit {0}} input input' out out' (Ok tt)
+
+pub nothing_left : (input : SourceState) (out : SinkState) → LeavesSoFar input input out out
+nothing_left input out = record {
+  input_tells = refl;
+  out_tells = refl;
+  flushed = λ told. refl;
+  read_cause = record { never_falls = omega arith; failed = λ is. absurd cc; kept = λ no. refl };
+  write_cause = record { never_falls = omega arith; failed = λ is. absurd cc; kept = λ no. refl };
+}
+
+-- such a stop leaves all
+pub inside_leaves : {T : Type 0} (input : SourceState) (out : SinkState) (stop : CodeStop) → IsInside stop → LeavesOutside {T = T} input input out out (Err stop)
+inside_leaves {T} input out stop inside = record {
+  input_tells = refl;
+  out_tells = refl;
+  flushed = λ told. refl;
+  read_cause = inside_cause ReadFault stop input.faults (λ is. cc) inside;
+  write_cause = inside_cause WriteFault stop out.faults (λ is. cc) inside;
+}
+
+pub no_memory_leaves : {T : Type 0} (input : SourceState) (out : SinkState) (r : Result T CodeStop) (stop : CodeStop) → IsErrAnd r (λ y. y ≡ stop) → stop ≡ Cut Memory → LeavesOutside input input out out r
+no_memory_leaves {T} input out (Ok x) stop is memory = absurd is
+no_memory_leaves {T} input out (Err y) stop is memory = subst (λ (s : CodeStop). LeavesOutside {T = T} input input out out (Err s)) (sym (is ∙ memory)) (inside_leaves input out (Cut Memory) refl)
+
+-- what a `getchar` leaves, and what a `putchar` leaves
+pub asked_leaves : {T : Type 0} (input input' : SourceState) (out : SinkState) (r : Result T CodeStop) → input'.tells ≡ input.tells → IfErr r (λ stop. stop ≡ Cut ReadFault) → HasStopCause input.faults input'.faults r → LeavesOutside input input' out out r
+asked_leaves {T} input input' out (Ok x) tells fault cause = record {
+  input_tells = tells;
+  out_tells = refl;
+  flushed = λ told. refl;
+  read_cause = record { never_falls = cause.never_falls; failed = λ is. absurd cc; kept = λ no. cause.kept refl };
+  write_cause = record { never_falls = omega arith; failed = λ is. absurd cc; kept = λ no. refl };
+}
+asked_leaves {T} input input' out (Err stop) tells fault cause =
+    let read : stop ≡ Cut ReadFault = fault in
+    record {
+      input_tells = tells;
+      out_tells = refl;
+      flushed = λ told. refl;
+      read_cause = record { never_falls = cause.never_falls; failed = λ is. cause.failed refl; kept = λ no. absurd (no (ap Err read)) };
+      write_cause = record { never_falls = omega arith; failed = λ is. absurd cc; kept = λ no. refl };
+    }
+
+pub written_leaves : {T : Type 0} (input : SourceState) (out out' : SinkState) (r : Result T CodeStop) → out'.tells ≡ out.tells → (IsTrue out.tells → out'.flushed ≡ out.flushed) → IfErr r (λ stop. stop ≡ Cut WriteFault) → HasStopCause out.faults out'.faults r → LeavesOutside input input out out' r
+written_leaves {T} input out out' (Ok x) tells flushed fault cause = record {
+  input_tells = refl;
+  out_tells = tells;
+  flushed = flushed;
+  read_cause = record { never_falls = omega arith; failed = λ is. absurd cc; kept = λ no. refl };
+  write_cause = record { never_falls = cause.never_falls; failed = λ is. absurd cc; kept = λ no. cause.kept refl };
+}
+written_leaves {T} input out out' (Err stop) tells flushed fault cause =
+    let wrote : stop ≡ Cut WriteFault = fault in
+    record {
+      input_tells = refl;
+      out_tells = tells;
+      flushed = flushed;
+      read_cause = record { never_falls = omega arith; failed = λ is. absurd cc; kept = λ no. refl };
+      write_cause = record { never_falls = cause.never_falls; failed = λ is. cause.failed refl; kept = λ no. absurd (no (ap Err wrote)) };
+    }
+
+-- one part of a run after those so far
+pub leaves_on : {T : Type 0} (input input1 input2 : SourceState) (out out1 out2 : SinkState) (r : Result T CodeStop) → LeavesSoFar input input1 out out1 → LeavesOutside input1 input2 out1 out2 r → LeavesOutside input input2 out out2 r
+leaves_on {T} input input1 input2 out out1 out2 r before after = record {
+  input_tells = after.input_tells ∙ before.input_tells;
+  out_tells = after.out_tells ∙ before.out_tells;
+  flushed = λ told. after.flushed (subst IsTrue (sym before.out_tells) told) ∙ before.flushed told;
+  read_cause = cause_on ReadFault input.faults input1.faults input2.faults r (before.read_cause.kept (λ is. cc)) after.read_cause;
+  write_cause = cause_on WriteFault out.faults out1.faults out2.faults r (before.write_cause.kept (λ is. cc)) after.write_cause;
+}
+
+-- the same stop, or another value
+pub leaves_stop : {T U : Type 0} (input input' : SourceState) (out out' : SinkState) (stop : CodeStop) → LeavesOutside {T = T} input input' out out' (Err stop) → LeavesOutside {T = U} input input' out out' (Err stop)
+leaves_stop {T} {U} input input' out out' stop leaves = record {
+  input_tells = leaves.input_tells;
+  out_tells = leaves.out_tells;
+  flushed = leaves.flushed;
+  read_cause = cause_of_stop ReadFault input.faults input'.faults stop leaves.read_cause;
+  write_cause = cause_of_stop WriteFault out.faults out'.faults stop leaves.write_cause;
+}
+
+pub leaves_value : {T U : Type 0} (input input' : SourceState) (out out' : SinkState) (x : T) (y : U) → LeavesOutside {T = T} input input' out out' (Ok x) → LeavesOutside {T = U} input input' out out' (Ok y)
+leaves_value {T} {U} input input' out out' x y leaves = record {
+  input_tells = leaves.input_tells;
+  out_tells = leaves.out_tells;
+  flushed = leaves.flushed;
+  read_cause = cause_of_value ReadFault input.faults input'.faults x y leaves.read_cause;
+  write_cause = cause_of_value WriteFault out.faults out'.faults x y leaves.write_cause;
+}
 
 module _ (program : Program) (limits : Limits) where
   -- the step from here
@@ -202,4 +302,4 @@ module _ (program : Program) (limits : Limits) where
 
   -- a run that came to the one place came to the other, from wherever it started
   abbrev pub Reaches : SourceState → SinkState → Control → CodeMachine → SourceState → SinkState → Control → CodeMachine → Type 0
-  Reaches input out control m input1 out1 control1 m1 = (start : KeptWorld → Run KeptWorld Value) (first_input : SourceState) (first_out : SinkState) → input.tells ≡ first_input.tells → out.tells ≡ first_out.tells → Going program limits (way_from start first_input input first_out out) control m → Going program limits (way_from start first_input input1 first_out out1) control1 m1
+  Reaches input out control m input1 out1 control1 m1 = GoesOn program limits input input1 out out1 control m (λ way. Going program limits way control1 m1)

@@ -1,12 +1,4 @@
-pub mod LiveParts
-pub mod LiveFrames
-pub mod Lives
-pub mod Lists
-pub mod Results
-pub mod Laying
-pub mod Blanks
 pub mod Simulation
-pub mod Keeps
 pub mod Steps
 pub mod Whole
 pub mod Sizes
@@ -19,4 +11,3 @@ pub mod WholeAgrees
 pub mod Fallings
 pub mod Beginnings
 pub mod Evaluated
-pub mod Copying

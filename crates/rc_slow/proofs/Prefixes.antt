@@ -3,10 +3,10 @@ use Rattle.std.proofs.Common.{◌≡◌, ℕ, zero, suc, ℤ, pos, negsuc, List,
 use Rattle.rc_base.specs.Acts.{Act, Write, Getchar}
 use Rattle.rc_core.specs.Layout.{Layout}
 use Rattle.rc_core.specs.Runs.{Go}
-use Rattle.rc_slow.specs.Outcomes.{Outcome}
-use Rattle.rc_slow.specs.Change.{mapped, Agree}
-use Rattle.rc_slow.specs.Kept.{KeptHeap, live_region, load, load_all, step}
-use Rattle.rc_slow.specs.KeptWorld.{KeptWorld, kept, giving, leaving, turn_from, byte_from, doing, in_region}
+use Rattle.rc_memory.specs.Outcomes.{Outcome}
+use Rattle.rc_memory.specs.Change.{mapped, Agree}
+use Rattle.rc_memory.specs.Kept.{KeptHeap, live_region, load, load_all, step}
+use Rattle.rc_memory.specs.KeptWorld.{KeptWorld, kept, giving, leaving, turn_from, byte_from, doing, in_region}
 use Rattle.rc_slow.specs.Prefix.{behind_acts}
 
 turn_behind : (acts : List Act) (n : ℕ) (w : KeptWorld) → mapped (behind_acts acts) (turn_from n w) ≡ turn_from n (behind_acts acts w)

@@ -14,7 +14,7 @@ use Rattle.rc_core.specs.Live.{Ways, before, before_all, then_live, unless_set, 
 use Rattle.rc_core.specs.Runs.{Run, Go, Stopped, bind, branching, computed, Target, Calls, Ops}
 use Rattle.rc_core.specs.Evaluation.{number_in, is_true, toward, static, aimed, further, choosing, region_named, eval, eval_all, target, along}
 use Rattle.rc_core.specs.Execution.{Flow, Next, Broke, Continued, Returned, held, first_locals, deletes, result_of, behind_body, behind, calling, value_of, set_local, changed, rounds, rounds_first, test_of, exec, exec_all, run_function, calls_within, run_main}
-use Rattle.rc_slow.specs.Change.{mapped, Agree}
+use Rattle.rc_memory.specs.Change.{mapped, Agree}
 
 module _ {W V : Type 0} (change : W → V) where
   pub mapped_bind : {A B : Type 0} (m : Run W A) (m' : Run V A) (k : A → W → Run W B) (k' : A → V → Run V B) → mapped change m ≡ m' → ((x : A) (w : W) → mapped change (k x w) ≡ k' x (change w)) → mapped change (bind m k) ≡ bind m' k'

@@ -10,11 +10,11 @@ use Rattle.rc_core.specs.Live.{Ways, before, while_body, repeat_body, repeat_hea
 use Rattle.rc_core.specs.Runs.{Run, Go, Target, Calls}
 use Rattle.rc_core.specs.Evaluation.{eval, number_in, is_true, toward, aimed}
 use Rattle.rc_core.specs.Execution.{Flow, Next, Broke, Continued, Returned, held, calls_within}
-use Rattle.rc_slow.specs.Change.{mapped, Agree}
-use Rattle.rc_slow.specs.KeptWorld.{KeptWorld, kept}
-use Rattle.rc_slow.specs.Frames.{Frame, first, second, argument, pointer, index, element as element_frame, load, inside, Stage, placed, sourced, valued, stored, within, tested, bodied, headed, thirded, ways}
-use Rattle.rc_slow.specs.Machine.{after_second, after_first, after_pointer, after_index, while_rounds, repeat_rounds, for_rounds, turning, value_given, stored_given, test_given, given, copied, place_given, source_given, aimed_at, body_done, third_done, head_done, finished, calls_at, flow_on, give_on, aim_on}
-use Rattle.rc_slow.specs.Stepping.{Control, evaluating, executing, going_along, gives, aims, goes, breaks, continues, returns, control_on}
+use Rattle.rc_memory.specs.Change.{mapped, Agree}
+use Rattle.rc_memory.specs.KeptWorld.{KeptWorld, kept}
+use Rattle.rc_nodes.specs.Frames.{Frame, first, second, argument, pointer, index, element as element_frame, load, inside, Stage, placed, sourced, valued, stored, within, tested, bodied, headed, thirded, ways}
+use Rattle.rc_slow.specs.Machine.{after_first, after_pointer, after_index, while_rounds, repeat_rounds, for_rounds, turning, value_given, stored_given, test_given, given, copied, place_given, source_given, aimed_at, body_done, third_done, head_done, finished, calls_at, flow_on, give_on, aim_on, control_on}
+use Rattle.rc_nodes.specs.Stepping.{Control, after_second, evaluating, executing, going_along, gives, aims, goes, breaks, continues, returns}
 use Rattle.rc_slow.specs.Whole.{Activation, State, left, resume, whole}
 use Rattle.rc_slow.proofs.Simulation.{mapped_bind, mapped_branching, mapped_computed, mapped_region, mapped_result, mapped_behind_body, mapped_behind, eval_agrees, all_agree, target_agrees, along_agrees, calling_agrees, value_agrees, changed_agrees, rounds_agree, rounds_first_agree, test_agrees, exec_agrees, exec_all_agrees, calls_agree}
 

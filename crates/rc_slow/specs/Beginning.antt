@@ -6,8 +6,8 @@ use Rattle.rc_core.specs.Heap.{Value, first_heap}
 use Rattle.rc_core.specs.Programs.{Function, Program}
 use Rattle.rc_core.specs.Runs.{Run}
 use Rattle.rc_slow.specs.declared.machine.Machine.{Machine as CodeMachine}
-use Rattle.rc_slow.specs.Kept.{kept_heap}
-use Rattle.rc_slow.specs.KeptWorld.{KeptWorld, kept}
+use Rattle.rc_memory.specs.Kept.{kept_heap}
+use Rattle.rc_memory.specs.KeptWorld.{KeptWorld, kept}
 use Rattle.rc_slow.specs.Standing.{activation_of}
 use Rattle.rc_slow.specs.Whole.{Activation}
 
@@ -22,7 +22,7 @@ from_beginning program limits w = run_main kept program (beginning program limit
 abbrev pub main_call : Limits → Function → Activation
 main_call limits f = record { function = f; frames = []; locals = first_locals f []; calls = limits.turns; deletes = false; waits = [] }
 
--- the machine where `main` begins, behind its turn
+-- the machine where `main` begins, after its turn
 pub record Begins (program : Program) (limits : Limits) (f : Function) (m : CodeMachine) : Type 0 where
   pub now : activation_of m.now ≡ main_call limits f
   pub below : m.below ≡ []

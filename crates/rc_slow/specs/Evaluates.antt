@@ -28,7 +28,7 @@ pub record HasEvaluationCause (input input' : SourceState) (out out' : SinkState
   pub input_kept : ¬ IsErrOf result ReadFault → input'.faults ≡ input.faults
   pub out_kept : ¬ IsErrOf result WriteFault → out'.faults ≡ out.faults
 
--- the end, the acts and the bytes taken are those of the program's meaning on this input; behind a fault, a front of the acts
+-- the end, the acts and the bytes taken are those of the program's meaning on this input; after a fault, a front of the acts
 -- was done
 pub record Evaluates (program : Program) (limits : Limits) (input input' : SourceState) (out out' : SinkState) (result : Result End RunFault) : Type 0 where
   pub end : IsTrue input.tells → IfOk result (λ end. (meaning program input.rest limits).end ≡ Ends end)

@@ -12,15 +12,15 @@ use Rattle.rc_core.specs.Runs.{Stop, Ends as EndsStop, Stale as StaleStop, Run, 
 use Rattle.rc_slow.specs.declared.machine.Machine.{Machine as CodeMachine}
 use Rattle.rc_slow.specs.declared.outside.Next.{Next as CodeNext}
 use Rattle.rc_slow.specs.declared.outside.Next.TheVariants.{Onward, Ended}
-use Rattle.rc_slow.specs.declared.stop.Stop.{Stop as CodeStop}
-use Rattle.rc_slow.specs.declared.stop.Stop.TheVariants.{Ends, Stale, Cut}
-use Rattle.rc_slow.specs.declared.value.Value.{Value as CodeValue}
+use Rattle.rc_memory.specs.declared.stop.Stop.{Stop as CodeStop}
+use Rattle.rc_memory.specs.declared.stop.Stop.TheVariants.{Ends, Stale, Cut}
+use Rattle.rc_memory.specs.declared.value.Value.{Value as CodeValue}
 use Rattle.rc_slow.specs.Advancing.{Finishes, Halts, standing, state_at}
-use Rattle.rc_slow.specs.Codes.{control_of}
-use Rattle.rc_slow.specs.KeptWorld.{KeptWorld, kept, doing}
+use Rattle.rc_nodes.specs.Codes.{control_of}
+use Rattle.rc_memory.specs.KeptWorld.{KeptWorld, kept, doing}
 use Rattle.rc_slow.specs.Outside.{later}
-use Rattle.rc_slow.specs.Stepping.{Control}
-use Rattle.rc_slow.specs.Values.{value_of}
+use Rattle.rc_nodes.specs.Stepping.{Control}
+use Rattle.rc_memory.specs.Values.{value_of}
 use Rattle.rc_slow.specs.Whole.{State, whole}
 
 -- a run from any world, and the outside at its start and now
@@ -86,6 +86,12 @@ module _ (program : Program) (limits : Limits) where
   Comes way (Ok (Onward control)) m = Going way (control_of control) m
   Comes way (Ok (Ended value)) m = Finished way (value_of value)
   Comes way (Err stop) m = StopsAt way stop
+
+  -- wherever a run began, it comes to this, where it has come to this control and this machine
+  abbrev pub GoesOn : (input input' : SourceState) → (out out' : SinkState) → Control → CodeMachine → (Way → Type 0) → Type 0
+  GoesOn input input' out out' control m Come =
+      (start : KeptWorld → Run KeptWorld Value) (first_input : SourceState) (first_out : SinkState) → input.tells ≡ first_input.tells → out.tells ≡ first_out.tells →
+      Going (way_from start first_input input first_out out) control m → Come (way_from start first_input input' first_out out')
 
   -- a run to its end
   abbrev pub Arrives : Way → Result CodeValue CodeStop → Type 0

@@ -1,38 +1,21 @@
 -- The machine: a step at a time, it does what the meaning does at once.
-use Rattle.std.specs.Prelude.{ℕ, suc, pos, true, false, not, List, [], ◌∷◌, ◌++◌, Option, Some, None}
+use Rattle.std.specs.Prelude.{ℕ, suc, pos, true, false, not, List, [], ◌∷◌, ◌++◌, Option}
 use Rattle.rc_core.specs.Numbers.{byte_of}
 use Rattle.rc_core.specs.Arithmetic.{converted, calculate, calculate_one}
 use Rattle.rc_core.specs.Types.{struct}
-use Rattle.rc_core.specs.Programs.{Expr, step, step_from, unary, binary, convert, not_zero, and, or, choose, is_null, same, new_subregion, region_of, allocate, allocate_array, putchar, Place, global, pointed, indexed, Stmt, block, declare, assign, store, update, copy, delete, branch, while, repeat, for, return, done, Function, Program}
+use Rattle.rc_core.specs.Programs.{Expr, step, step_from, unary, binary, convert, not_zero, and, or, choose, is_null, same, new_subregion, region_of, allocate, allocate_array, putchar, Place, global, pointed, indexed, Stmt, declare, assign, store, update, copy, delete, branch, while, repeat, for, return, Function, Program}
 use Rattle.rc_core.specs.Layout.{cells, size, stride}
 use Rattle.rc_core.specs.Heap.{Value, Number}
 use Rattle.rc_core.specs.Live.{Ways, before, while_body, repeat_body, repeat_head, for_third, for_body, either}
 use Rattle.rc_core.specs.Runs.{Run, Go, bind, branching, computed, Target, Calls}
 use Rattle.rc_core.specs.Evaluation.{number_in, is_true, toward, aimed, choosing, region_named, give_number, as_wanted, same_value, eval, eval_all, target, along}
-use Rattle.rc_core.specs.Execution.{Flow, Next, Returned, held, with_local, zero_result, result_of, behind, behind_body as behind_round, calling, value_of, changed, rounds, rounds_first, test_of, exec, exec_all}
-use Rattle.rc_slow.specs.KeptWorld.{KeptWorld, kept}
-use Rattle.rc_slow.specs.Frames.{Frame, first, second, argument, pointer, index, element as element_frame, load, inside, Stage, placed, sourced, valued, stored, within, tested, bodied, headed, thirded, ways}
-
--- a function that isn't there has no locals and no result
-abbrev pub no_function : Function
-no_function = record { parameters = 0; locals = []; result = None; deletes = false; line = 0; body = block done }
-
-abbrev pub function_in : Option Function → Function
-function_in None = no_function
-function_in (Some f) = f
+use Rattle.rc_core.specs.Execution.{Flow, Next, Broke, Continued, Returned, held, with_local, zero_result, result_of, behind, behind_body as behind_round, calling, value_of, changed, rounds, rounds_first, test_of, exec, exec_all}
+use Rattle.rc_memory.specs.KeptWorld.{KeptWorld, kept}
+use Rattle.rc_nodes.specs.Frames.{Frame, first, second, argument, pointer, index, element as element_frame, load, inside, Stage, placed, sourced, valued, stored, within, tested, bodied, headed, thirded, ways}
+use Rattle.rc_nodes.specs.Stepping.{Control, evaluating, executing, going_along, gives, aims, goes, breaks, continues, returns, Doing, after_second}
 
 module _ (program : Program) (f : Function) (calls : Calls KeptWorld) where
-  -- an expression whose first part has a value, and whose second part has one too
-  abbrev pub after_second : Expr → (first second : Value) → KeptWorld → Run KeptWorld Value
-  after_second (step line direction p i) v u w = kept.step line v (toward direction (number_in u)) w
-  after_second (step_from line i p) v u w = kept.step line u (number_in v) w
-  after_second (binary line operator s a b) v u w = bind (computed line (calculate operator s (number_in v) (number_in u)) w) give_number
-  after_second (and line a b) v u w = Go (as_wanted true (is_true u)) w
-  after_second (or line a b) v u w = Go (as_wanted true (is_true u)) w
-  after_second (same line wanted a b) v u w = Go (as_wanted wanted (same_value v u)) w
-  after_second (allocate_array line r n ty) v u w = kept.allocate line v (number_in u) (cells program.structs ty) w
-  after_second _ v u w = Go u w
-
+  -- an expression whose first part has a value
   abbrev pub after_first : Expr → Calls KeptWorld → Value → List Value → KeptWorld → Run KeptWorld Value
   after_first (step line direction p i) c v env w = bind (eval kept program i c env w) (λ u w1. kept.step line v (toward direction (number_in u)) w1)
   after_first (step_from line i p) c v env w = bind (eval kept program p c env w) (λ u w1. kept.step line u (number_in v) w1)
@@ -62,7 +45,7 @@ module _ (program : Program) (f : Function) (calls : Calls KeptWorld) where
   after_index (pointed p path) c v n env w = Go (aimed v (pos 0)) w
   after_index (indexed p i path) c v n env w = along kept program path (aimed v (number_in n)) c env w
 
-  -- a loop, from the place behind a round on
+  -- a loop, from the end of a round on
   abbrev pub while_rounds : ℕ → Expr → Stmt → Ways → List Value → KeptWorld → Run KeptWorld Flow
   while_rounds n test body k env w =
       rounds kept program n (value_of kept program calls (either k.next (before body (while_body test body k))) test)
@@ -177,7 +160,7 @@ module _ (program : Program) (f : Function) (calls : Calls KeptWorld) where
     pub give_on : List Frame → Value → List Value → KeptWorld → Run KeptWorld Value
     give_on [] v env w = Go v w
     give_on (first e ∷ fs) v env w = bind (after_first e (calls_at fs env) v env w) (λ u. give_on fs u env)
-    give_on (second e u ∷ fs) v env w = bind (after_second e u v w) (λ x. give_on fs x env)
+    give_on (second e u ∷ fs) v env w = bind (after_second program f calls e u v w) (λ x. give_on fs x env)
     give_on (argument g vs es ∷ fs) v env w = bind (eval_all kept program es (calls_at fs env) env w) (λ us w1. bind (calls_at fs env g (vs ++ v ∷ us) w1) (λ x. give_on fs x env))
     give_on (pointer p ∷ fs) v env w = bind (after_pointer p (calls_at fs env) v env w) (λ t. aim_on fs t env)
     give_on (index p u ∷ fs) v env w = bind (after_index p (calls_at fs env) u v env w) (λ t. aim_on fs t env)
@@ -195,3 +178,18 @@ module _ (program : Program) (f : Function) (calls : Calls KeptWorld) where
     aim_on (pointer p ∷ fs) t env w = aim_on fs t env w
     aim_on (index p u ∷ fs) t env w = aim_on fs t env w
     aim_on (element_frame x count stride path ∷ fs) t env w = aim_on fs t env w
+
+-- the function from there on
+abbrev pub control_on : (program : Program) → Function → Calls KeptWorld → Control → List Frame → List Value → KeptWorld → Run KeptWorld Value
+control_on program f calls (evaluating e) fs env w = bind (eval kept program e (calls_at program f calls fs env) env w) (λ v. give_on program f calls fs v env)
+control_on program f calls (executing s) fs env w = bind (exec kept program s f calls (ways fs) env w) (flow_on program f calls fs)
+control_on program f calls (going_along t path) fs env w = bind (along kept program path t (calls_at program f calls fs env) env w) (λ x. aim_on program f calls fs x env)
+control_on program f calls (gives v) fs env w = give_on program f calls fs v env w
+control_on program f calls (aims t) fs env w = aim_on program f calls fs t env w
+control_on program f calls goes fs env w = flow_on program f calls fs (Next env) w
+control_on program f calls breaks fs env w = flow_on program f calls fs (Broke env) w
+control_on program f calls continues fs env w = flow_on program f calls fs (Continued env) w
+control_on program f calls (returns v) fs env w = flow_on program f calls fs (Returned v) w
+
+abbrev pub going_on : (program : Program) → Function → Calls KeptWorld → Doing → KeptWorld → Run KeptWorld Value
+going_on program f calls d w = control_on program f calls d.control d.frames d.locals w

@@ -2,10 +2,10 @@
 use Rattle.std.specs.Prelude.{◌≡◌, ◌≤◌, ℕ, List, ◌++◌, drop, Result, IsOk, IsErr}
 use Rattle.rc_base.specs.Acts.{Act, getchars}
 use Rattle.rc_base.specs.Causes.{Rose}
-use Rattle.rc_slow.specs.declared.stop.Stop.{Stop as CodeStop}
-use Rattle.rc_slow.specs.KeptWorld.{KeptWorld}
+use Rattle.rc_memory.specs.declared.stop.Stop.{Stop as CodeStop}
+use Rattle.rc_memory.specs.KeptWorld.{KeptWorld}
 
--- the world behind these acts
+-- the world after these acts
 abbrev pub later : List Act → KeptWorld → KeptWorld
 later acts w = record w { acts = w.acts ++ acts; input = drop (getchars acts) w.input }
 

@@ -1,27 +1,29 @@
--- What is done outside behind a step, and where the step leads then.
-use Rattle.std.specs.Prelude.{◌≡◌, ◌≤◌, ℕ, ℤ, pos, List, [], ◌∷◌, Result, Ok, Err, IsErrOf}
+-- What is done outside after a step, and where the step leads then.
+use Rattle.std.specs.Prelude.{◌≡◌, ◌≤◌, ℕ, ℤ, pos, List, [], ◌∷◌, Result, Ok, Err, IsErrOf, IsTrue}
 use Rattle.rc_base.specs.Acts.{Act, Write, Getchar}
 use Rattle.rc_base.specs.Causes.{Rose}
+use Rattle.rc_base.specs.Sinks.{SinkState}
+use Rattle.rc_base.specs.Sources.{SourceState}
 use Rattle.rc_base.specs.declared.ends.Limits.{Limits}
 use Rattle.rc_base.specs.declared.ends.RunFault.{RunFault}
 use Rattle.rc_base.specs.declared.ends.RunFault.TheVariants.{ReadFault, WriteFault, Memory}
 use Rattle.rc_core.specs.Heap.{Number}
 use Rattle.rc_core.specs.Runs.{Run, Go, bind}
-use Rattle.rc_slow.specs.declared.frames.Control.TheVariants.{Gives}
+use Rattle.rc_nodes.specs.declared.frames.Control.TheVariants.{Gives}
 use Rattle.rc_slow.specs.declared.machine.Machine.{Machine as CodeMachine}
 use Rattle.rc_slow.specs.declared.machine.Progress.{Progress as CodeProgress}
 use Rattle.rc_slow.specs.declared.machine.Progress.TheVariants.{Onward, Ended, Asks, Writes}
 use Rattle.rc_slow.specs.declared.outside.Next.{Next as CodeNext}
 use Rattle.rc_slow.specs.declared.outside.Next.TheVariants.{Onward as NextOnward, Ended as NextEnded}
-use Rattle.rc_slow.specs.declared.stop.Stop.{Stop as CodeStop}
-use Rattle.rc_slow.specs.declared.stop.Stop.TheVariants.{Ends, Stale, Cut}
-use Rattle.rc_slow.specs.declared.value.Value.TheVariants.{Number as CodeNumber}
+use Rattle.rc_memory.specs.declared.stop.Stop.{Stop as CodeStop}
+use Rattle.rc_memory.specs.declared.stop.Stop.TheVariants.{Ends, Stale, Cut}
+use Rattle.rc_memory.specs.declared.value.Value.TheVariants.{Number as CodeNumber}
 use Rattle.rc_slow.specs.Advancing.{Finishes, standing, state_at}
-use Rattle.rc_slow.specs.Codes.{control_of}
-use Rattle.rc_slow.specs.KeptWorld.{KeptWorld, kept, doing}
+use Rattle.rc_nodes.specs.Codes.{control_of}
+use Rattle.rc_memory.specs.KeptWorld.{KeptWorld, kept, doing}
 use Rattle.rc_slow.specs.Outside.{later}
-use Rattle.rc_slow.specs.Stepping.{gives}
-use Rattle.rc_slow.specs.Values.{value_of}
+use Rattle.rc_nodes.specs.Stepping.{gives}
+use Rattle.rc_memory.specs.Values.{value_of}
 use Rattle.rc_slow.specs.Whole.{Progress, onward, ended}
 
 abbrev pub acts_of : CodeProgress → List Act
@@ -30,14 +32,14 @@ acts_of (Ended value) = []
 acts_of Asks = Getchar ∷ []
 acts_of (Writes byte) = Write byte ∷ []
 
--- the world behind them
+-- the world after them
 abbrev pub past : CodeProgress → KeptWorld → KeptWorld
 past (Onward control) w = w
 past (Ended value) w = w
 past Asks w = later (Getchar ∷ []) w
 past (Writes byte) w = later (Write byte ∷ []) w
 
--- where it goes on behind them
+-- where it goes on after them
 abbrev pub Follows : CodeProgress → CodeNext → Type 0
 Follows (Onward control) next = next ≡ NextOnward control
 Follows (Ended value) next = next ≡ NextEnded value
@@ -49,6 +51,14 @@ pub record HasFaultCause {T : Type 0} (fault : RunFault) (before after : ℕ) (r
   pub never_falls : before ≤ after
   pub failed : IsErrOf result (Cut fault) → Rose before after
   pub kept : ¬ IsErrOf result (Cut fault) → after ≡ before
+
+-- the outside tells as before, nothing was flushed, and a fault of a read or a write comes only where its count rose
+pub record LeavesOutside {T : Type 0} (input input' : SourceState) (out out' : SinkState) (result : Result T CodeStop) : Type 0 where
+  pub input_tells : input'.tells ≡ input.tells
+  pub out_tells : out'.tells ≡ out.tells
+  pub flushed : IsTrue out.tells → out'.flushed ≡ out.flushed
+  pub read_cause : HasFaultCause ReadFault input.faults input'.faults result
+  pub write_cause : HasFaultCause WriteFault out.faults out'.faults result
 
 module _ (limits : Limits) where
   -- the act that could not be done is the step's

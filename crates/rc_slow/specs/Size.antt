@@ -1,11 +1,11 @@
 -- How much is left to do until a turn is taken, as a number, and that a step leaves less. An expression, a place or a statement
--- counts two and its parts, what has come out one, and a frame one and what is left to do behind its part.
+-- counts two and its parts, what has come out one, and a frame one and what is left to do after its part.
 use Rattle.std.specs.Prelude.{◌≡◌, ◌<◌, ◌+◌, ◌⊎◌, ℕ, List, [], ◌∷◌, Option, Some, None}
 use Rattle.rc_core.specs.Programs.{Expr, constant, null, string, local, read, address, step, step_from, unary, binary, convert, not_zero, and, or, choose, is_null, same, call, new_region, new_subregion, region_of, allocate, allocate_array, putchar, getchar, Arguments, none, more, Place, global, pointed, indexed, Path, here, field, element, Stmt, block, declare, assign, store, update, copy, evaluate, delete, branch, while, repeat, for, break, continue, return, Stmts, done, then}
 use Rattle.rc_core.specs.Runs.{Run, Go, Stopped}
-use Rattle.rc_slow.specs.KeptWorld.{KeptWorld}
-use Rattle.rc_slow.specs.Frames.{Frame, first, second, argument, pointer, index, element as element_frame, load, inside, Stage, placed, sourced, valued, stored, within, tested, bodied, headed, thirded}
-use Rattle.rc_slow.specs.Stepping.{Control, evaluating, executing, going_along, gives, aims, goes, breaks, continues, returns, Doing}
+use Rattle.rc_memory.specs.KeptWorld.{KeptWorld}
+use Rattle.rc_nodes.specs.Frames.{Frame, first, second, argument, pointer, index, element as element_frame, load, inside, Stage, placed, sourced, valued, stored, within, tested, bodied, headed, thirded}
+use Rattle.rc_nodes.specs.Stepping.{Control, evaluating, executing, going_along, gives, aims, goes, breaks, continues, returns, Doing}
 use Rattle.rc_slow.specs.Whole.{Activation, State, Progress, onward, ended}
 
 abbrev mutual
@@ -76,7 +76,7 @@ abbrev mutual
   size_of_stmts done = 0
   size_of_stmts (then s rest) = size_of_stmt s + size_of_stmts rest
 
--- what is left of an expression behind its first part
+-- what is left of an expression after its first part
 abbrev pub left_of_expr : Expr → ℕ
 left_of_expr (step line direction p i) = size_of_expr i
 left_of_expr (step_from line i p) = size_of_expr p
@@ -88,7 +88,7 @@ left_of_expr (same line wanted a b) = size_of_expr b
 left_of_expr (allocate_array line r n ty) = size_of_expr n
 left_of_expr _ = 0
 
--- what is left of a place behind its pointer, and behind its index
+-- what is left of a place after its pointer, and after its index
 abbrev pub left_of_pointer : Place → ℕ
 left_of_pointer (global g path) = 0
 left_of_pointer (pointed p path) = 1 + size_of_path path
@@ -98,7 +98,7 @@ abbrev pub left_of_index : Place → ℕ
 left_of_index (indexed p i path) = 1 + size_of_path path
 left_of_index _ = 0
 
--- what is left of a statement behind its first place, behind its value, behind its condition, behind its body, and behind
+-- what is left of a statement after its first place, after its value, after its condition, after its body, and after
 -- what a `for` does first; a round ends with its turn
 abbrev pub left_of_place : Stmt → ℕ
 left_of_place (store line place e) = size_of_expr e
@@ -135,7 +135,7 @@ left_inside s (bodied n) = left_of_body s
 left_inside s headed = left_of_head s
 left_inside s (thirded n) = 0
 
--- what is left behind the part for which a frame waits
+-- what is left after the part for which a frame waits
 abbrev pub left_behind : Frame → ℕ
 left_behind (first e) = left_of_expr e
 left_behind (second e v) = 0

@@ -5,10 +5,10 @@ use Rattle.rc_core.specs.Heap.{Value, Null}
 use Rattle.rc_core.specs.Runs.{Run, Go, bind, spent, Target}
 use Rattle.rc_core.specs.Evaluation.{number_in, choosing}
 use Rattle.rc_core.specs.Execution.{held, first_locals, function_deletes, zero_result, calls_within}
-use Rattle.rc_slow.specs.KeptWorld.{KeptWorld, kept}
-use Rattle.rc_slow.specs.Frames.{Frame, first, second, argument, pointer, index, element, load, inside, ways}
-use Rattle.rc_slow.specs.Machine.{give_on}
-use Rattle.rc_slow.specs.Stepping.{Control, evaluating, executing, going_along, gives, aims, goes, breaks, continues, returns, Doing, doing, control_on, begin, giving_next, first_step, second_step, pointer_step, index_step, along_step, execute, given_step, aimed_step, go_step, continue_step, break_step}
+use Rattle.rc_memory.specs.KeptWorld.{KeptWorld, kept}
+use Rattle.rc_nodes.specs.Frames.{Frame, first, second, argument, pointer, index, element, load, inside, ways}
+use Rattle.rc_slow.specs.Machine.{give_on, control_on}
+use Rattle.rc_nodes.specs.Stepping.{Control, evaluating, executing, going_along, gives, aims, goes, breaks, continues, returns, Doing, doing, begin, giving_next, first_step, second_step, pointer_step, index_step, along_step, execute, given_step, aimed_step, go_step, continue_step, break_step}
 
 -- a call that runs or waits: its function, what waits in it, its locals, and how many calls may stand inside one another in
 -- it; while it waits, whether the called function deletes, and which values waited before the call, else neither
@@ -138,7 +138,7 @@ module _ (program : Program) where
   control_step continues s w = continues_step s.now.frames s w
   control_step (returns v) s w = returns_step s.now.frames v s w
 
-  -- where `main` begins, behind its turn
+  -- where `main` begins, after its turn
   abbrev pub first_state : ℕ → Function → State
   first_state calls f = record {
     control = executing f.body;
@@ -150,7 +150,7 @@ module _ (program : Program) where
   started None calls w = bind (kept.take_turn w) (λ _ w1. Go (ended Null) w1)
   started (Some f) calls w = bind (kept.take_turn w) (λ _ w1. Go (onward (first_state calls f)) w1)
 
-  -- so many steps, and then the rest at once
+  -- n steps, and then the rest at once
   abbrev pub steps : ℕ → Progress → KeptWorld → Run KeptWorld Progress
   steps n (ended v) w = Go (ended v) w
   steps zero (onward s) w = Go (onward s) w

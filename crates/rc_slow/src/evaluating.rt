@@ -1,7 +1,7 @@
 // Runs a program.
 
-ghost use Rattle.std.specs.Prelude.{◌≡◌, ◌≤◌, IfOk, IfErr, IsTrue, Some, map, option_map, slice_get};
-ghost use Rattle.rc_base.specs.declared.ends.RunFault.TheVariants.{ReadFault, WriteFault, Memory};
+ghost use Rattle.std.specs.Prelude.{◌≡◌, ◌≤◌, IfOk, IfErr, IsTrue, Some, option_map, slice_get};
+ghost use Rattle.rc_base.specs.declared.ends.RunFault.TheVariants.{Memory};
 ghost use Rattle.rc_core.specs.Arithmetic.{as_int};
 ghost use Rattle.rc_core.specs.Deletes.{DeletesInPlace};
 ghost use Rattle.rc_core.specs.Evaluation.{number_in};
@@ -9,24 +9,18 @@ ghost use Rattle.rc_core.specs.Shapes.{function_of, program_of};
 ghost use Rattle.rc_slow.specs.Beginning.{Begins, from_beginning};
 ghost use Rattle.rc_slow.specs.Evaluates.{Evaluates};
 ghost use Rattle.rc_slow.specs.Going.{Arrives, way_from};
-ghost use Rattle.rc_slow.specs.Laid.{AreLaidOut};
-ghost use Rattle.rc_slow.specs.Performing.{HasFaultCause};
-ghost use Rattle.rc_slow.specs.Values.{value_of};
-ghost use Rattle.rc_slow.specs.declared.stop.Stop.TheVariants.{Cut};
+ghost use Rattle.rc_memory.specs.Laid.{AreLaidOut};
+ghost use Rattle.rc_slow.specs.Performing.{LeavesOutside};
+ghost use Rattle.rc_memory.specs.Values.{value_of};
+ghost use Rattle.rc_memory.specs.declared.stop.Stop.TheVariants.{Cut};
 
-use crate::calls::{Activation, Callers, first_locals};
-use crate::frames::Control;
-use crate::heap::Heap;
-use crate::layouts::Layouts;
-use crate::machine::{Machine, Setting};
-use crate::run::run_on;
-use crate::stop::Stop;
-use crate::value::{Value, number_in};
-use crate::values::Values;
-use crate::waiting::Waiting;
+use crate::machine::Machine;
+use crate::run::run_to_end;
 use rc_base::{End, Limits, RunFault, Sink, Source};
 use rc_core::parts::{Function, Parts};
 use rc_core::program::Program;
+use rc_memory::{Heap, Layouts, Stop, Value, Values, number_in};
+use rc_nodes::{Activation, Callers, Control, Setting, Waiting, first_locals};
 use std::alloc::Global;
 
 /// The function of that number, where there is one.
@@ -36,8 +30,8 @@ fn main_of(parts: &Parts) -> Option<&Function>
     parts.functions.as_slice().get(parts.main as usize)
 }
 
-/// The machine where `main` begins, behind its turn.
-fn begin<'p>(setting: &Setting<'p>, function: &'p Function) -> Result<Machine<'p>, Stop>
+/// The machine where `main` begins, after its turn.
+fn begin_main<'p>(setting: &Setting<'p>, function: &'p Function) -> Result<Machine<'p>, Stop>
     requires laid { AreLaidOut (program_of setting.now.parts.now).structs setting.now.layouts.now }
     requires turn { 1 ≤ setting.now.limits.turns }
     ensures begins { IfOk result (Begins (program_of setting.now.parts.now) setting.now.limits (function_of function.now)) }
@@ -71,14 +65,10 @@ fn run_function<'p, S: Source, O: Sink>(
     requires turn { 1 ≤ setting.now.limits.turns }
     requires main { slice_get (program_of setting.now.parts.now).functions (program_of setting.now.parts.now).main ≡ Some (function_of function.now) }
     ensures arrives { Arrives (program_of setting.now.parts.now) setting.now.limits (way_from (from_beginning (program_of setting.now.parts.now) setting.now.limits) (S.state input.old) (S.state input.new) (O.state out.old) (O.state out.new)) result }
-    ensures input_tells { (S.state input.new).tells ≡ (S.state input.old).tells }
-    ensures out_tells { (O.state out.new).tells ≡ (O.state out.old).tells }
-    ensures flushed { IsTrue (O.state out.old).tells → (O.state out.new).flushed ≡ (O.state out.old).flushed }
-    ensures read_cause { HasFaultCause ReadFault (S.state input.old).faults (S.state input.new).faults result }
-    ensures write_cause { HasFaultCause WriteFault (O.state out.old).faults (O.state out.new).faults result }
+    ensures leaves { LeavesOutside (S.state input.old) (S.state input.new) (O.state out.old) (O.state out.new) result }
 {
-    let mut machine = begin(setting, function)?;
-    run_on(
+    let mut machine = begin_main(setting, function)?;
+    run_to_end(
         setting,
         &mut machine,
         Control::Execute(&function.body),
@@ -95,11 +85,7 @@ fn run_main<'p, S: Source, O: Sink>(
 ) -> Result<Value, Stop>
     requires laid { AreLaidOut (program_of setting.now.parts.now).structs setting.now.layouts.now }
     ensures arrives { Arrives (program_of setting.now.parts.now) setting.now.limits (way_from (from_beginning (program_of setting.now.parts.now) setting.now.limits) (S.state input.old) (S.state input.new) (O.state out.old) (O.state out.new)) result }
-    ensures input_tells { (S.state input.new).tells ≡ (S.state input.old).tells }
-    ensures out_tells { (O.state out.new).tells ≡ (O.state out.old).tells }
-    ensures flushed { IsTrue (O.state out.old).tells → (O.state out.new).flushed ≡ (O.state out.old).flushed }
-    ensures read_cause { HasFaultCause ReadFault (S.state input.old).faults (S.state input.new).faults result }
-    ensures write_cause { HasFaultCause WriteFault (O.state out.old).faults (O.state out.new).faults result }
+    ensures leaves { LeavesOutside (S.state input.old) (S.state input.new) (O.state out.old) (O.state out.new) result }
 {
     if setting.limits.turns == 0 {
         return Err(Stop::Ends(End::Spent));
@@ -133,7 +119,7 @@ fn unforeseen<S: Source>(input: &S) -> RunFault
 }
 
 /// Runs the program of a setting.
-fn evaluate_in<'p, S: Source, O: Sink>(
+fn evaluate_setting<'p, S: Source, O: Sink>(
     setting: &Setting<'p>,
     input: &mut S,
     out: &mut O,
@@ -151,8 +137,8 @@ fn evaluate_in<'p, S: Source, O: Sink>(
 }
 
 /// Runs a program, and answers how the run ends. Its end and its acts are those that the program means
-/// on the bytes of the input, where the input tells them; a read or a write that fails, or want of
-/// memory, leaves a front of the acts. It makes no flush.
+/// on the bytes of the input, where the input tells them; where a read or a write fails, or memory
+/// is refused, a front of the acts was done. It makes no flush.
 pub fn evaluate<S: Source, O: Sink>(
     alloc: Global,
     program: &Program,
@@ -172,7 +158,7 @@ pub fn evaluate<S: Source, O: Sink>(
                 layouts: &layouts,
                 limits: *limits,
             };
-            evaluate_in(&setting, input, out)
+            evaluate_setting(&setting, input, out)
         }
     }
 }

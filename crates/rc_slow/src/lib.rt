@@ -8,36 +8,11 @@
 //! do or takes a turn, and what was done stays done.
 #![tactic(auto)]
 
-mod arithmetic;
-mod calls;
 mod evaluating;
-mod expressions;
-mod frames;
-mod heap;
 mod laws;
-mod layouts;
-mod live;
 mod machine;
-mod object;
 mod outside;
-mod paths;
-mod places;
-mod region;
 mod run;
-mod statements;
-mod stop;
-mod storing;
-mod target;
-mod value;
-mod values;
-mod waiting;
 
 pub use evaluating::evaluate;
 pub use laws::{a_step_leaves_less, acts_stay_done, the_machine_is_right, what_is_kept_is_enough};
-
-#[cfg(test)]
-mod evaluating_tests;
-#[cfg(test)]
-mod heap_tests;
-#[cfg(test)]
-mod tests;

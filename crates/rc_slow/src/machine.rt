@@ -1,58 +1,36 @@
 // The machine: a step at a time, inside a call and between calls.
 
-ghost use Rattle.std.specs.Prelude.{◌≡◌, ◌≤◌, ◌∷◌, List, ℕ, true, is_some, option_map, slice_get, IfOk, IfErr, IsTrue};
+ghost use Rattle.std.specs.Prelude.{◌≡◌, ◌≤◌, ◌∷◌, List, ℕ, option_map, slice_get};
 ghost use Rattle.rc_base.specs.declared.ends.Limits.{Limits as RunLimits};
 ghost use Rattle.rc_core.specs.Execution.{held, zero_result};
-ghost use Rattle.rc_core.specs.Heap.{Value as HeapValue};
 ghost use Rattle.rc_core.specs.Programs.{Program, call};
 ghost use Rattle.rc_core.specs.Runs.{Go, Run};
 ghost use Rattle.rc_core.specs.Shapes.{arguments_of, expr_of, function_of, program_of, stmt_of};
-ghost use Rattle.rc_slow.specs.Advancing.{Advances, Leads, LeadsTo, begins_alone, standing, state_at};
-ghost use Rattle.rc_slow.specs.Codes.{control_of, frame_of, frames_of, stage_of};
-ghost use Rattle.rc_slow.specs.Coming.{Comes, stays_inside, with_turns};
-ghost use Rattle.rc_slow.specs.Frames.{Frame as MachineFrame, ways};
-ghost use Rattle.rc_slow.specs.KeptWorld.{KeptWorld};
-ghost use Rattle.rc_slow.specs.Laid.{AreLaidOut};
-ghost use Rattle.rc_slow.specs.Standing.{held_by, held_over, waiting_of};
-ghost use Rattle.rc_slow.specs.Stepping.{Control as MachineControl, begin, doing, execute, first_step, given_step, needs_no_world, returns};
-ghost use Rattle.rc_slow.specs.Values.{value_of};
+ghost use Rattle.rc_slow.specs.Advancing.{Advances, Leads, LeadsTo, standing, state_at};
+ghost use Rattle.rc_nodes.specs.Codes.{control_of, frame_of, frames_of, stage_of};
+ghost use Rattle.rc_nodes.specs.Frames.{Frame as MachineFrame};
+ghost use Rattle.rc_memory.specs.KeptWorld.{KeptWorld};
+ghost use Rattle.rc_memory.specs.Laid.{AreLaidOut};
+ghost use Rattle.rc_nodes.specs.Waiting.{waiting_of};
+ghost use Rattle.rc_nodes.specs.Stepping.{Control as MachineControl, doing, first_step, given_step};
+ghost use Rattle.rc_memory.specs.Values.{value_of};
 ghost use Rattle.rc_slow.specs.declared.machine.Machine.{Machine as CodeMachine};
-ghost use Rattle.rc_slow.specs.declared.stop.Stop.TheVariants.{Cut};
-ghost use Rattle.rc_base.specs.declared.ends.RunFault.TheVariants.{Memory};
 ghost use Rattle.rc_slow.specs.Whole.{Progress as MachineProgress, State, aim_step, argument_step, breaks_step, call_from, call_step, continues_step, control_step, entered, evaluate_step, give_step, goes_step, leave_step, returns_step, staying};
 
-use crate::arithmetic::byte_of;
-use crate::calls::{Activation, Callers, first_locals, held_for};
-use crate::expressions::{
-    allocate, begin, go_on_again, go_on_inside, load, make_region, make_subregion,
-};
-use crate::frames::{Control, Frame, Stage};
-use crate::heap::Heap;
-use crate::layouts::{Layouts, zero_of};
-use crate::paths::go_along;
-use crate::places::{choose, point, shift};
-use crate::statements::{break_in, continue_in, execute, go_on};
-use crate::stop::Stop;
-use crate::storing::{aim_at, give_in};
-use crate::target::Target;
-use crate::value::{Value, number_in};
-use crate::values::Values;
-use crate::waiting::Waiting;
-use rc_base::{End, Limits};
+use rc_base::End;
 use rc_core::expr::Expr;
-use rc_core::parts::{Function, Parts};
+use rc_core::parts::Function;
 use rc_core::stmt::Stmt;
+use rc_memory::{Heap, Stop, Target, Value, Values, byte_of, number_in, zero_of};
+use rc_nodes::{
+    Activation, Callers, Control, Frame, Setting, Stage, Waiting, allocate, begin_expression,
+    begin_statement, broke_to_statement, continued_to_statement, done_to_statement, first_locals,
+    first_value_to_inner_expression, held_for, index_to_path, index_to_place, load, make_region,
+    make_subregion, place_to_statement, pointer_to_place, second_value_to_expression, step_inward,
+    value_to_statement,
+};
 use std::alloc::Global;
 use std::mem;
-
-/// What a run stands on.
-#[derive(Clone, Copy)]
-pub(crate) struct Setting<'p> {
-    pub(crate) alloc: Global,
-    pub(crate) parts: &'p Parts,
-    pub(crate) layouts: &'p Layouts,
-    pub(crate) limits: Limits,
-}
 
 /// The call that runs, those that wait, the heap, and how many turns are left.
 #[derive(Drop)]
@@ -76,21 +54,13 @@ pub(crate) enum Progress<'p> {
 }
 
 /// A step inside a call leads on, where it leads anywhere.
-fn onward<'p>(control: Result<Control<'p>, Stop>) -> Result<Progress<'p>, Stop>
+fn proceed<'p>(control: Result<Control<'p>, Stop>) -> Result<Progress<'p>, Stop>
     ensures { (limits : RunLimits) (m : CodeMachine) (w : KeptWorld) (step : Run KeptWorld MachineProgress) → Leads limits control.entry m w step → Advances limits result m w step }
 {
     match control {
         Ok(control) => Ok(Progress::Onward(control)),
         Err(stop) => Err(stop),
     }
-}
-
-/// What waits in the call that runs while it waits for this function.
-fn holding(alloc: Global, function: &Function, now: &Activation) -> Result<Option<Values>, Stop>
-    ensures held { (rest : List HeapValue) → IfOk result (λ h. (is_some h ≡ function.now.deletes) × (held_over h rest ≡ held_by function.now.deletes (held (ways (frames_of now.now.frames)).next now.now.locals) rest)) }
-    ensures memory { IfErr result (λ stop. stop ≡ Cut Memory) }
-{
-    held_for(alloc, function, &now.frames, &now.locals)
 }
 
 /// Begins a call of a function, where a turn is left for it.
@@ -104,7 +74,8 @@ fn enter<'p>(
     requires turns { 1 ≤ machine.old.turns }
     ensures { (program : Program) (limits : RunLimits) (k : MachineControl) (w : KeptWorld) → Leads limits result machine.new w (call_from program machine.old.now.calls (Some (function_of function.now)) (waiting_of machine.old.below) (state_at k machine.old) arguments (entered program function.now.deletes (state_at k machine.old) (standing limits machine.old w))) }
 {
-    let held = holding(alloc, function, &machine.now)?;
+    let now = &machine.now;
+    let held = held_for(alloc, function, &now.frames, &now.locals)?;
     let next = Activation {
         function,
         frames: Waiting::new(alloc),
@@ -171,7 +142,7 @@ fn begin_call<'p>(
 }
 
 /// An argument of a call has a value.
-fn pass<'p>(
+fn pass_argument<'p>(
     setting: &Setting<'p>,
     machine: &mut Machine<'p>,
     number: u32,
@@ -194,7 +165,7 @@ fn pass<'p>(
 }
 
 /// The call that runs has a value.
-fn leave<'p>(machine: &mut Machine<'p>, value: Value) -> Progress<'p>
+fn leave_call<'p>(machine: &mut Machine<'p>, value: Value) -> Progress<'p>
     ensures { (program : Program) (limits : RunLimits) (k : MachineControl) (w : KeptWorld) → LeadsTo limits result machine.new w (leave_step program (value_of value) (state_at k machine.old).below (standing limits machine.old w)) }
 {
     match machine.below.pop() {
@@ -217,40 +188,15 @@ fn zero_result(function: &Function) -> Value
 }
 
 /// The call that runs comes to its end without a value.
-fn leave_without<'p>(machine: &mut Machine<'p>) -> Progress<'p>
+fn leave_without_value<'p>(machine: &mut Machine<'p>) -> Progress<'p>
     ensures { (program : Program) (limits : RunLimits) (k : MachineControl) (w : KeptWorld) → LeadsTo limits result machine.new w (leave_step program (zero_result (state_at k machine.old).now.function.result) (state_at k machine.old).below (standing limits machine.old w)) }
 {
     let value = zero_result(machine.now.function);
-    leave(machine, value)
-}
-
-/// An expression of the call that runs, or its first part.
-fn begin_in<'p>(
-    alloc: Global,
-    parts: &'p Parts,
-    now: &mut Activation<'p>,
-    e: &'p Expr,
-) -> Result<Control<'p>, Stop>
-    ensures begins { IfOk result (λ c. IsTrue (needs_no_world (expr_of e.now)) → (w : KeptWorld) → begin (program_of parts.now) (expr_of e.now) (frames_of now.old.frames) now.old.locals w ≡ Go (doing (control_of c) (frames_of now.new.frames) now.old.locals) w) }
-    ensures same { now.new ≡ record now.old { frames = now.new.frames } }
-    ensures memory { IfErr result (λ stop. stop ≡ Cut Memory) }
-{
-    begin(alloc, parts, &mut now.frames, &now.locals, e)
-}
-
-/// An expression that begins alone.
-fn evaluate_alone<'p>(
-    setting: &Setting<'p>,
-    machine: &mut Machine<'p>,
-    e: &'p Expr,
-) -> Result<Progress<'p>, Stop>
-    ensures { begins_alone (expr_of e.now) ≡ true → (k : MachineControl) (w : KeptWorld) → AreLaidOut (program_of setting.now.parts.now).structs setting.now.layouts.now → Advances setting.now.limits result machine.new w (evaluate_step (program_of setting.now.parts.now) (expr_of e.now) (state_at k machine.old) (standing setting.now.limits machine.old w)) }
-{
-    onward(begin_in(setting.alloc, setting.parts, &mut machine.now, e))
+    leave_call(machine, value)
 }
 
 /// An expression, or its first part.
-fn evaluate<'p>(
+fn begin_evaluation<'p>(
     setting: &Setting<'p>,
     machine: &mut Machine<'p>,
     e: &'p Expr,
@@ -262,33 +208,18 @@ fn evaluate<'p>(
             function,
             arguments,
             ..
-        } => onward(begin_call(setting, machine, *function, arguments)),
-        Expr::NewRegion { line } => onward(make_region(
-            setting.alloc,
-            &mut machine.heap,
-            *line,
-            setting.limits.regions,
-        )),
+        } => proceed(begin_call(setting, machine, *function, arguments)),
+        Expr::NewRegion { line } => proceed(make_region(setting, &mut machine.heap, *line)),
         Expr::Getchar { .. } => Ok(Progress::Asks),
-        _ => evaluate_alone(setting, machine, e),
+        _ => {
+            let now = &mut machine.now;
+            proceed(begin_expression(setting, &mut now.frames, &now.locals, e))
+        }
     }
 }
 
-/// The first part of an expression that stays inside has a value.
-fn give_inside_first<'p>(
-    setting: &Setting<'p>,
-    machine: &mut Machine<'p>,
-    e: &'p Expr,
-    value: Value,
-) -> Result<Progress<'p>, Stop>
-    ensures { IsTrue (stays_inside (expr_of e.now)) → (k : MachineControl) (w : KeptWorld) → AreLaidOut (program_of setting.now.parts.now).structs setting.now.layouts.now → Advances setting.now.limits result machine.new w (staying (program_of setting.now.parts.now) (state_at k machine.old) (first_step (program_of setting.now.parts.now) (expr_of e.now) (value_of value) (frames_of machine.old.now.frames) machine.old.now.locals (standing setting.now.limits machine.old w))) }
-{
-    let _alloc = setting.alloc;
-    onward(go_on_inside(&mut machine.now.frames, e, value))
-}
-
 /// The first part of an expression has a value.
-fn give_first<'p>(
+fn first_value_to_expression<'p>(
     setting: &Setting<'p>,
     machine: &mut Machine<'p>,
     e: &'p Expr,
@@ -297,30 +228,27 @@ fn give_first<'p>(
     ensures { (k : MachineControl) (w : KeptWorld) → AreLaidOut (program_of setting.now.parts.now).structs setting.now.layouts.now → Advances setting.now.limits result machine.new w (staying (program_of setting.now.parts.now) (state_at k machine.old) (first_step (program_of setting.now.parts.now) (expr_of e.now) (value_of value) (frames_of machine.old.now.frames) machine.old.now.locals (standing setting.now.limits machine.old w))) }
 {
     match e {
-        Expr::NewSubregion { line, .. } => onward(make_subregion(
-            setting.alloc,
+        Expr::NewSubregion { line, .. } => proceed(make_subregion(
+            setting,
             &mut machine.heap,
             *line,
             value,
-            setting.limits.regions,
         )),
-        Expr::Allocate { line, element, .. } => onward(allocate(
-            setting.alloc,
-            setting.layouts,
+        Expr::Allocate { line, element, .. } => proceed(allocate(
+            setting,
             &mut machine.heap,
             *line,
             value,
             1,
             element,
-            setting.limits.blocks,
         )),
         Expr::Putchar { .. } => Ok(Progress::Writes(byte_of(number_in(value)))),
-        _ => give_inside_first(setting, machine, e, value),
+        _ => proceed(first_value_to_inner_expression(&mut machine.now.frames, e, value)),
     }
 }
 
 /// What the frame waits for has this value.
-fn give_to<'p>(
+fn value_to_frame<'p>(
     setting: &Setting<'p>,
     machine: &mut Machine<'p>,
     frame: Frame<'p>,
@@ -329,62 +257,35 @@ fn give_to<'p>(
     ensures { (k : MachineControl) (w : KeptWorld) → AreLaidOut (program_of setting.now.parts.now).structs setting.now.layouts.now → Advances setting.now.limits result machine.new w (give_step (program_of setting.now.parts.now) (frame_of frame.entry ∷ frames_of machine.old.now.frames) (value_of value) (state_at k machine.old) (standing setting.now.limits machine.old w)) }
 {
     match frame {
-        Frame::First(e) => give_first(setting, machine, e, value),
-        Frame::Second(e, first) => onward(go_on_again(
-            setting.alloc,
-            setting.layouts,
+        Frame::First(e) => first_value_to_expression(setting, machine, e, value),
+        Frame::Second(e, first) => proceed(second_value_to_expression(
+            setting,
             &mut machine.heap,
-            setting.limits.blocks,
             e,
             first,
             value,
         )),
         Frame::Argument(number, values, rest) => {
-            onward(pass(setting, machine, number, values, rest, value))
+            proceed(pass_argument(setting, machine, number, values, rest, value))
         }
         Frame::Pointer(place) => {
-            onward(point(setting.alloc, &mut machine.now.frames, place, value))
+            proceed(pointer_to_place(setting.alloc, &mut machine.now.frames, place, value))
         }
         Frame::Index(place, pointer) => {
-            Ok(Progress::Onward(shift(setting.alloc, place, pointer, value)))
+            Ok(Progress::Onward(index_to_place(setting.alloc, place, pointer, value)))
         }
         Frame::Element(target, count, stride, path) => {
-            onward(choose(target, value, count, stride, path))
+            proceed(index_to_path(target, value, count, stride, path))
         }
         Frame::Load(_) => Ok(Progress::Onward(Control::Gives(value))),
-        Frame::Inside(s, stage) => onward(give_inside(setting, machine, s, stage, value)),
+        Frame::Inside(s, stage) => proceed(value_to_inside_frame(
+            setting, machine, s, stage, value,
+        )),
     }
 }
 
-/// What a statement of the call that runs waits for has this value.
-fn give_now<'p>(
-    alloc: Global,
-    below: &Callers,
-    heap: &mut Heap,
-    turns: &mut u64,
-    now: &mut Activation<'p>,
-    s: &'p Stmt,
-    stage: &Stage,
-    value: Value,
-) -> Result<Control<'p>, Stop>
-    ensures gives { (program : Program) (w : KeptWorld) → w.heap ≡ heap.old → w.waiting ≡ waiting_of below.now → Comes result (frames_of now.new.frames) now.new.locals heap.new (with_turns turns.new w) (given_step program (stmt_of s.now) (stage_of (stmt_of s.now) stage.now) (value_of value) (frames_of now.old.frames) now.old.locals (with_turns turns.old w)) }
-    ensures same { now.new ≡ record now.old { frames = now.new.frames; locals = now.new.locals } }
-{
-    give_in(
-        alloc,
-        below,
-        heap,
-        turns,
-        &mut now.frames,
-        &mut now.locals,
-        s,
-        stage,
-        value,
-    )
-}
-
 /// What a statement waits for has this value.
-fn give_inside<'p>(
+fn value_to_inside_frame<'p>(
     setting: &Setting<'p>,
     machine: &mut Machine<'p>,
     s: &'p Stmt,
@@ -393,12 +294,14 @@ fn give_inside<'p>(
 ) -> Result<Control<'p>, Stop>
     ensures { (k : MachineControl) (w : KeptWorld) → Leads setting.now.limits result machine.new w (staying (program_of setting.now.parts.now) (state_at k machine.old) (given_step (program_of setting.now.parts.now) (stmt_of s.now) (stage_of (stmt_of s.now) stage) (value_of value) (frames_of machine.old.now.frames) machine.old.now.locals (standing setting.now.limits machine.old w))) }
 {
-    give_now(
+    let now = &mut machine.now;
+    value_to_statement(
         setting.alloc,
         &machine.below,
         &mut machine.heap,
         &mut machine.turns,
-        &mut machine.now,
+        &mut now.frames,
+        &mut now.locals,
         s,
         &stage,
         value,
@@ -406,7 +309,7 @@ fn give_inside<'p>(
 }
 
 /// A value comes out.
-fn give<'p>(
+fn value_to_call<'p>(
     setting: &Setting<'p>,
     machine: &mut Machine<'p>,
     value: Value,
@@ -414,13 +317,13 @@ fn give<'p>(
     ensures { (k : MachineControl) (w : KeptWorld) → AreLaidOut (program_of setting.now.parts.now).structs setting.now.layouts.now → Advances setting.now.limits result machine.new w (give_step (program_of setting.now.parts.now) (frames_of machine.old.now.frames) (value_of value) (state_at k machine.old) (standing setting.now.limits machine.old w)) }
 {
     match machine.now.frames.pop() {
-        None => Ok(leave(machine, value)),
-        Some(frame) => give_to(setting, machine, frame, value),
+        None => Ok(leave_call(machine, value)),
+        Some(frame) => value_to_frame(setting, machine, frame, value),
     }
 }
 
 /// What the frame waits for is this place.
-fn aim_to<'p>(
+fn place_to_frame<'p>(
     setting: &Setting<'p>,
     machine: &mut Machine<'p>,
     frame: &Frame<'p>,
@@ -430,9 +333,8 @@ fn aim_to<'p>(
 {
     match frame {
         Frame::Load(line) => load(&machine.heap, *line, target),
-        Frame::Inside(s, stage) => aim_at(
-            setting.alloc,
-            setting.layouts,
+        Frame::Inside(s, stage) => place_to_statement(
+            setting,
             &mut machine.heap,
             &mut machine.now.frames,
             s,
@@ -443,27 +345,8 @@ fn aim_to<'p>(
     }
 }
 
-/// The same, of a frame that is done with.
-fn aim_from<'p>(
-    setting: &Setting<'p>,
-    machine: &mut Machine<'p>,
-    frame: Frame<'p>,
-    target: Target,
-) -> Result<Control<'p>, Stop>
-    ensures { (k : MachineControl) (w : KeptWorld) → AreLaidOut (program_of setting.now.parts.now).structs setting.now.layouts.now → Leads setting.now.limits result machine.new w (aim_step (program_of setting.now.parts.now) (frame_of frame.entry ∷ frames_of machine.old.now.frames) target (state_at k machine.old) (standing setting.now.limits machine.old w)) }
-{
-    aim_to(setting, machine, &frame, target)
-}
-
-/// The call that runs comes to its end by a place, which is no value.
-fn leave_for<'p>(machine: &mut Machine<'p>, _target: Target) -> Progress<'p>
-    ensures { (program : Program) (limits : RunLimits) (k : MachineControl) (w : KeptWorld) → LeadsTo limits result machine.new w (leave_step program (zero_result (state_at k machine.old).now.function.result) (state_at k machine.old).below (standing limits machine.old w)) }
-{
-    leave_without(machine)
-}
-
 /// A place comes out.
-fn aim<'p>(
+fn place_to_call<'p>(
     setting: &Setting<'p>,
     machine: &mut Machine<'p>,
     target: Target,
@@ -471,124 +354,86 @@ fn aim<'p>(
     ensures { (k : MachineControl) (w : KeptWorld) → AreLaidOut (program_of setting.now.parts.now).structs setting.now.layouts.now → Advances setting.now.limits result machine.new w (aim_step (program_of setting.now.parts.now) (frames_of machine.old.now.frames) target (state_at k machine.old) (standing setting.now.limits machine.old w)) }
 {
     match machine.now.frames.pop() {
-        None => Ok(leave_for(machine, target)),
-        Some(frame) => onward(aim_from(setting, machine, frame, target)),
+        None => Ok(leave_without_value(machine)),
+        Some(frame) => proceed(place_to_frame(setting, machine, &frame, target)),
     }
 }
 
 /// A statement in what the frame waits for went on.
-fn go_to<'p>(machine: &mut Machine<'p>, frame: &Frame<'p>) -> Result<Control<'p>, Stop>
+fn done_to_frame<'p>(machine: &mut Machine<'p>, frame: &Frame<'p>) -> Result<Control<'p>, Stop>
     ensures { (program : Program) (limits : RunLimits) (k : MachineControl) (w : KeptWorld) → Leads limits result machine.new w (goes_step program (frame_of frame.now ∷ frames_of machine.old.now.frames) (state_at k machine.old) (standing limits machine.old w)) }
 {
     match frame {
-        Frame::Inside(s, stage) => go_on(&mut machine.turns, &mut machine.now.frames, s, stage),
+        Frame::Inside(s, stage) => done_to_statement(
+            &mut machine.turns,
+            &mut machine.now.frames,
+            s,
+            stage,
+        ),
         _ => Ok(Control::Goes),
     }
 }
 
-/// The same, of a frame that is done with.
-fn go_from<'p>(machine: &mut Machine<'p>, frame: Frame<'p>) -> Result<Control<'p>, Stop>
-    ensures { (program : Program) (limits : RunLimits) (k : MachineControl) (w : KeptWorld) → Leads limits result machine.new w (goes_step program (frame_of frame.entry ∷ frames_of machine.old.now.frames) (state_at k machine.old) (standing limits machine.old w)) }
-{
-    go_to(machine, &frame)
-}
-
 /// A statement went on.
-fn go<'p>(machine: &mut Machine<'p>) -> Result<Progress<'p>, Stop>
+fn done_to_call<'p>(machine: &mut Machine<'p>) -> Result<Progress<'p>, Stop>
     ensures { (program : Program) (limits : RunLimits) (k : MachineControl) (w : KeptWorld) → Advances limits result machine.new w (goes_step program (frames_of machine.old.now.frames) (state_at k machine.old) (standing limits machine.old w)) }
 {
     match machine.now.frames.pop() {
-        None => Ok(leave_without(machine)),
-        Some(frame) => onward(go_from(machine, frame)),
+        None => Ok(leave_without_value(machine)),
+        Some(frame) => proceed(done_to_frame(machine, &frame)),
     }
 }
 
 /// A statement in what the frame waits for broke.
-fn break_to<'p>(frame: &Frame<'p>) -> Control<'p>
+fn broke_to_frame<'p>(frame: &Frame<'p>) -> Control<'p>
     ensures { (program : Program) (s : State) (frames : List MachineFrame) (w : KeptWorld) → breaks_step program (frame_of frame.now ∷ frames) s w ≡ staying program s (Go (doing (control_of result) frames s.now.locals) w) }
 {
     match frame {
-        Frame::Inside(s, stage) => break_in(s, stage),
+        Frame::Inside(s, stage) => broke_to_statement(s, stage),
         _ => Control::Breaks,
     }
 }
 
-/// The same, of a frame that is done with.
-fn break_from<'p>(frame: Frame<'p>) -> Control<'p>
-    ensures { (program : Program) (s : State) (frames : List MachineFrame) (w : KeptWorld) → breaks_step program (frame_of frame.entry ∷ frames) s w ≡ staying program s (Go (doing (control_of result) frames s.now.locals) w) }
-{
-    break_to(&frame)
-}
-
 /// A statement broke.
-fn break_out<'p>(machine: &mut Machine<'p>) -> Progress<'p>
+fn broke_to_call<'p>(machine: &mut Machine<'p>) -> Progress<'p>
     ensures { (program : Program) (limits : RunLimits) (k : MachineControl) (w : KeptWorld) → LeadsTo limits result machine.new w (breaks_step program (frames_of machine.old.now.frames) (state_at k machine.old) (standing limits machine.old w)) }
 {
     match machine.now.frames.pop() {
-        None => leave_without(machine),
-        Some(frame) => Progress::Onward(break_from(frame)),
+        None => leave_without_value(machine),
+        Some(frame) => Progress::Onward(broke_to_frame(&frame)),
     }
 }
 
 /// A statement in what the frame waits for continued.
-fn continue_to<'p>(machine: &mut Machine<'p>, frame: &Frame<'p>) -> Result<Control<'p>, Stop>
+fn continued_to_frame<'p>(machine: &mut Machine<'p>, frame: &Frame<'p>) -> Result<Control<'p>, Stop>
     ensures { (program : Program) (limits : RunLimits) (k : MachineControl) (w : KeptWorld) → Leads limits result machine.new w (continues_step program (frame_of frame.now ∷ frames_of machine.old.now.frames) (state_at k machine.old) (standing limits machine.old w)) }
 {
     match frame {
         Frame::Inside(s, stage) => {
-            continue_in(&mut machine.turns, &mut machine.now.frames, s, stage)
+            continued_to_statement(&mut machine.turns, &mut machine.now.frames, s, stage)
         }
         _ => Ok(Control::Continues),
     }
 }
 
-/// The same, of a frame that is done with.
-fn continue_from<'p>(machine: &mut Machine<'p>, frame: Frame<'p>) -> Result<Control<'p>, Stop>
-    ensures { (program : Program) (limits : RunLimits) (k : MachineControl) (w : KeptWorld) → Leads limits result machine.new w (continues_step program (frame_of frame.entry ∷ frames_of machine.old.now.frames) (state_at k machine.old) (standing limits machine.old w)) }
-{
-    continue_to(machine, &frame)
-}
-
 /// A statement continued.
-fn continue_on<'p>(machine: &mut Machine<'p>) -> Result<Progress<'p>, Stop>
+fn continued_to_call<'p>(machine: &mut Machine<'p>) -> Result<Progress<'p>, Stop>
     ensures { (program : Program) (limits : RunLimits) (k : MachineControl) (w : KeptWorld) → Advances limits result machine.new w (continues_step program (frames_of machine.old.now.frames) (state_at k machine.old) (standing limits machine.old w)) }
 {
     match machine.now.frames.pop() {
-        None => Ok(leave_without(machine)),
-        Some(frame) => onward(continue_from(machine, frame)),
+        None => Ok(leave_without_value(machine)),
+        Some(frame) => proceed(continued_to_frame(machine, &frame)),
     }
-}
-
-/// What a frame waits for comes no more.
-fn return_from<'p>(_frame: Frame<'p>, value: Value) -> Control<'p>
-    ensures { control_of result ≡ returns (value_of value) }
-{
-    Control::Returns(value)
 }
 
 /// A statement returned a value: what waits in the call waits for nothing any more.
-fn give_back<'p>(machine: &mut Machine<'p>, value: Value) -> Progress<'p>
+fn returned_to_call<'p>(machine: &mut Machine<'p>, value: Value) -> Progress<'p>
     ensures { (program : Program) (limits : RunLimits) (k : MachineControl) (w : KeptWorld) → LeadsTo limits result machine.new w (returns_step program (frames_of machine.old.now.frames) (value_of value) (state_at k machine.old) (standing limits machine.old w)) }
 {
     match machine.now.frames.pop() {
-        None => leave(machine, value),
-        Some(frame) => Progress::Onward(return_from(frame, value)),
+        None => leave_call(machine, value),
+        Some(_frame) => Progress::Onward(Control::Returns(value)),
     }
-}
-
-/// A statement of the call that runs, or the first of its parts.
-fn execute_now<'p>(
-    alloc: Global,
-    now: &mut Activation<'p>,
-    turns: u64,
-    s: &'p Stmt,
-) -> Result<Control<'p>, Stop>
-    ensures executes { IfOk result (λ c. (program : Program) (w : KeptWorld) → execute program (function_of now.old.function.now) (stmt_of s.now) (frames_of now.old.frames) now.old.locals (with_turns turns w) ≡ doing (control_of c) (frames_of now.new.frames) now.new.locals) }
-    ensures same { now.new ≡ record now.old { frames = now.new.frames; locals = now.new.locals } }
-    ensures memory { IfErr result (λ stop. stop ≡ Cut Memory) }
-{
-    let function = now.function;
-    execute(alloc, function, &mut now.frames, &mut now.locals, turns, s)
 }
 
 /// One step.
@@ -600,24 +445,31 @@ pub(crate) fn step<'p>(
     ensures { (k : MachineControl) (w : KeptWorld) → AreLaidOut (program_of setting.now.parts.now).structs setting.now.layouts.now → Advances setting.now.limits result machine.new w (control_step (program_of setting.now.parts.now) (control_of control.entry) (state_at k machine.old) (standing setting.now.limits machine.old w)) }
 {
     match control {
-        Control::Evaluate(e) => evaluate(setting, machine, e),
-        Control::Execute(s) => onward(execute_now(
-            setting.alloc,
-            &mut machine.now,
-            machine.turns,
-            s,
-        )),
-        Control::GoAlong(target, path) => onward(go_along(
+        Control::Evaluate(e) => begin_evaluation(setting, machine, e),
+        Control::Execute(s) => {
+            let turns = machine.turns;
+            let now = &mut machine.now;
+            let function = now.function;
+            proceed(begin_statement(
+                setting.alloc,
+                function,
+                &mut now.frames,
+                &mut now.locals,
+                turns,
+                s,
+            ))
+        }
+        Control::GoAlong(target, path) => proceed(step_inward(
             setting.layouts,
             &mut machine.now.frames,
             target,
             path,
         )),
-        Control::Gives(value) => give(setting, machine, value),
-        Control::Aims(target) => aim(setting, machine, target),
-        Control::Goes => go(machine),
-        Control::Breaks => Ok(break_out(machine)),
-        Control::Continues => continue_on(machine),
-        Control::Returns(value) => Ok(give_back(machine, value)),
+        Control::Gives(value) => value_to_call(setting, machine, value),
+        Control::Aims(target) => place_to_call(setting, machine, target),
+        Control::Goes => done_to_call(machine),
+        Control::Breaks => Ok(broke_to_call(machine)),
+        Control::Continues => continued_to_call(machine),
+        Control::Returns(value) => Ok(returned_to_call(machine, value)),
     }
 }

@@ -7,19 +7,18 @@ ghost use Rattle.rc_base.specs.declared.ends.Limits.{Limits as RunLimits};
 ghost use Rattle.rc_base.specs.declared.ends.RunFault.TheVariants.{ReadFault, WriteFault};
 ghost use Rattle.rc_core.specs.Runs.{Go, Run};
 ghost use Rattle.rc_slow.specs.Advancing.{LeadsTo};
-ghost use Rattle.rc_slow.specs.KeptWorld.{KeptWorld, kept};
+ghost use Rattle.rc_memory.specs.KeptWorld.{KeptWorld, kept};
 ghost use Rattle.rc_slow.specs.Outside.{HasStopCause, later};
-ghost use Rattle.rc_slow.specs.Performing.{Follows, HasFaultCause, Performs, acts_of};
+ghost use Rattle.rc_slow.specs.Performing.{Follows, LeavesOutside, Performs, acts_of};
 ghost use Rattle.rc_slow.specs.declared.machine.Machine.{Machine as CodeMachine};
 ghost use Rattle.rc_slow.specs.declared.machine.Progress.TheVariants.{Asks, Writes};
-ghost use Rattle.rc_slow.specs.declared.stop.Stop.TheVariants.{Cut};
+ghost use Rattle.rc_memory.specs.declared.stop.Stop.TheVariants.{Cut};
 ghost use Rattle.rc_slow.specs.Whole.{Progress as MachineProgress};
 
-use crate::frames::Control;
 use crate::machine::Progress;
-use crate::stop::Stop;
-use crate::value::Value;
 use rc_base::{RunFault, Sink, Source};
+use rc_memory::{Stop, Value};
+use rc_nodes::Control;
 
 /// The value of `getchar`: the next byte, or -1 where there is no more.
 #[tactic(auto, using(crate::proofs::Asked::asked_none, crate::proofs::Asked::asked_some))]
@@ -53,7 +52,7 @@ pub(crate) fn write<O: Sink>(out: &mut O, byte: u8) -> Result<(), Stop>
     }
 }
 
-/// Where a run stands behind a step, and behind what was done outside.
+/// Where a run stands after a step, and after what was done outside.
 #[derive(Drop)]
 pub(crate) enum Next<'p> {
     Onward(Control<'p>),
@@ -106,11 +105,7 @@ pub(crate) fn perform<'p, S: Source, O: Sink>(
     ensures gave { OnOk result (Gave (acts_of progress.entry) (S.state input.old) (S.state input.new)) }
     ensures none_took { OnErr result (Took [] (O.state out.old) (O.state out.new)) }
     ensures none_gave { OnErr result (Gave [] (S.state input.old) (S.state input.new)) }
-    ensures input_tells { (S.state input.new).tells ≡ (S.state input.old).tells }
-    ensures out_tells { (O.state out.new).tells ≡ (O.state out.old).tells }
-    ensures flushed { IsTrue (O.state out.old).tells → (O.state out.new).flushed ≡ (O.state out.old).flushed }
-    ensures read_cause { HasFaultCause ReadFault (S.state input.old).faults (S.state input.new).faults result }
-    ensures write_cause { HasFaultCause WriteFault (O.state out.old).faults (O.state out.new).faults result }
+    ensures leaves { LeavesOutside (S.state input.old) (S.state input.new) (O.state out.old) (O.state out.new) result }
 {
     match progress {
         Progress::Onward(control) => Ok(Next::Onward(control)),

@@ -11,9 +11,9 @@ use Rattle.rc_syntax.specs.Tokens.{Word, mark, key}
 use Rattle.rc_syntax.specs.Tree as t
 use Rattle.rc_syntax.specs.Grammar as g
 use Rattle.rc_syntax.specs.Grammar.{Symbol, TreeOf, Placed, Part, word, node, Rule, BeginAt, Derives, itself, by, DeriveAll, done, then, Begins, inside, BeginAll, a_word, here, later, adds, reach, level_of, mark_of, ends_open}
-use Rattle.rc_syntax.specs.Todo.{Todo, stop, build, try, enter, peek, begin, resume, Deeper, only, within, refuses}
-use Rattle.rc_syntax.specs.Reading.{first, tail, is_else}
-use Rattle.rc_syntax.specs.Steps.{Stack, frame, State, about, amid, first_of, place, offer, give, closed, step, fed, feed, whole, finish, opened, depth, reach_of}
+use Rattle.rc_syntax.specs.reader.Todo.{Todo, stop, build, try, enter, peek, begin, resume, Deeper, only, within, refuses}
+use Rattle.rc_syntax.specs.reader.Reading.{first, tail, is_else}
+use Rattle.rc_syntax.specs.reader.Steps.{Stack, frame, State, about, amid, first_of, place, offer, give, closed, step, fed, feed, whole, finish, opened, depth, reach_of}
 use Rattle.rc_syntax.proofs.Sound.{Since, outer, reached_outer}
 use Rattle.rc_syntax.proofs.Fronts.{is}
 

@@ -3,7 +3,7 @@ use Rattle.std.proofs.Common.{ℕ, ◌≡◌, Bool, true, false, cond, refl, ari
 use Rattle.std.proofs.lemmas.Bool.Decides.{nat_tests}
 use Rattle.std.specs.Prelude.{◌==◌}
 use Rattle.rc_syntax.specs.Bytes.{is_blank, is_letter, is_decimal}
-use Rattle.rc_syntax.specs.Look.{Class, blank, letter, digit, quote, double_quote, slash, hash, other, class_of}
+use Rattle.rc_syntax.specs.reader.Look.{Class, blank, letter, digit, quote, double_quote, slash, hash, other, class_of}
 use Rattle.rc_syntax.proofs.ByteLaws.{byte_test}
 
 abbrev pub View : ℕ → Class → Type 0

@@ -3,18 +3,18 @@ use Rattle.std.proofs.Common.{ℕ, suc, ◌≡◌, ◌+◌, List, [], ◌∷◌,
 use Rattle.std.specs.Prelude.{◌==◌, ◌⊎◌, fold}
 use Rattle.rc_syntax.specs.Bytes.{is_margin, Each, begins, IsMargin}
 use Rattle.rc_syntax.specs.Words.{HasEnd}
-use Rattle.rc_syntax.specs.Look.{further_end, comment_end, is_in_margin}
+use Rattle.rc_syntax.specs.reader.Look.{further_end, comment_end, is_in_margin}
 use Rattle.rc_syntax.proofs.ByteLaws.{byte_test, and_true, begins_cons, cons_begins}
 
 some_is : {A : Type 0} {x y : A} → Some x ≡ Some y → x ≡ y
 some_is e = cc
 
 end_further : (c : ℕ) (text : List ℕ) → HasEnd text → HasEnd (c ∷ text)
-end_further c text h = (c ∷ h.0, h.1, (let e = h.2 in (cc)))
+end_further c text h = (c ∷ h.0, h.1, ap (λ z. c ∷ z) h.2)
 
 end_here : (c : ℕ) (text more : List ℕ) → c ≡ 42 → begins (λ z. z == 47) (text ++ 42 ∷ 47 ∷ more) ≡ true → HasEnd (c ∷ text)
 end_here c [] more e h = let l : false ≡ true = h in absurd (cc)
-end_here c (d ∷ text) more e h = let f = byte_test d 47 h in ([], text ++ 42 ∷ [], (cc))
+end_here c (d ∷ text) more e h = let f = byte_test d 47 h in ([], text, (cc))
 
 -- the first end is found
 pub comment_found : (text more : List ℕ) → (HasEnd text → ⊥) → comment_end (text ++ 42 ∷ 47 ∷ more) ≡ Some (length text + 2)
@@ -36,14 +36,13 @@ pub record Comment (bytes : List ℕ) (n : ℕ) : Type 0 where
 no_end : HasEnd [] → ⊥
 no_end h = go h.0 h.1 h.2
   where
-    go : (front back : List ℕ) → 42 ∷ [] ≡ front ++ 42 ∷ 47 ∷ back → ⊥
+    go : (front back : List ℕ) → [] ≡ front ++ 42 ∷ 47 ∷ back → ⊥
     go [] back e = cc
-    go (x ∷ []) back e = cc
-    go (x ∷ y ∷ front) back e = cc
+    go (x ∷ front) back e = cc
 
 no_first : (c : ℕ) (bytes text more : List ℕ) → (c == 42 && begins (λ z. z == 47) bytes) ≡ false → bytes ≡ text ++ 42 ∷ 47 ∷ more → (HasEnd text → ⊥) →
-    (front back : List ℕ) → c ∷ text ++ 42 ∷ [] ≡ front ++ 42 ∷ 47 ∷ back → ⊥
-no_first c bytes [] more f t h [] back e = let g : ◌≡◌ {A = ℕ} 42 47 = cc in omega arith
+    (front back : List ℕ) → c ∷ text ≡ front ++ 42 ∷ 47 ∷ back → ⊥
+no_first c bytes [] more f t h [] back e = cc
 no_first c bytes (d ∷ text) more f t h [] back e =
     let g : c ≡ 42 = cc in
     let i : d ≡ 47 = cc in

@@ -4,7 +4,7 @@ use Rattle.std.specs.Prelude.{◌⊎◌}
 use Rattle.rc_syntax.specs.Tokens.{Word, Token}
 use Rattle.rc_syntax.specs.Bytes.{line_behind}
 use Rattle.rc_syntax.specs.Words.{Piece, Reads, with_line, Cut, end, piece, Words, IsStuck, StopsAt}
-use Rattle.rc_syntax.specs.Look.{Seen, look}
+use Rattle.rc_syntax.specs.reader.Look.{Seen, look}
 use Rattle.rc_syntax.proofs.ByteLaws.{drop_front, take_front, same_length}
 use Rattle.rc_syntax.proofs.NamesAndMarks.{Within}
 use Rattle.rc_syntax.proofs.PieceLaws.{look_stands, look_within, look_fits}

@@ -10,11 +10,11 @@ use Rattle.rc_syntax.specs.Tokens.{Word, mark}
 use Rattle.rc_syntax.specs.Tree as t
 use Rattle.rc_syntax.specs.Grammar as g
 use Rattle.rc_syntax.specs.Grammar.{Symbol, TreeOf, Placed, Part, word, node, BeginAt, adds, reach, FieldDeclarator, GlobalDeclarator, LocalDeclarator}
-use Rattle.rc_syntax.specs.Todo.{Todo, stop, build, try, enter, peek, begin, resume, read, sees, when, is_stop}
-use Rattle.rc_syntax.specs.Reading as r
-use Rattle.rc_syntax.specs.Reading.{first, tail}
-use Rattle.rc_syntax.specs.Steps as reader
-use Rattle.rc_syntax.specs.Steps.{Stack, frame, State, about, amid, taken, place, step, fed, feed, finish, opened, depth, reached, reach_of}
+use Rattle.rc_syntax.specs.reader.Todo.{Todo, stop, build, try, enter, peek, begin, resume, read, sees, when, is_stop}
+use Rattle.rc_syntax.specs.reader.Reading as r
+use Rattle.rc_syntax.specs.reader.Reading.{first, tail}
+use Rattle.rc_syntax.specs.reader.Steps as reader
+use Rattle.rc_syntax.specs.reader.Steps.{Stack, frame, State, about, amid, taken, place, step, fed, feed, finish, opened, depth, reached, reach_of}
 use Rattle.rc_syntax.proofs.Sound.{Since, since_on, outer, reached_outer}
 use Rattle.rc_syntax.proofs.Fronts.{is}
 use Rattle.rc_syntax.proofs.Along.{ends, Separates, comma, close, semicolon, a_name, AfterBase, a_star, a_type, AfterField, equal, separates_fields, Acts, Leads, Any, Follows, Past, Meets, MeetsOn, MeetAll, Along, along, leads_at, on, by_word, same_first, acts_past, begun_on, StartsAt, StartAll, s_name, s_here, s_later, Sinks, starts_along, sinks_on, sinks_more}

@@ -16,12 +16,12 @@ use Rattle.rc_syntax.specs.Tokens.{Token, Word, key, mark}
 use Rattle.rc_syntax.specs.Tree as t
 use Rattle.rc_syntax.specs.Grammar as g
 use Rattle.rc_syntax.specs.Grammar.{Placed, placed}
-use Rattle.rc_syntax.specs.Steps.{Answer, Accepts, Refuses, entry, run}
+use Rattle.rc_syntax.specs.reader.Steps.{Answer, Accepts, Refuses, entry, run}
 use Rattle.rc_syntax.specs.Place.{IsRead}
 use Rattle.rc_syntax.specs.Spellings.{keys}
 use Rattle.rc_syntax.specs.Words.{Words}
-use Rattle.rc_syntax.specs.Printing.{printed, IsName}
-use Rattle.rc_syntax.specs.TreeWords.{simple_words, items_words}
+use Rattle.rc_syntax.specs.printing.Printing.{printed, IsName}
+use Rattle.rc_syntax.specs.printing.TreeWords.{simple_words, items_words}
 use Rattle.rc_syntax.proofs.NamesAndMarks.{no_key}
 use Rattle.rc_syntax.proofs.Printed.{printed_words}
 use Rattle.rc_syntax.proofs.PrintableTrees.{end, free, all_fit}

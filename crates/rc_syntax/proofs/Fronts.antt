@@ -7,9 +7,9 @@ use Rattle.rc_syntax.specs.declared.word.Mark.TheVariants as m
 use Rattle.rc_syntax.specs.Tokens as w
 use Rattle.rc_syntax.specs.Tokens.{Word, mark, key}
 use Rattle.rc_syntax.specs.Grammar.{Symbol, TreeOf, Placed, Part, word, node, Rule, BeginAt, Derives, by, DeriveAll, done, then, inside, BeginAll, a_word, here, later}
-use Rattle.rc_syntax.specs.Todo.{Todo, stop, Deeper, only, is_stop, when, sees, read, deeper}
-use Rattle.rc_syntax.specs.Reading.{is_open, is_close, is_open_brace, is_close_brace, is_open_bracket, is_close_bracket, is_semicolon, is_comma, is_colon, is_equal, is_int, is_void, is_while, is_else, is_question, name_in, named, number_in, numbered}
-use Rattle.rc_syntax.proofs.Sound.{Since, Hole, Stands, Left, Goes}
+use Rattle.rc_syntax.specs.reader.Todo.{Todo, stop, Deeper, only, is_stop, when, sees, read, deeper}
+use Rattle.rc_syntax.specs.reader.Reading.{is_open, is_close, is_open_brace, is_close_brace, is_open_bracket, is_close_bracket, is_semicolon, is_comma, is_colon, is_equal, is_int, is_void, is_while, is_else, is_question, name_in, named, number_in, numbered}
+use Rattle.rc_syntax.proofs.Sound.{Since, is_used, Hole, Stands, Left, Goes}
 
 pub snoc : {xs ys : List Placed} {ps : List Part} {p : Part} → DeriveAll xs ps → Derives ys p → DeriveAll (xs ++ ys) (ps ++ p ∷ [])
 snoc {ys = ys} {p = p} done d = let P : List Placed → Type 0 = λ l. DeriveAll l (p ∷ []) in subst P (append-nil ys) (then d done)
@@ -50,11 +50,15 @@ by_any o {ws = ws} r f = let x = any_spot o ws in by x.1 (r x.0) f
 pub by_since : {s : Symbol} {a : TreeOf s} {ps : List Part} {o : Spot} {ws : List Placed} → Since o ws → Rule o s a ps → DeriveAll ws ps → Derives ws (node s a)
 by_since {o = o} {ws = ws} h r f = by (at_since o ws h) r f
 
+-- a production at this spot, where nothing else says which
+pub at_spot : {s : Symbol} {a : TreeOf s} {ps : List Part} (i : Spot) → Rule i s a ps → Rule i s a ps
+at_spot i r = r
+
 pub stands : {s : Symbol} {a : TreeOf s} {ys : List Placed} {ps : List Part} {i : Spot} (o : Spot) (x : Word) (qs : List Part) → DeriveAll ys ps → Rule i s a (ps ++ word x ∷ qs) → Stands (ys ++ record { word = x; spot = o } ∷ []) s
 stands o x qs f r = inside r (all_then f a_word)
 
-pub hole : {s j : Symbol} {a : TreeOf s} {ys : List Placed} {ps : List Part} {i : Spot} (c : TreeOf j) (qs : List Part) → DeriveAll ys ps → Rule i s a (ps ++ node j c ∷ qs) → Hole ys s j
-hole c qs f r = λ zs d q b. inside r (all_then f (here b))
+pub hole : {s j : Symbol} {a : TreeOf s} {ys : List Placed} {ps : List Part} {i : Spot} → is_used j ≡ true → (c : TreeOf j) (qs : List Part) → DeriveAll ys ps → Rule i s a (ps ++ node j c ∷ qs) → Hole ys s j
+hole used c qs f r = record { used = used; begins = λ zs d q b. inside r (all_then f (here b)) }
 
 -- A word at a spot.
 abbrev pub is : Word → Spot → Placed

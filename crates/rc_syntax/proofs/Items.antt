@@ -12,11 +12,11 @@ use Rattle.rc_syntax.specs.Tokens.{Word, mark, key}
 use Rattle.rc_syntax.specs.Tree as t
 use Rattle.rc_syntax.specs.Grammar as g
 use Rattle.rc_syntax.specs.Grammar.{Symbol, TreeOf, Placed, Part, word, node, BeginAt, Rule, Derives, itself, by, done, then, Begins, inside, a_word, here, later, adds, reach, typed, global, GlobalDeclarator, FunctionEnding}
-use Rattle.rc_syntax.specs.Todo.{Todo, build, try, resume, read, sees, when, is_stop}
-use Rattle.rc_syntax.specs.Reading as r
-use Rattle.rc_syntax.specs.Reading.{first, tail}
-use Rattle.rc_syntax.specs.Steps as reader
-use Rattle.rc_syntax.specs.Steps.{Stack, frame, State, about, amid, taken, place, offer, give, closed, step, feed, finish, opened, depth, reached, reach_of}
+use Rattle.rc_syntax.specs.reader.Todo.{Todo, build, try, resume, read, sees, when, is_stop}
+use Rattle.rc_syntax.specs.reader.Reading as r
+use Rattle.rc_syntax.specs.reader.Reading.{first, tail}
+use Rattle.rc_syntax.specs.reader.Steps as reader
+use Rattle.rc_syntax.specs.reader.Steps.{Stack, frame, State, about, amid, taken, place, offer, give, closed, step, feed, finish, opened, depth, reached, reach_of}
 use Rattle.rc_syntax.proofs.Sound.{Since, since_on, outer, reached_outer}
 use Rattle.rc_syntax.proofs.Fronts.{is}
 use Rattle.rc_syntax.proofs.Along.{comma, close, semicolon, a_name, separates, AfterBase, a_star, a_type, Acts, Leads, Any, Follows, Past, Meets, MeetAll, Along, along, leads_at, on, by_word, passes_on, acts_past, StartsAt, StartAll, Sinks, starts_along, sinks_more}

@@ -8,11 +8,11 @@ use Rattle.rc_syntax.specs.Tokens.{Word, mark}
 use Rattle.rc_syntax.specs.Tree as t
 use Rattle.rc_syntax.specs.Grammar as g
 use Rattle.rc_syntax.specs.Grammar.{Symbol, TreeOf, Placed, Part, node, BeginAt, Begins, inside, adds, reach, level_of, mark_of}
-use Rattle.rc_syntax.specs.Todo.{build, when}
-use Rattle.rc_syntax.specs.Reading as r
-use Rattle.rc_syntax.specs.Reading.{first, tail}
-use Rattle.rc_syntax.specs.Steps as reader
-use Rattle.rc_syntax.specs.Steps.{Stack, frame, State, about, amid, taken, place, give, step, feed, finish, opened, depth, reached, reach_of}
+use Rattle.rc_syntax.specs.reader.Todo.{build, when}
+use Rattle.rc_syntax.specs.reader.Reading as r
+use Rattle.rc_syntax.specs.reader.Reading.{first, tail}
+use Rattle.rc_syntax.specs.reader.Steps as reader
+use Rattle.rc_syntax.specs.reader.Steps.{Stack, frame, State, about, amid, taken, place, give, step, feed, finish, opened, depth, reached, reach_of}
 use Rattle.rc_syntax.proofs.Sound.{Since, since_on, outer, reached_outer}
 use Rattle.rc_syntax.proofs.Fronts.{is}
 use Rattle.rc_syntax.proofs.Operands.{op_level}

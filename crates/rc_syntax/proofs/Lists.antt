@@ -10,11 +10,11 @@ use Rattle.rc_syntax.specs.Tokens.{Word, mark, key}
 use Rattle.rc_syntax.specs.Tree as t
 use Rattle.rc_syntax.specs.Grammar as g
 use Rattle.rc_syntax.specs.Grammar.{Symbol, TreeOf, Placed, adds, reach, joined, stmts_of}
-use Rattle.rc_syntax.specs.Todo.{Todo, build, within, deeper, is_stop, refuses}
-use Rattle.rc_syntax.specs.Reading as r
-use Rattle.rc_syntax.specs.Reading.{first, tail}
-use Rattle.rc_syntax.specs.Steps as reader
-use Rattle.rc_syntax.specs.Steps.{Stack, frame, State, about, amid, taken, place, give, step, feed, whole, finish, opened, depth, reached, reach_of}
+use Rattle.rc_syntax.specs.reader.Todo.{Todo, build, within, deeper, is_stop, refuses}
+use Rattle.rc_syntax.specs.reader.Reading as r
+use Rattle.rc_syntax.specs.reader.Reading.{first, tail}
+use Rattle.rc_syntax.specs.reader.Steps as reader
+use Rattle.rc_syntax.specs.reader.Steps.{Stack, frame, State, about, amid, taken, place, give, step, feed, whole, finish, opened, depth, reached, reach_of}
 use Rattle.rc_syntax.proofs.Sound.{outer, reached_outer}
 use Rattle.rc_syntax.proofs.Fronts.{is}
 use Rattle.rc_syntax.proofs.Along.{comma, close, semicolon, a_name, separates, AfterBase, a_star, a_type, Frees, Past, Meets, MeetsOn, on, by_word, same_first, begun_by, passes_on, StartsAt, StartsOn}

@@ -6,7 +6,7 @@ use Rattle.std.specs.List.{prefix_len}
 use Rattle.rc_syntax.specs.Bytes.{is_octal, is_hexadecimal, Each, begins}
 use Rattle.rc_syntax.specs.Numerals.{value_in}
 use Rattle.rc_syntax.specs.Literals.{is_plain, simple_escape, Writes, plain, simple, octal, hexadecimal, WritesAll}
-use Rattle.rc_syntax.specs.Look.{simple_at, octal_at, hexadecimal_at, escape_at, value_next, one_further, one_value, body_at}
+use Rattle.rc_syntax.specs.reader.Look.{simple_at, octal_at, hexadecimal_at, escape_at, value_next, one_further, one_value, body_at}
 use Rattle.rc_syntax.proofs.ByteLaws.{byte_test, byte_same, or_false, not_true, one_more, take_front, front_and, front_length, same_length}
 
 some_is : {A : Type 0} {x y : A} → Some x ≡ Some y → x ≡ y

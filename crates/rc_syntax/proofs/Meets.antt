@@ -18,10 +18,10 @@ use Rattle.rc_syntax.specs.Tokens.{Word, mark, key}
 use Rattle.rc_syntax.specs.Tree as t
 use Rattle.rc_syntax.specs.Grammar as g
 use Rattle.rc_syntax.specs.Grammar.{Symbol, TreeOf, Placed, Part, word, node, Rule, BeginAt, Derives, itself, by, DeriveAll, done, then, Begins, inside, BeginAll, a_word, here, later, adds, reach, typed, field, global, local, joined, stmts_of}
-use Rattle.rc_syntax.specs.Todo.{Todo, build, resume, is_stop}
-use Rattle.rc_syntax.specs.Reading as r
-use Rattle.rc_syntax.specs.Reading.{first, tail}
-use Rattle.rc_syntax.specs.Steps.{Stack, frame, State, about, amid, step}
+use Rattle.rc_syntax.specs.reader.Todo.{Todo, build, resume, is_stop}
+use Rattle.rc_syntax.specs.reader.Reading as r
+use Rattle.rc_syntax.specs.reader.Reading.{first, tail}
+use Rattle.rc_syntax.specs.reader.Steps.{Stack, frame, State, about, amid, step}
 use Rattle.rc_syntax.proofs.Sound.{Since, since_on}
 use Rattle.rc_syntax.proofs.Fronts.{is}
 use Rattle.rc_syntax.proofs.Along.{comma, close, semicolon, operator, question, colon, bracket, ends, After, inner, unaries, Acts, Leads, Past, Meets, MeetsOn, Met, MeetAll, m_done, m_word, m_name, m_node, Along, along, leads_at, on, acts_past}
@@ -313,7 +313,7 @@ known_type : {at : Spot} {a : TreeOf g.TypeName} {ps : List Part} {ws : List Pla
 known_type {at = at} e (g.a_type {base = a} {ns = ns}) (k_node bs da (k_node ss dn k_done)) =
     let P : List Placed → Type 0 = λ l. TypeGiven (typed a ns) (bs ++ l) in
     let Q : List Placed → Type 0 = λ l. Meets g.TypeName (typed a ns) (bs ++ l) in
-    subst P (sym (append-nil ss)) (type_given bs ss da.1 dn (subst Q (append-nil ss) (by_shape refl e (g.a_type {at = at}) (k_node bs da (k_node ss dn k_done)))))
+    subst P (sym (append-nil ss)) (type_given bs ss da.1 dn (subst Q (append-nil ss) (by_shape refl e g.a_type (k_node bs da (k_node ss dn k_done)))))
 
 known_result : {at : Spot} {a : TreeOf g.Result} {ps : List Part} {ws : List Placed} → Rule at g.Result a ps → KnownAll ws ps → ResultGiven a ws
 known_result g.a_void (k_word k_done) = r_void
@@ -350,7 +350,7 @@ known_level {at = at} e (g.chain {i = i} {op = op} {a = a} {b = c} h) (k_node xs
     level_known i (t.binary at op a c) (xs ++ ys)
     (subst R h (lev.lead_on (g.level_of op) (g.level_of op) (omega arith) a (λ o. t.binary o op a c) at xs ys _ (subst P (sym h) d.1) e (subst Q (sym h) (to_meet rest)) (lev.chain_along op a c)))
 known_level e (g.up {i = i} {e = a} h) (k_node xs d k_done) = along_words (λ l. Known (g.Level i) a l) xs (level_known i a xs (lev.lead_up i (i + 1) a xs (omega arith) d.1))
-known_level e (g.operand {i = i} {e = a} h) (k_node xs d k_done) = along_words (λ l. Known (g.Level i) a l) xs (level_known i a xs (lev.unary_lead i a xs d))
+known_level e (g.operand {e = a}) (k_node xs d k_done) = along_words (λ l. Known (g.Level 11) a l) xs (level_known 11 a xs (lev.unary_lead 11 a xs d))
 
 known_unary : {at : Spot} {a : t.Expr} {ps : List Part} {ws : List Placed} → BeginAt at ws → Rule at g.Unary a ps → KnownAll ws ps → Meets g.Unary a ws
 known_unary e (g.plain {e = a}) (k_node xs d k_done) = along_words (λ l. Meets g.Unary a l) xs (plainly a xs d)

@@ -7,8 +7,8 @@ use Rattle.std.specs.List.{list_all, starts_with}
 use Rattle.rc_syntax.specs.declared.word.Key.{Key}
 use Rattle.rc_syntax.specs.declared.word.Mark.{Mark}
 use Rattle.rc_syntax.specs.Tokens.{Word, name, key, mark}
-use Rattle.rc_syntax.specs.Spellings.{key_spelling, mark_spelling, keys, marks}
-use Rattle.rc_syntax.specs.Look.{Seen, key_named, key_or_name, name_word, mark_named, mark_at}
+use Rattle.rc_syntax.specs.Spellings.{key_spelling, mark_spelling, keys, marks, key_named, mark_named}
+use Rattle.rc_syntax.specs.reader.Look.{Seen, key_or_name, name_word, mark_at}
 use Rattle.rc_syntax.proofs.ByteLaws.{and_true, same_bytes, starts_front, front_starts, same_length}
 use Rattle.rc_syntax.proofs.SpellingTables.{key_found, mark_found}
 

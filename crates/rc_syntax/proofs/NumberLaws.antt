@@ -6,7 +6,7 @@ use Rattle.std.specs.List.{list_all}
 use Rattle.rc_syntax.specs.Tokens.{Word, number}
 use Rattle.rc_syntax.specs.Bytes.{is_decimal, is_octal, is_hexadecimal, in_name, Each, begins}
 use Rattle.rc_syntax.specs.Numerals.{value_in, Numeral, decimal, octal, hexadecimal, is_suffix, number_type, Number, unsuffixed, suffixed}
-use Rattle.rc_syntax.specs.Look.{is_x, base_of, is_digit_in, value_at, typed, number_in, numeral_word, number_word}
+use Rattle.rc_syntax.specs.reader.Look.{is_x, base_of, is_digit_in, value_at, typed, number_in, numeral_word, number_word}
 use Rattle.rc_syntax.proofs.ByteLaws.{and_true, byte_test, each_of_all, all_of_each, each_mono, each_append}
 
 some_is : {A : Type 0} {x y : A} → Some x ≡ Some y → x ≡ y

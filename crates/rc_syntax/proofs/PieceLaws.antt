@@ -6,11 +6,11 @@ use Rattle.std.specs.List.{prefix_len, list_all, starts_with}
 use Rattle.rc_syntax.specs.declared.word.Key.{Key}
 use Rattle.rc_syntax.specs.declared.word.Mark.{Mark}
 use Rattle.rc_syntax.specs.Tokens.{Word, character, string, mark}
-use Rattle.rc_syntax.specs.Spellings.{key_spelling, mark_spelling}
+use Rattle.rc_syntax.specs.Spellings.{key_spelling, mark_spelling, key_named, mark_named}
 use Rattle.rc_syntax.specs.Bytes.{is_letter, is_decimal, is_margin, in_name, in_line, Each, begins}
 use Rattle.rc_syntax.specs.Literals.{Writes, WritesAll}
 use Rattle.rc_syntax.specs.Words.{opens_comment, continues_number, Piece, blank, line_comment, block_comment, skipped_line, identifier, keyword, integer_constant, character_constant, string_literal, punctuator}
-use Rattle.rc_syntax.specs.Look.{Class, class_of, blank as blank_class, letter, digit, quote, double_quote, slash, hash, other, Seen, key_named, key_or_name, name_word, number_word, found_word, value_next, closed, body_at, string_of, comment_end, skipped, mark_named, found_mark, mark_at, is_in_margin, include_at, look_as, look}
+use Rattle.rc_syntax.specs.reader.Look.{Class, class_of, blank as blank_class, letter, digit, quote, double_quote, slash, hash, other, Seen, key_or_name, name_word, number_word, found_word, value_next, closed, body_at, string_of, comment_end, skipped, found_mark, mark_at, is_in_margin, include_at, look_as, look}
 use Rattle.rc_syntax.proofs.ByteLaws.{byte_test, and_true, not_true, or_of, each_take, run_fits, each_within, each_exact, run_ends, drop_front, take_front, front_and, front_length, begins_cons, each_of_all, starts_front}
 use Rattle.rc_syntax.proofs.SpellingTables.{is_like_name, key_like_name, look_at_mark, mark_some}
 use Rattle.rc_syntax.proofs.Classes.{View, view, class_blank, class_letter, class_digit}

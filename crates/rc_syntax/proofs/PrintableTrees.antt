@@ -18,9 +18,9 @@ use Rattle.rc_syntax.specs.Tokens.{Word, key, mark}
 use Rattle.rc_syntax.specs.Tree as t
 use Rattle.rc_syntax.specs.Grammar as g
 use Rattle.rc_syntax.specs.Grammar.{Symbol, TreeOf, Placed, Part, word, node, Rule, Derives, itself, by, DeriveAll, done, then, FieldDeclarator, GlobalDeclarator, LocalDeclarator, joined, stmts_of, with_last, field, global, local, level_of}
-use Rattle.rc_syntax.specs.Printing.{IsPrintable}
-use Rattle.rc_syntax.specs.Unplaced.{words_at}
-use Rattle.rc_syntax.specs.TreeWords.{base_words, star_words, type_words, cast_words, expr_level, operand_words, expr_words, further_words, update_words, simple_words, declarator_words, constant_words, global_words, initial_words, local_words, locals_words, expr_end_words, simple_end_words, start_words, stmt_words, stmts_words, field_words, param_words, params_words, result_words, body_words, ending_words, item_words, items_words}
+use Rattle.rc_syntax.specs.printing.Printing.{IsPrintable}
+use Rattle.rc_syntax.specs.printing.Unplaced.{words_at}
+use Rattle.rc_syntax.specs.printing.TreeWords.{base_words, star_words, type_words, cast_words, expr_level, operand_words, expr_words, further_words, update_words, simple_words, declarator_words, constant_words, global_words, initial_words, local_words, locals_words, expr_end_words, simple_end_words, start_words, stmt_words, stmts_words, field_words, param_words, params_words, result_words, body_words, ending_words, item_words, items_words}
 use Rattle.rc_syntax.proofs.PrintedItems.{Every, every_append, joined_words}
 
 -- Each of the words can be printed.
@@ -274,7 +274,7 @@ fits (g.conditional {c = c}) h = join (operand_fits 1 c (expr_words c) h.0) (fre
 fits g.arm h = h.0
 fits (g.chain {op = op} {a = a} {b = e} p) h = join (operand_fits (level_of op) a (expr_words a) h.0) (free tt (operand_fits (level_of op + 1) e (expr_words e) h.1.1.0))
 fits (g.up p) h = h.0
-fits (g.operand p) h = h.0
+fits g.operand h = h.0
 fits g.plain h = h.0
 fits (g.prefixed {e = e}) h = free tt (operand_fits 11 e (expr_words e) h.1.0)
 fits (g.a_cast {to = to} {e = e}) h = free tt (join (cast_fits to) (free tt (operand_fits 11 e (expr_words e) h.1.1.1.0)))

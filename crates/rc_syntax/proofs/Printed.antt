@@ -7,8 +7,8 @@ use Rattle.rc_syntax.specs.Tokens.{Word, number, Token}
 use Rattle.rc_syntax.specs.Bytes.{in_line, Each, line_behind}
 use Rattle.rc_syntax.specs.Numerals.{number_type, Number, unsuffixed, suffixed}
 use Rattle.rc_syntax.specs.Words.{Piece, blank, line_comment, block_comment, skipped_line, identifier, keyword, integer_constant, character_constant, string_literal, punctuator, Reads, with_line, Cut, end, piece, Words}
-use Rattle.rc_syntax.specs.Look.{look}
-use Rattle.rc_syntax.specs.Printing.{spelling, printed, IsPrintable, words_in, on_first_line}
+use Rattle.rc_syntax.specs.reader.Look.{look}
+use Rattle.rc_syntax.specs.printing.Printing.{spelling, printed, IsPrintable, words_in, on_first_line}
 use Rattle.rc_syntax.proofs.ByteLaws.{not_true, each_append, take_front, drop_front}
 use Rattle.rc_syntax.proofs.CutLaws.{look_reads}
 use Rattle.rc_syntax.proofs.Spelled.{Ends, spelling_look, spelling_in_line}

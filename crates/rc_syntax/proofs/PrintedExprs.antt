@@ -16,8 +16,8 @@ use Rattle.rc_syntax.specs.Tokens.{Word, key, mark}
 use Rattle.rc_syntax.specs.Tree as t
 use Rattle.rc_syntax.specs.Grammar as g
 use Rattle.rc_syntax.specs.Grammar.{Symbol, TreeOf, Placed, Part, word, node, Rule, BeginAt, Derives, itself, by, DeriveAll, done, then, level_of, with_last}
-use Rattle.rc_syntax.specs.Unplaced.{nowhere, unplaced_name, unplaced_base, unplaced_type, unplaced_expr, unplaced_exprs}
-use Rattle.rc_syntax.specs.TreeWords.{base_words, star_words, type_words, cast_words, expr_level, operand_words, expr_words, further_words}
+use Rattle.rc_syntax.specs.printing.Unplaced.{nowhere, unplaced_name, unplaced_base, unplaced_type, unplaced_expr, unplaced_exprs}
+use Rattle.rc_syntax.specs.printing.TreeWords.{base_words, star_words, type_words, cast_words, expr_level, operand_words, expr_words, further_words}
 use Rattle.rc_syntax.proofs.Fronts.{alone}
 use Rattle.rc_syntax.proofs.Operands.{derives_to, unary_level, op_level}
 
@@ -108,17 +108,17 @@ pub record Stands (e : t.Expr) : Type 0 where
 lower : {ws : List Word} {a : t.Expr} (i j : ℕ) → i ≤ j → j ≤ 11 → Prints (g.Level j) ws a → Prints (g.Level i) ws a
 lower i j h l (prints d) = prints (derives_to i j h l d)
 
-all_levels : {ws : List Word} {a : t.Expr} (i : ℕ) → Prints g.Unary ws a → Prints (g.Level i) ws a
-all_levels i (prints d) = prints (unary_level i d)
+all_levels : {ws : List Word} {a : t.Expr} (i : ℕ) → i ≤ 11 → Prints g.Unary ws a → Prints (g.Level i) ws a
+all_levels i h (prints d) = prints (unary_level i h d)
 
 of_level : (e : t.Expr) (j : ℕ) → expr_level e ≡ j → j ≤ 10 → Prints (g.Level j) (expr_words e) (unplaced_expr e) → Stands e
 of_level e j is h p = record { level = λ i k l. lower i j (omega (arith, is)) (omega arith) p; unary = λ l. absurd (omega (arith, is)); postfix = λ l. absurd (omega (arith, is)) }
 
 of_unary : (e : t.Expr) → expr_level e ≡ 11 → Prints g.Unary (expr_words e) (unplaced_expr e) → Stands e
-of_unary e is p = record { level = λ i k l. all_levels i p; unary = λ l. p; postfix = λ l. absurd (omega (arith, is)) }
+of_unary e is p = record { level = λ i k l. all_levels i k p; unary = λ l. p; postfix = λ l. absurd (omega (arith, is)) }
 
 of_postfix : (e : t.Expr) → Prints g.Postfix (expr_words e) (unplaced_expr e) → Stands e
-of_postfix e p = let q = print g.plain (last p) in record { level = λ i k l. all_levels i q; unary = λ l. q; postfix = λ l. p }
+of_postfix e p = let q = print g.plain (last p) in record { level = λ i k l. all_levels i k q; unary = λ l. q; postfix = λ l. p }
 
 of_primary : (e : t.Expr) → Prints g.Primary (expr_words e) (unplaced_expr e) → Stands e
 of_primary e p = of_postfix e (print g.bare (last p))
@@ -138,7 +138,7 @@ at_level i e s h = go (nat_le i (expr_level e)) refl
   where
     go : (v : Bool) → nat_le i (expr_level e) ≡ v → Prints (g.Level i) (cond v (expr_words e) (mark m.OpenParenthesis ∷ expr_words e ++ mark m.CloseParenthesis ∷ [])) (unplaced_expr e)
     go true k = s.level i h (le_of i (expr_level e) k)
-    go false k = all_levels i (print g.plain (last (in_parentheses e s)))
+    go false k = all_levels i h (print g.plain (last (in_parentheses e s)))
 
 pub at_unary : (e : t.Expr) → Stands e → Prints g.Unary (operand_words 11 e (expr_words e)) (unplaced_expr e)
 at_unary e s = go (nat_le 11 (expr_level e)) refl

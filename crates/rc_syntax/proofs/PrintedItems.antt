@@ -17,8 +17,8 @@ use Rattle.rc_syntax.specs.Tree as t
 use Rattle.rc_syntax.specs.Shape.{mapped}
 use Rattle.rc_syntax.specs.Grammar as g
 use Rattle.rc_syntax.specs.Grammar.{Symbol, TreeOf, Placed, Part, word, node, Rule, Derives, itself, by, DeriveAll, done, then, FieldDeclarator, GlobalDeclarator, LocalDeclarator, FunctionEnding, joined, stmts_of, field, global, local, update_of}
-use Rattle.rc_syntax.specs.Unplaced.{nowhere, unplaced_name, unplaced_base, unplaced_type, unplaced_expr, unplaced_simple, unplaced_local, unplaced_start, unplaced_stmt, unplaced_stmts, unplaced_constant, unplaced_field, unplaced_param, unplaced_item}
-use Rattle.rc_syntax.specs.TreeWords.{star_words, expr_words, left_words, update_words, simple_words, declarator_words, constant_words, global_words, initial_words, local_words, locals_words, expr_end_words, simple_end_words, start_words, stmt_words, stmts_words, field_words, param_words, params_words, result_words, body_words, ending_words, item_words, items_words}
+use Rattle.rc_syntax.specs.printing.Unplaced.{nowhere, unplaced_name, unplaced_base, unplaced_type, unplaced_expr, unplaced_simple, unplaced_local, unplaced_start, unplaced_stmt, unplaced_stmts, unplaced_constant, unplaced_field, unplaced_param, unplaced_item}
+use Rattle.rc_syntax.specs.printing.TreeWords.{star_words, expr_words, left_words, update_words, simple_words, declarator_words, constant_words, global_words, initial_words, local_words, locals_words, expr_end_words, simple_end_words, start_words, stmt_words, stmts_words, field_words, param_words, params_words, result_words, body_words, ending_words, item_words, items_words}
 use Rattle.rc_syntax.proofs.Replaced.{joined_unplaced, open_unplaced}
 use Rattle.rc_syntax.proofs.PrintedExprs.{Prints, nothing, one, first, last, print, grow, print_name, print_base, print_stars, print_type, whole, at_unary, stands}
 
@@ -218,8 +218,8 @@ claim g.no_items h = tt
 claim (g.items {before = xs} {is = ys}) h = every_append Printed xs ys h.0 h.1.0
 claim (g.a_struct {x = x} {fs = fs}) h = (print g.a_struct (one (first (print_name x) (one (first (print_fields fs h.1.0) (one (one nothing)))))), tt)
 claim (g.globals {base = base} {ds = ds}) h = every_global base ds
-claim (g.a_function {at = at} {result = result} {x = x} {ps = ps} {end = end}) h = (print_function at end.deletes result x ps end.body h.1.1.1.0, tt)
-claim (g.a_deleting {at = at} {result = result} {x = x} {ps = ps} {end = end}) h = (print_function at true result x ps end.body h.1.1.1.0, tt)
+claim {at = at} (g.a_function {result = result} {x = x} {ps = ps} {end = end}) h = (print_function at end.deletes result x ps end.body h.1.1.1.0, tt)
+claim {at = at} (g.a_deleting {result = result} {x = x} {ps = ps} {end = end}) h = (print_function at true result x ps end.body h.1.1.1.0, tt)
 claim g.first_field h = h.0
 claim (g.more_fields {before = xs} {fs = ys}) h = omega (arith, h.0, length-append xs ys)
 claim (g.fields {base = base} {ds = ds}) h = omega (arith, h.1.0, length-map ds (field base))
@@ -254,7 +254,7 @@ claim g.no_simple h = print g.no_simple (one nothing)
 claim g.some_simple h = print g.some_simple (first h.0 (one nothing))
 claim (g.evaluates {e = e}) h = print g.evaluates (last (print_expr e))
 claim (g.assigns {l = l} {r = r}) h = print g.assigns (first (print_left l) (one (last (print_expr r))))
-claim (g.updates {at = at} {op = op} {i = i} {l = l} {r = r} p) h = print_update at op i l r p
+claim {at = at} (g.updates {op = op} {i = i} {l = l} {r = r} p) h = print_update at op i l r p
 claim (g.steps_after {l = l}) h = print g.steps_after (first (print_left l) (one nothing))
 claim (g.steps_before {l = l}) h = print g.steps_before (one (last (print_left l)))
 claim rule h = tt

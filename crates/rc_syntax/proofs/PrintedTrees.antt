@@ -6,9 +6,9 @@ use Rattle.rc_syntax.specs.Tree as t
 use Rattle.rc_syntax.specs.Words.{Words}
 use Rattle.rc_syntax.specs.Grammar as g
 use Rattle.rc_syntax.specs.Grammar.{Placed, node, Derives, placed}
-use Rattle.rc_syntax.specs.Printing.{IsPrintable, words_in, on_first_line}
-use Rattle.rc_syntax.specs.Unplaced.{unplaced_item, words_at, ReadBack}
-use Rattle.rc_syntax.specs.TreeWords.{items_words}
+use Rattle.rc_syntax.specs.printing.Printing.{IsPrintable, words_in, on_first_line}
+use Rattle.rc_syntax.specs.printing.Unplaced.{unplaced_item, words_at, ReadBack}
+use Rattle.rc_syntax.specs.printing.TreeWords.{items_words}
 use Rattle.rc_syntax.proofs.Printed.{printed_words, cut_printable}
 use Rattle.rc_syntax.proofs.Replaced.{again, placed_words}
 use Rattle.rc_syntax.proofs.PrintedExprs.{Prints, prints, anywhere}

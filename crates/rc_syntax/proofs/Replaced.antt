@@ -12,8 +12,8 @@ use Rattle.rc_syntax.specs.Tree as t
 use Rattle.rc_syntax.specs.Shape.{mapped}
 use Rattle.rc_syntax.specs.Grammar as g
 use Rattle.rc_syntax.specs.Grammar.{Symbol, TreeOf, Placed, Part, word, node, Rule, BeginAt, Derives, itself, by, DeriveAll, done, then, placed, FieldDeclarator, GlobalDeclarator, LocalDeclarator, FunctionEnding, joined, stmts_of, with_last, ends_open, field, global, local}
-use Rattle.rc_syntax.specs.Printing.{on_first_line}
-use Rattle.rc_syntax.specs.Unplaced.{nowhere, unplaced_name, unplaced_base, unplaced_type, unplaced_expr, unplaced_exprs, unplaced_simple, unplaced_local, unplaced_start, unplaced_stmt, unplaced_stmts, unplaced_constant, unplaced_field, unplaced_param, unplaced_item, words_at}
+use Rattle.rc_syntax.specs.printing.Printing.{on_first_line}
+use Rattle.rc_syntax.specs.printing.Unplaced.{nowhere, unplaced_name, unplaced_base, unplaced_type, unplaced_expr, unplaced_exprs, unplaced_simple, unplaced_local, unplaced_start, unplaced_stmt, unplaced_stmts, unplaced_constant, unplaced_field, unplaced_param, unplaced_item, words_at}
 
 abbrev unplaced_declarator : FieldDeclarator → FieldDeclarator
 unplaced_declarator d = record { spot = nowhere; stars = d.stars; name = unplaced_name d.name; length = d.length }
@@ -209,7 +209,7 @@ made g.conditional (a_node e (a_word (a_node f (a_word (a_node h none))))) = of 
 made g.arm (a_node e none) = of _ g.arm e
 made (g.chain {op = op} p) (a_node e (a_word (a_node f none))) = of _ (g.chain p) (λ j. t.binary nowhere op (e j) (f j))
 made (g.up p) (a_node e none) = of _ (g.up p) e
-made (g.operand p) (a_node e none) = of _ (g.operand p) e
+made g.operand (a_node e none) = of _ g.operand e
 made g.plain (a_node e none) = of _ g.plain e
 made (g.prefixed {op = op}) (a_word (a_node e none)) = of _ g.prefixed (λ j. t.unary nowhere op (e j))
 made g.a_cast (a_word (a_node e (a_word (a_node f none)))) = of _ g.a_cast (λ j. t.cast nowhere (e j) (f j))

@@ -4,10 +4,10 @@ use Rattle.rc_syntax.specs.declared.tree.Spot.{Spot}
 use Rattle.rc_syntax.specs.Tokens.{Word}
 use Rattle.rc_syntax.specs.Grammar as g
 use Rattle.rc_syntax.specs.Grammar.{Symbol, TreeOf, Placed, Part, word, node, BeginAt, adds, reach}
-use Rattle.rc_syntax.specs.Todo.{Todo, stop, build, try, enter, peek, begin, resume, Deeper, only, within, is_stop, refuses}
-use Rattle.rc_syntax.specs.Reading.{first}
-use Rattle.rc_syntax.specs.Steps as steps
-use Rattle.rc_syntax.specs.Steps.{Stack, frame, State, about, amid, taken, place, offer, give, closed, step, fed, feed, finish, opened, depth, reached, reach_of}
+use Rattle.rc_syntax.specs.reader.Todo.{Todo, stop, build, try, enter, peek, begin, resume, Deeper, only, within, is_stop, refuses}
+use Rattle.rc_syntax.specs.reader.Reading.{first}
+use Rattle.rc_syntax.specs.reader.Steps as steps
+use Rattle.rc_syntax.specs.reader.Steps.{Stack, frame, State, about, amid, taken, place, offer, give, closed, step, fed, feed, finish, opened, depth, reached, reach_of}
 use Rattle.rc_syntax.proofs.Sound.{Since, since_on, outer, reached_outer}
 use Rattle.rc_syntax.proofs.Fronts.{is}
 use Rattle.rc_syntax.proofs.Along.{AfterPostfix, Frees, Acts, Leads, Any, Follows, Past, Meets, Met, MeetAll, m_word, m_name, m_node, Along, along, leads_at, on, by_word, same_first, begun_by, acts_past, leads_more, StartsAt, Begun, StartAll, s_word, s_name, s_here, s_later_word, s_later_name, s_later, Sinks, starts_along, sinks_more}

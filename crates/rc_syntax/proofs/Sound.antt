@@ -1,5 +1,5 @@
 -- What the reader reads, the grammar begins and derives: what is known while a symbol is read, and that each step keeps it.
-use Rattle.std.proofs.Common.{ℕ, ◌≡◌, ◌≤◌, ◌+◌, ◌-◌, List, [], ◌∷◌, ◌++◌, append_assoc, append-nil, length, length-append, Option, Some, None, Bool, true, false, refl, ap, sym, ◌∙◌, subst, arith, ◌⊎◌, inl, inr}
+use Rattle.std.proofs.Common.{ℕ, ◌≡◌, ◌≤◌, ◌+◌, ◌-◌, nat_le, List, [], ◌∷◌, ◌++◌, append_assoc, append-nil, length, length-append, Option, Some, None, Bool, true, false, refl, ap, sym, ◌∙◌, subst, arith, ◌⊎◌, inl, inr}
 use Rattle.rc_syntax.specs.declared.tree.Spot.{Spot}
 use Rattle.rc_syntax.specs.declared.tree.BinaryOp.{BinaryOp}
 use Rattle.rc_syntax.specs.declared.word.Mark.TheVariants.{OpenBracket, Dot, Arrow}
@@ -7,10 +7,10 @@ use Rattle.rc_syntax.specs.Tokens.{Word, mark}
 use Rattle.rc_syntax.specs.Tree as t
 use Rattle.rc_syntax.specs.Grammar as g
 use Rattle.rc_syntax.specs.Grammar.{Symbol, TreeOf, Placed, node, Derives, Begins, adds, reach, level_of, ends_open}
-use Rattle.rc_syntax.specs.Todo.{Todo, stop, build, try, enter, peek, begin, resume, Deeper, only, within, is_stop, refuses}
-use Rattle.rc_syntax.specs.Reading.{first, tail, binary_of, is_question, is_else}
-use Rattle.rc_syntax.specs.Steps.{amid}
-use Rattle.rc_syntax.specs.Steps.{Stack, bottom, frame, State, about, first_of, taken, place, offer, give, closed, step, fed, feed, last, whole, finish, opened, depth, reached, reach_of}
+use Rattle.rc_syntax.specs.reader.Todo.{Todo, stop, build, try, enter, peek, begin, resume, Deeper, only, within, is_stop, refuses}
+use Rattle.rc_syntax.specs.reader.Reading.{first, tail, binary_of, is_question, is_else}
+use Rattle.rc_syntax.specs.reader.Steps.{amid}
+use Rattle.rc_syntax.specs.reader.Steps.{Stack, bottom, frame, State, about, first_of, taken, place, offer, give, closed, step, fed, feed, last, whole, finish, opened, depth, reached, reach_of}
 
 -- The words are some, and begin at the spot.
 abbrev pub Since : Spot → List Placed → Type 0
@@ -92,9 +92,15 @@ abbrev pub Skips : {s : Symbol} → (Placed → Todo s) → Option Placed → Ty
 Skips f None = Unit {0}
 Skips f (Some p) = is_stop (f p) ≡ true
 
+-- The symbol has productions: no level is above 11.
+abbrev pub is_used : Symbol → Bool
+is_used (g.Level i) = nat_le i 11
+is_used _ = true
+
 -- Behind these words of the symbol the other may begin.
-abbrev pub Hole : List Placed → Symbol → Symbol → Type 0
-Hole ys s j = (zs : List Placed) (d r : ℕ) → Begins zs j d r → Begins (ys ++ zs) s (adds s + d) (reach s (length (ys ++ zs)) r)
+pub record Hole (ys : List Placed) (s j : Symbol) : Type 0 where
+  pub used : is_used j ≡ true
+  pub begins : (zs : List Placed) (d r : ℕ) → Begins zs j d r → Begins (ys ++ zs) s (adds s + d) (reach s (length (ys ++ zs)) r)
 
 -- The last of these words is one of the symbol itself.
 abbrev pub Stands : List Placed → Symbol → Type 0
@@ -135,7 +141,7 @@ pub data Opens : (root s : Symbol) → Entry → List Placed → Stack root s �
       Opens root j e (xs ++ ys) (frame i (length ys) h k)
 
 pub data Holds : (root : Symbol) → List Placed → State root → Type 0 where
-  h_about : {root s : Symbol} {xs : List Placed} {k : Stack root s} → Opens root s some xs k → Holds root xs (about k)
+  h_about : {root s : Symbol} {xs : List Placed} {k : Stack root s} → is_used s ≡ true → Opens root s some xs k → Holds root xs (about k)
   h_amid : {root s : Symbol} {e : Entry} {xs : List Placed} (ys : List Placed) {i : Spot} {td : Todo s} {k : Stack root s} →
       Opens root s e xs k → ((us : List Placed) → Started e i (ys ++ us)) → ((w : Option Placed) → Left w i ys td) → Holds root (xs ++ ys) (amid i td (length ys) k)
 
@@ -171,7 +177,7 @@ reached_outer (frame i m h k) n r = refl
 begun : {root s : Symbol} {e : Entry} {xs ys : List Placed} {k : Stack root s} {d r : ℕ} → Opens root s e xs k → Begins ys s d r → Begins (xs ++ ys) root (opened k + d) (outer k (length ys) r)
 begun (o_bottom f) b = recount b refl (omega arith) refl
 begun {ys = ys} {d = d} {r = r} (o_frame {s = s} {xs = xs} us {k = k} o joins ready hole keep) b =
-    recount (begun o (hole ys d r b)) (sym (append_assoc xs us ys)) (omega arith)
+    recount (begun o (hole.begins ys d r b)) (sym (append_assoc xs us ys)) (omega arith)
     (sym (reached_outer k (length (us ++ ys)) r) ∙ ap (λ m. reached k m r) (length-append us ys))
 
 standing : {root s : Symbol} {e : Entry} {xs ys : List Placed} {k : Stack root s} → Opens root s e xs k → Stands ys s → Begins (xs ++ ys) root (opened k + adds s) (reached k (length ys) 0)
@@ -265,7 +271,7 @@ cut_less : (xs us : List Placed) (m : ℕ) → length xs ≡ m → length (xs ++
 cut_less xs us m h = let e : length (xs ++ us) ≡ length xs + length us = length-append xs us in omega arith
 
 module _
-    (firsts : (s : Symbol) (p : Placed) → Goes p.spot [] p (first s p))
+    (firsts : (s : Symbol) (p : Placed) → is_used s ≡ true → Goes p.spot [] p (first s p))
     (tails : (s : Symbol) (i : Spot) (ys : List Placed) (a : TreeOf s) (p : Placed) → Ready s i ys → Done s ys a (Some p) → Goes i ys p (tail s i a p)) where
   -- The complete symbol goes on, or passes the word back.
   goes_on : {root s : Symbol} {e : Entry} {xs : List Placed} {k : Stack root s} (i : Spot) (ys : List Placed) (a : TreeOf s) (p : Placed) (r : State root) (o : Option (State root)) →
@@ -295,7 +301,7 @@ module _
       (o_frame {e = some} ys o
       (λ q zs us x. let P : List Placed → Type 0 = λ l. Started e i l in subst P (sym (append_assoc ys zs us)) (steady (zs ++ us)))
       (λ q zs x. since_ready j q zs x) left.0 (λ w q zs a x y z. left.1 w q zs a x y z))
-      (λ zs z. z) (firsts j p) h)
+      (λ zs z. z) (firsts j p left.0.used) h)
   offer_holds (peek f) i ys p r back o steady left b h = offer_holds (f (length ys) p) i ys p r back o steady (left p refl) b h
   offer_holds {e = e} {xs = xs} {k = k} (begin j c f) i ys p r back o steady left b h =
       elim (one_of (place p (tail j p.spot c p) p.spot 0 (frame i (length ys) f k)) (offer p (f c) i (length ys) k back) r h) [
@@ -348,7 +354,7 @@ module _
       (ap F (sym sum) ∙ h))
 
   step_holds : {root : Symbol} {ws : List Placed} (q r : State root) (p : Placed) → Holds root ws q → step q p ≡ Some r → Kept root (ws ++ p ∷ []) r
-  step_holds (about {s = s} k) r p (h_about o) h = place_holds (first s p) p.spot [] p r o (λ zs z. z) (firsts s p) h
+  step_holds (about {s = s} k) r p (h_about used o) h = place_holds (first s p) p.spot [] p r o (λ zs z. z) (firsts s p used) h
   step_holds (amid {s = s} i td n k) r p (h_amid {e = e} {xs = xs} ys o steady left) h =
       let begins : Started e i ys = start_of e i ys steady in
       kept_along (sym (append_assoc xs ys (p ∷ [])))
@@ -397,6 +403,6 @@ module _
       (λ u x g. done_along root None c (sym (append_assoc xs us ys)) (whole_done i (us ++ ys) u c op begins x g)) h
 
   pub finish_done : {root : Symbol} {ws : List Placed} (q : State root) (c : TreeOf root) → Holds root ws q → finish q ≡ Some c → Done root ws c None
-  finish_done (about k) c (h_about o) h = absurd (cc)
+  finish_done (about k) c (h_about used o) h = absurd (cc)
   finish_done {root = root} (amid i td n k) c (h_amid {e = e} {xs = xs} ys o steady left) h =
       last_done root td i ys (xs ++ ys) (whole k) c (left None) (λ a x g. whole_done i ys a c o (start_of e i ys steady) x g) h

@@ -7,13 +7,13 @@ use Rattle.std.specs.Prelude.{◌==◌, ◌⊎◌, nat_le, bytes_eq, decimal, fl
 use Rattle.std.specs.List.{prefix_len, list_all}
 use Rattle.rc_syntax.specs.declared.word.Mark.{Mark}
 use Rattle.rc_syntax.specs.Tokens.{Word, name, number, character, string, key, mark}
-use Rattle.rc_syntax.specs.Spellings.{key_spelling, mark_spelling, marks}
+use Rattle.rc_syntax.specs.Spellings.{key_spelling, mark_spelling, marks, mark_named}
 use Rattle.rc_syntax.specs.Bytes.{is_letter, is_decimal, in_name, in_line, Each, begins}
 use Rattle.rc_syntax.specs.Numerals.{digit_value, value_in, Numeral, decimal as decimal_numeral, octal, number_type, Number, unsuffixed, suffixed}
 use Rattle.rc_syntax.specs.Literals.{is_plain, simple_escape, Writes, plain, simple, WritesAll}
 use Rattle.rc_syntax.specs.Words.{opens_comment}
-use Rattle.rc_syntax.specs.Look.{name_word, number_word, mark_named, found_mark, look}
-use Rattle.rc_syntax.specs.Printing.{byte_spelling, quoted, spelling, IsPrintable}
+use Rattle.rc_syntax.specs.reader.Look.{name_word, number_word, found_mark, look}
+use Rattle.rc_syntax.specs.printing.Printing.{byte_spelling, quoted, spelling, IsPrintable}
 use Rattle.rc_syntax.proofs.ByteLaws.{byte_test, or_false, not_true, and_true, same_length, each_exact, take_front, each_of_all, each_append, each_mono}
 use Rattle.rc_syntax.proofs.Classes.{class_letter}
 use Rattle.rc_syntax.proofs.SpellingTables.{key_like_name, look_at_mark, mark_found}

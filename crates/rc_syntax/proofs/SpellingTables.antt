@@ -6,10 +6,10 @@ use Rattle.rc_syntax.specs.declared.word.Key.{Key}
 use Rattle.rc_syntax.specs.declared.word.Key.TheVariants.{Break, Char, Continue, Deletes, Do, Else, Eof, For, If, Int, Null, ParentPtr, Ralloc, RarrayAlloc, Region, Return, SameRegion, Struct, Traditional, Unsigned, Void, While, Auto, Case, Const, Default, Double, Enum, Extern, Float, Goto, Inline, Long, Register, Restrict, Short, Signed, Sizeof, Static, Switch, Typedef, Union, Volatile}
 use Rattle.rc_syntax.specs.declared.word.Mark.{Mark}
 use Rattle.rc_syntax.specs.declared.word.Mark.TheVariants.{OpenBrace, CloseBrace, OpenParenthesis, CloseParenthesis, OpenBracket, CloseBracket, Semicolon, Comma, Dot, Arrow, PlusPlus, MinusMinus, Ampersand, Star, Plus, Minus, Tilde, Exclamation, Slash, Percent, ShiftLeft, ShiftRight, Less, Greater, LessEqual, GreaterEqual, EqualEqual, ExclamationEqual, Caret, Bar, AmpersandAmpersand, BarBar, Question, Colon, Equal, StarEqual, SlashEqual, PercentEqual, PlusEqual, MinusEqual, ShiftLeftEqual, ShiftRightEqual, AmpersandEqual, CaretEqual, BarEqual}
-use Rattle.rc_syntax.specs.Spellings.{key_spelling, mark_spelling, keys, marks}
+use Rattle.rc_syntax.specs.Spellings.{key_spelling, mark_spelling, keys, marks, key_named}
 use Rattle.rc_syntax.specs.Bytes.{is_letter, in_name}
 use Rattle.rc_syntax.specs.Words.{opens_comment}
-use Rattle.rc_syntax.specs.Look.{key_named, look, mark_at, slash_at}
+use Rattle.rc_syntax.specs.reader.Look.{look, mark_at, slash_at}
 use Rattle.rc_syntax.proofs.ByteLaws.{or_false}
 
 -- a reserved word is found by its spelling

@@ -12,10 +12,10 @@ use Rattle.rc_syntax.specs.Tokens.{Word, mark, key}
 use Rattle.rc_syntax.specs.Tree as t
 use Rattle.rc_syntax.specs.Grammar as g
 use Rattle.rc_syntax.specs.Grammar.{Symbol, TreeOf, Placed, Part, word, node, Rule, BeginAt, Derives, itself, by, DeriveAll, done, then, Begins, inside, BeginAll, a_word, here, later, adds, reach, typed, field, global, local, joined, stmts_of}
-use Rattle.rc_syntax.specs.Todo.{build}
-use Rattle.rc_syntax.specs.Reading as r
-use Rattle.rc_syntax.specs.Reading.{first, tail}
-use Rattle.rc_syntax.specs.Steps.{Stack, frame, State, about, feed, opened, depth, reach_of}
+use Rattle.rc_syntax.specs.reader.Todo.{build}
+use Rattle.rc_syntax.specs.reader.Reading as r
+use Rattle.rc_syntax.specs.reader.Reading.{first, tail}
+use Rattle.rc_syntax.specs.reader.Steps.{Stack, frame, State, about, feed, opened, depth, reach_of}
 use Rattle.rc_syntax.proofs.Sound.{outer, reached_outer}
 use Rattle.rc_syntax.proofs.Fronts.{is}
 use Rattle.rc_syntax.proofs.Along.{Along, on, same_first, begun_by, StartsAt, StartsOn, Begun, StartAll, s_word, s_name, s_here, s_later_word, s_later_name, s_later, Sinks, starts_along}
@@ -231,7 +231,7 @@ level_starts (g.chain {i = i} {op = op} {a = a} {b = c} h) (g_later xs {ys = ys}
     let R : ℕ → Type 0 = λ j. StartLead j (xs ++ ys) (0 + d) (reach (g.Level j) (length (xs ++ ys)) u) in
     subst R h (lev.start_on (g.level_of op) (g.level_of op) (omega arith) a (λ o. t.binary o op a c) xs ys _ d u (subst P (sym h) e.1) (subst Q (sym h) (to_start rest)) (lev.chain_along op a c))
 level_starts (g.up {i = i} h) (g_here {xs = ws} {d = d} {u = u} full b) = lev.start_up i (i + 1) ws d u (omega arith) b.1
-level_starts (g.operand {i = i} h) (g_here {xs = ws} {d = d} {u = u} full b) = lev.unary_start i ws d u full b.0 b.1
+level_starts g.operand (g_here {xs = ws} {d = d} {u = u} full b) = lev.unary_start 11 ws d u full b.0 b.1
 
 -- Declarators.
 field_starts : {at : Spot} {a : TreeOf g.FieldDec} {ps : List Part} {ws : List Placed} {d u : ℕ} → Rule at g.FieldDec a ps → (ws ≡ [] → ⊥) → BegunAll ws ps d u → NamedStart g.FieldDec field_top ws (0 + d) u
@@ -270,9 +270,9 @@ in_more : (ws : List Placed) (d u : ℕ) → InItem ws d u → InItem ws (0 + d)
 in_more ws d u x = zero_more (λ c. InItem ws c u) d x
 
 type_starts : {at : Spot} {a : TreeOf g.TypeName} {ps : List Part} {ws : List Placed} {d u : ℕ} → Rule at g.TypeName a ps → BegunAll ws ps d u → StartsAt g.TypeName ws (0 + d) u × InItem ws (0 + d) u
-type_starts (g.a_type {at = at} {base = a} {ns = ns}) (g_here {xs = ws} {d = d} {u = u} full b) = (start_shape refl (g.a_type {at = at} {base = a} {ns = ns}) (g_here full b), in_more ws d u b.1)
-type_starts (g.a_type {at = at} {base = a} {ns = ns}) (g_later bs c (g_here {xs = ss} {d = d} {u = u} full b)) =
-    (start_shape refl (g.a_type {at = at} {base = a} {ns = ns}) (g_later bs c (g_here full b)), in_more (bs ++ ss) d u (item.head_begins a bs ss ns (n0 at []) d u c.1 full (here_all g.Stars ns ss _ d u full b)))
+type_starts {at = at} (g.a_type {base = a} {ns = ns}) (g_here {xs = ws} {d = d} {u = u} full b) = (start_shape {i = at} refl (g.a_type {base = a} {ns = ns}) (g_here full b), in_more ws d u b.1)
+type_starts {at = at} (g.a_type {base = a} {ns = ns}) (g_later bs c (g_here {xs = ss} {d = d} {u = u} full b)) =
+    (start_shape {i = at} refl (g.a_type {base = a} {ns = ns}) (g_later bs c (g_here full b)), in_more (bs ++ ss) d u (item.head_begins a bs ss ns (n0 at []) d u c.1 full (here_all g.Stars ns ss _ d u full b)))
 
 result_starts : {at : Spot} {a : TreeOf g.Result} {ps : List Part} {ws : List Placed} {d u : ℕ} → Rule at g.Result a ps → BegunAll ws ps d u → ResultBegun ws (0 + d) u
 result_starts g.a_void g_word = b_void
@@ -317,8 +317,8 @@ item_starts (g.a_struct {x = x} {fs = fs}) all = starts_shape (table.the_struct 
 item_starts g.globals (g_here {xs = ws} {d = d} {u = u} full b) = in_item ws d u b.1
 item_starts (g.globals {base = a}) (g_later bs c (g_here {xs = ws} {d = d} {u = u} full b)) = in_item (bs ++ ws) d u (item.decs_begin a bs ws d u c.1 b.1)
 item_starts (g.globals {base = a} {ds = ds}) (g_later bs c (g_later dw {ys = ys} {d = d} {u = u} e rest)) = in_item (bs ++ (dw ++ ys)) d u (item.globals_begin a bs dw ys ds d u c.1 e.1 (to_start rest))
-item_starts (g.a_function {at = at} {x = x} {ps = ps} {end = end}) (g_here {xs = ws} {d = d} {u = u} full b) = result_item x ps end ws d u b
-item_starts (g.a_function {at = at} {result = result} {x = x} {ps = ps} {end = end}) (g_later xs {ys = ys} {d = d} {u = u} c rest) = later_item result x ps end xs ys d u c rest
+item_starts (g.a_function {x = x} {ps = ps} {end = end}) (g_here {xs = ws} {d = d} {u = u} full b) = result_item x ps end ws d u b
+item_starts (g.a_function {result = result} {x = x} {ps = ps} {end = end}) (g_later xs {ys = ys} {d = d} {u = u} c rest) = later_item result x ps end xs ys d u c rest
 item_starts (g.a_deleting {x = x} {ps = ps} {end = end}) (g_word {o = o}) = starts_shape (item.void_deleting x ps end) (s_word {o = o})
 item_starts (g.a_deleting {x = x} {ps = ps} {end = end}) (g_later_word {o = o} (g_here {xs = ws} {d = d} {u = u} full b)) = deleting_item x ps end o ws d u full b
 item_starts (g.a_deleting {result = result} {x = x} {ps = ps} {end = end}) (g_later_word {o = o} (g_later xs {ys = ys} {d = d} {u = u} c rest)) = later_deleting result x ps end o xs ys d u c rest

@@ -18,11 +18,11 @@ use Rattle.rc_syntax.specs.Tokens.{Word, mark, key}
 use Rattle.rc_syntax.specs.Tree as t
 use Rattle.rc_syntax.specs.Grammar as g
 use Rattle.rc_syntax.specs.Grammar.{Symbol, TreeOf, Placed, Part, word, node, Rule, typed, field, local, ends_open, FieldDeclarator, LocalDeclarator, FunctionEnding}
-use Rattle.rc_syntax.specs.Todo.{Todo, build, try, enter, resume, within, is_stop, refuses, when, sees, read}
-use Rattle.rc_syntax.specs.Reading as r
-use Rattle.rc_syntax.specs.Reading.{first, tail}
-use Rattle.rc_syntax.specs.Steps as reader
-use Rattle.rc_syntax.specs.Steps.{Stack, frame, State, about, amid, place, taken, offer, give, closed, step}
+use Rattle.rc_syntax.specs.reader.Todo.{Todo, build, try, enter, resume, within, is_stop, refuses, when, sees, read}
+use Rattle.rc_syntax.specs.reader.Reading as r
+use Rattle.rc_syntax.specs.reader.Reading.{first, tail}
+use Rattle.rc_syntax.specs.reader.Steps as reader
+use Rattle.rc_syntax.specs.reader.Steps.{Stack, frame, State, about, amid, place, taken, offer, give, closed, step}
 use Rattle.std.proofs.lemmas.Bool.Decides.{nat_tests}
 use Rattle.rc_syntax.proofs.Fronts.{is}
 use Rattle.rc_syntax.proofs.Operands.{op_level}

@@ -16,10 +16,10 @@ use Rattle.rc_syntax.specs.Tokens.{Word, mark, key}
 use Rattle.rc_syntax.specs.Tree as t
 use Rattle.rc_syntax.specs.Grammar as g
 use Rattle.rc_syntax.specs.Grammar.{Symbol, TreeOf, Placed, Part, word, node}
-use Rattle.rc_syntax.specs.Todo.{Todo, build, try, is_stop, when, sees, read}
-use Rattle.rc_syntax.specs.Reading as r
-use Rattle.rc_syntax.specs.Reading.{first, tail}
-use Rattle.rc_syntax.specs.Steps.{Stack, frame, about, amid, place, step}
+use Rattle.rc_syntax.specs.reader.Todo.{Todo, build, try, is_stop, when, sees, read}
+use Rattle.rc_syntax.specs.reader.Reading as r
+use Rattle.rc_syntax.specs.reader.Reading.{first, tail}
+use Rattle.rc_syntax.specs.reader.Steps.{Stack, frame, about, amid, place, step}
 use Rattle.rc_syntax.proofs.Fronts.{is}
 use Rattle.rc_syntax.proofs.Along.{comma, close, semicolon, separates, After, operator, question, colon, bracket, ends, AfterUnary, inner, equals, updates, steps, AfterPostfix, unaries, open_bracket, dot, arrow, Along}
 use Rattle.rc_syntax.proofs.Shapes.{Shape, with_word, skipped, Ends}

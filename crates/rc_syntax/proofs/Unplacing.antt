@@ -6,7 +6,7 @@ use Rattle.rc_syntax.specs.declared.tree.Constant.{Constant}
 use Rattle.rc_syntax.specs.declared.tree.Constant.TheVariants as k
 use Rattle.rc_syntax.specs.Tree as t
 use Rattle.rc_syntax.specs.Shape.{mapped}
-use Rattle.rc_syntax.specs.Unplaced.{nowhere, unplaced_name, unplaced_base, unplaced_type, unplaced_expr, unplaced_exprs, unplaced_simple, unplaced_local, unplaced_start, unplaced_stmt, unplaced_stmts, unplaced_constant, unplaced_field, unplaced_param, unplaced_item}
+use Rattle.rc_syntax.specs.printing.Unplaced.{nowhere, unplaced_name, unplaced_base, unplaced_type, unplaced_expr, unplaced_exprs, unplaced_simple, unplaced_local, unplaced_start, unplaced_stmt, unplaced_stmts, unplaced_constant, unplaced_field, unplaced_param, unplaced_item}
 
 mapped_twice : {A : Type 0} (f : A → A) → ((a : A) → f (f a) ≡ f a) → (o : Option A) → mapped f (mapped f o) ≡ mapped f o
 mapped_twice f h None = refl

@@ -3,7 +3,7 @@ use Rattle.std.proofs.Common.{ℕ, ◌≡◌, ◌≤◌, ◌+◌, List, [], ◌�
 use Rattle.std.proofs.lemmas.Bool.Decides.{nat_tests}
 use Rattle.rc_syntax.specs.Grammar as g
 use Rattle.rc_syntax.specs.Grammar.{Symbol, TreeOf, Placed, node, Derives, by, done, Begins}
-use Rattle.rc_syntax.specs.Steps.{bottom, State, entry, step, fed, feed, finish, depth, reach_of, Answer, Accepts, Refuses, Sinks, verdict, too_deep, next, run}
+use Rattle.rc_syntax.specs.reader.Steps.{bottom, State, entry, step, fed, feed, finish, depth, reach_of, Answer, Accepts, Refuses, Sinks, verdict, too_deep, next, run}
 use Rattle.rc_syntax.specs.Place.{Stretch, TooDeep, Shallow, IsRead, IsRefused, IsTooDeep}
 use Rattle.rc_syntax.proofs.Sound as sound
 use Rattle.rc_syntax.proofs.Sound.{Holds, h_about, h_amid, o_bottom, anyhow, Done}
@@ -27,8 +27,8 @@ none_some e = cc
 -- What is known before the first word.
 pub held : (root : Symbol) → Root root → Holds root [] (entry root)
 held _ of_text = h_amid {e = anyhow} [] (o_bottom (λ o zs x. tt)) (λ us. tt) (λ w. by {at = record { place = 0; line = 0 }} tt g.no_items done)
-held _ of_expression = h_about (o_bottom (λ o zs x. x))
-held _ of_unary = h_about (o_bottom (λ o zs x. x))
+held _ of_expression = h_about refl (o_bottom (λ o zs x. x))
+held _ of_unary = h_about refl (o_bottom (λ o zs x. x))
 
 -- A beginning leads to one state, and its depth and reach are that state's.
 pub led : (root : Symbol) → Root root → {ws : List Placed} {d u : ℕ} → Begins ws root d u → (q : State root) × (feed (entry root) ws ≡ Some q) × (depth q ≡ d) × (reach_of q ≡ u)

@@ -26,7 +26,7 @@ use Rattle.rc_syntax.specs.Tokens.{Word, Token, key, mark}
 use Rattle.rc_syntax.specs.Tree as t
 
 -- The symbols. Level 0 is an expression (a conditional), levels 1 to 10 are the binary operators from `||` to `*`, and
--- level 11 (and each above) is a unary. An arm is what stands behind the `:` of a conditional, and `Star k` is the k-th star of its stars.
+-- level 11 is a unary; there is none above. An arm is what stands behind the `:` of a conditional, and `Star k` is the k-th star of its stars.
 -- A symbol that is called an end has the mark behind it: an expression or none and `;`, a simple or none and `)`.
 pub data Symbol : Type 0 where
   Text : Symbol
@@ -248,116 +248,157 @@ sign i = word (mark i)
 abbrev pub keyword : Key → Part
 keyword i = word (key i)
 
--- The productions: at a spot, a symbol with its tree is these parts.
-pub data Rule : Spot → (s : Symbol) → TreeOf s → List Part → Type 0 where
-  no_items : {at : Spot} → Rule at Text [] []
-  items : {at : Spot} {before is : List t.Item} → Rule at Text (before ++ is) (node Text before ∷ node Item is ∷ [])
-  a_struct : {at : Spot} {x : names.Name} {fs : List t.Field} → Rule at Item (t.struct at x fs ∷ []) (keyword Struct ∷ node Name x ∷ sign m.OpenBrace ∷ node Fields fs ∷ sign m.CloseBrace ∷ sign m.Semicolon ∷ [])
-  globals : {at : Spot} {base : bases.Base} {ds : List GlobalDeclarator} → Rule at Item (map (global base) ds) (node Base base ∷ node Decs ds ∷ sign m.Semicolon ∷ [])
-  a_function : {at : Spot} {result : Option t.TypeName} {x : names.Name} {ps : List t.Param} {end : FunctionEnding} → Rule at Item (t.function at end.deletes result x ps end.body ∷ []) (node Result result ∷ node Name x ∷ sign m.OpenParenthesis ∷ node ParamsEnd ps ∷ node FunctionEnd end ∷ [])
-  a_deleting : {at : Spot} {result : Option t.TypeName} {x : names.Name} {ps : List t.Param} {end : FunctionEnding} → Rule at Item (t.function at true result x ps end.body ∷ []) (keyword Deletes ∷ node Result result ∷ node Name x ∷ sign m.OpenParenthesis ∷ node ParamsEnd ps ∷ node FunctionEnd end ∷ [])
-  first_field : {at : Spot} {fs : List t.Field} → Rule at Fields fs (node Field fs ∷ [])
-  more_fields : {at : Spot} {before fs : List t.Field} → Rule at Fields (before ++ fs) (node Fields before ∷ node Field fs ∷ [])
-  fields : {at : Spot} {base : bases.Base} {ds : List FieldDeclarator} → Rule at Field (map (field base) ds) (node Base base ∷ node FieldDecs ds ∷ sign m.Semicolon ∷ [])
-  one_field : {at : Spot} {d : FieldDeclarator} → Rule at FieldDecs (d ∷ []) (node FieldDec d ∷ [])
-  another_field : {at : Spot} {before : List FieldDeclarator} {d : FieldDeclarator} → Rule at FieldDecs (before ++ d ∷ []) (node FieldDecs before ∷ sign m.Comma ∷ node FieldDec d ∷ [])
-  a_field : {at : Spot} {ns : List notes.Note} {x : names.Name} → Rule at FieldDec (record { spot = at; stars = ns; name = x; length = None }) (node Stars ns ∷ node Name x ∷ [])
-  an_array : {at : Spot} {ns : List notes.Note} {x : names.Name} {i : ℕ} {unsigned : Bool} → Rule at FieldDec (record { spot = at; stars = ns; name = x; length = Some i }) (node Stars ns ∷ node Name x ∷ sign m.OpenBracket ∷ word (w.number i unsigned) ∷ sign m.CloseBracket ∷ [])
-  one_global : {at : Spot} {d : GlobalDeclarator} → Rule at Decs (d ∷ []) (node Dec d ∷ [])
-  another_global : {at : Spot} {before : List GlobalDeclarator} {d : GlobalDeclarator} → Rule at Decs (before ++ d ∷ []) (node Decs before ∷ sign m.Comma ∷ node Dec d ∷ [])
-  a_global : {at : Spot} {d : FieldDeclarator} → Rule at Dec (record { declarator = d; constant = None }) (node FieldDec d ∷ [])
-  an_initial : {at : Spot} {d : FieldDeclarator} {i : constants.Constant} → Rule at Dec (record { declarator = d; constant = Some i }) (node FieldDec d ∷ sign m.Equal ∷ node Constant i ∷ [])
-  a_constant : {at : Spot} {i : ℕ} {unsigned : Bool} → Rule at Constant (k.Number at i unsigned) (word (w.number i unsigned) ∷ [])
-  a_negative : {at : Spot} {i : ℕ} {unsigned : Bool} → Rule at Constant (k.Negative at i unsigned) (sign m.Minus ∷ word (w.number i unsigned) ∷ [])
-  a_code : {at : Spot} {i : ℕ} → Rule at Constant (k.Character at i) (word (w.character i) ∷ [])
-  a_null : {at : Spot} → Rule at Constant (k.Null at) (keyword Null ∷ [])
-  an_eof : {at : Spot} → Rule at Constant (k.Eof at) (keyword Eof ∷ [])
-  an_int : {at : Spot} → Rule at Base (b.Int at) (keyword Int ∷ [])
-  an_unsigned : {at : Spot} → Rule at Base (b.Unsigned at) (keyword Unsigned ∷ [])
-  an_unsigned_int : {at : Spot} → Rule at Base (b.Unsigned at) (keyword Unsigned ∷ keyword Int ∷ [])
-  a_char : {at : Spot} → Rule at Base (b.Char at) (keyword Char ∷ [])
-  a_region : {at : Spot} → Rule at Base (b.Region at) (keyword Region ∷ [])
-  a_named_struct : {at : Spot} {x : names.Name} → Rule at Base (b.Struct at x) (keyword Struct ∷ node Name x ∷ [])
-  no_stars : {at : Spot} → Rule at Stars [] []
-  plain_star : {at : Spot} {before : List notes.Note} → Rule at Stars (before ++ n.Plain ∷ []) (node Stars before ∷ node (Star (length before + 1)) tt ∷ [])
-  noted_star : {at : Spot} {before : List notes.Note} (note : notes.Note) {i : Key} → note_of note ≡ Some i → Rule at Stars (before ++ note ∷ []) (node Stars before ∷ node (Star (length before + 1)) tt ∷ keyword i ∷ [])
-  a_star : {at : Spot} {i : ℕ} → Rule at (Star i) tt (sign m.Star ∷ [])
-  a_type : {at : Spot} {base : bases.Base} {ns : List notes.Note} → Rule at TypeName (typed base ns) (node Base base ∷ node Stars ns ∷ [])
-  a_void : {at : Spot} → Rule at Result None (keyword Void ∷ [])
-  a_result : {at : Spot} {ty : t.TypeName} → Rule at Result (Some ty) (node TypeName ty ∷ [])
-  no_params : {at : Spot} → Rule at ParamsEnd [] (sign m.CloseParenthesis ∷ [])
-  void_params : {at : Spot} → Rule at ParamsEnd [] (keyword Void ∷ sign m.CloseParenthesis ∷ [])
-  some_params : {at : Spot} {ps : List t.Param} → Rule at ParamsEnd ps (node Params ps ∷ sign m.CloseParenthesis ∷ [])
-  one_param : {at : Spot} {p : t.Param} → Rule at Params (p ∷ []) (node Param p ∷ [])
-  another_param : {at : Spot} {before : List t.Param} {p : t.Param} → Rule at Params (before ++ p ∷ []) (node Params before ∷ sign m.Comma ∷ node Param p ∷ [])
-  a_nameless : {at : Spot} {ty : t.TypeName} → Rule at Param (record { spot = at; type_name = ty; name = None }) (node TypeName ty ∷ [])
-  a_param : {at : Spot} {ty : t.TypeName} {x : names.Name} → Rule at Param (record { spot = at; type_name = ty; name = Some x }) (node TypeName ty ∷ node Name x ∷ [])
-  ends : {at : Spot} {body : Option t.Stmts} → Rule at FunctionEnd (record { deletes = false; body = body }) (node BodyEnd body ∷ [])
-  ends_deleting : {at : Spot} {body : Option t.Stmts} → Rule at FunctionEnd (record { deletes = true; body = body }) (keyword Deletes ∷ node BodyEnd body ∷ [])
-  no_body : {at : Spot} → Rule at BodyEnd None (sign m.Semicolon ∷ [])
-  a_body : {at : Spot} {body : t.Stmts} → Rule at BodyEnd (Some body) (node Block body ∷ [])
-  a_block : {at : Spot} {body : t.Stmts} → Rule at Block body (sign m.OpenBrace ∷ node Body body ∷ sign m.CloseBrace ∷ [])
-  no_stmts : {at : Spot} → Rule at Body t.done []
-  then_locals : {at : Spot} {before : t.Stmts} {ls : List t.Local} → Rule at Body (joined before (stmts_of ls)) (node Body before ∷ node Locals ls ∷ [])
-  then_stmt : {at : Spot} {before : t.Stmts} {s : t.Stmt} → Rule at Body (joined before (t.next s t.done)) (node Body before ∷ node Stmt s ∷ [])
-  locals : {at : Spot} {base : bases.Base} {ds : List LocalDeclarator} → Rule at Locals (map (local base) ds) (node Base base ∷ node LocalDecs ds ∷ sign m.Semicolon ∷ [])
-  one_local : {at : Spot} {d : LocalDeclarator} → Rule at LocalDecs (d ∷ []) (node LocalDec d ∷ [])
-  another_local : {at : Spot} {before : List LocalDeclarator} {d : LocalDeclarator} → Rule at LocalDecs (before ++ d ∷ []) (node LocalDecs before ∷ sign m.Comma ∷ node LocalDec d ∷ [])
-  a_local : {at : Spot} {ns : List notes.Note} {x : names.Name} → Rule at LocalDec (record { spot = at; stars = ns; name = x; initial = None }) (node Stars ns ∷ node Name x ∷ [])
-  a_local_with : {at : Spot} {ns : List notes.Note} {x : names.Name} {e : t.Expr} → Rule at LocalDec (record { spot = at; stars = ns; name = x; initial = Some e }) (node Stars ns ∷ node Name x ∷ sign m.Equal ∷ node (Level 0) e ∷ [])
-  a_block_stmt : {at : Spot} {body : t.Stmts} → Rule at Stmt (t.block at body) (node Block body ∷ [])
-  an_empty : {at : Spot} → Rule at Stmt (t.empty at) (sign m.Semicolon ∷ [])
-  a_simple : {at : Spot} {x : t.Simple} → Rule at Stmt (t.simple at x) (node Simple x ∷ sign m.Semicolon ∷ [])
-  an_if : {at : Spot} {e : t.Expr} {a : t.Stmt} → Rule at Stmt (t.if_then at e a) (keyword If ∷ sign m.OpenParenthesis ∷ node (Level 0) e ∷ sign m.CloseParenthesis ∷ node Stmt a ∷ [])
-  an_if_else : {at : Spot} {e : t.Expr} {a b : t.Stmt} → ends_open a ≡ false → Rule at Stmt (t.if_else at e a b) (keyword If ∷ sign m.OpenParenthesis ∷ node (Level 0) e ∷ sign m.CloseParenthesis ∷ node Stmt a ∷ keyword Else ∷ node Stmt b ∷ [])
-  a_while : {at : Spot} {e : t.Expr} {a : t.Stmt} → Rule at Stmt (t.while_do at e a) (keyword While ∷ sign m.OpenParenthesis ∷ node (Level 0) e ∷ sign m.CloseParenthesis ∷ node Stmt a ∷ [])
-  a_do : {at : Spot} {a : t.Stmt} {e : t.Expr} → Rule at Stmt (t.do_while at a e) (keyword Do ∷ node Stmt a ∷ keyword While ∷ sign m.OpenParenthesis ∷ node (Level 0) e ∷ sign m.CloseParenthesis ∷ sign m.Semicolon ∷ [])
-  a_for : {at : Spot} {start : t.ForStart} {e : Option t.Expr} {then : Option t.Simple} {a : t.Stmt} → Rule at Stmt (t.for_do at start e then a) (keyword For ∷ sign m.OpenParenthesis ∷ node ForStart start ∷ node ExprEnd e ∷ node SimpleEnd then ∷ node Stmt a ∷ [])
-  a_break : {at : Spot} → Rule at Stmt (t.break_loop at) (keyword Break ∷ sign m.Semicolon ∷ [])
-  a_continue : {at : Spot} → Rule at Stmt (t.continue_loop at) (keyword Continue ∷ sign m.Semicolon ∷ [])
-  a_return : {at : Spot} {e : Option t.Expr} → Rule at Stmt (t.return_with at e) (keyword Return ∷ node ExprEnd e ∷ [])
-  starts_local : {at : Spot} {ls : List t.Local} → Rule at ForStart (t.locals ls) (node Locals ls ∷ [])
-  starts_simple : {at : Spot} {x : t.Simple} → Rule at ForStart (t.simply x) (node Simple x ∷ sign m.Semicolon ∷ [])
-  starts_nothing : {at : Spot} → Rule at ForStart t.nothing (sign m.Semicolon ∷ [])
-  no_expr : {at : Spot} → Rule at ExprEnd None (sign m.Semicolon ∷ [])
-  an_expr : {at : Spot} {e : t.Expr} → Rule at ExprEnd (Some e) (node (Level 0) e ∷ sign m.Semicolon ∷ [])
-  no_simple : {at : Spot} → Rule at SimpleEnd None (sign m.CloseParenthesis ∷ [])
-  some_simple : {at : Spot} {x : t.Simple} → Rule at SimpleEnd (Some x) (node Simple x ∷ sign m.CloseParenthesis ∷ [])
-  evaluates : {at : Spot} {e : t.Expr} → Rule at Simple (t.expression e) (node (Level 0) e ∷ [])
-  assigns : {at : Spot} {l r : t.Expr} → Rule at Simple (t.assign at l r) (node Unary l ∷ sign m.Equal ∷ node (Level 0) r ∷ [])
-  updates : {at : Spot} {op : BinaryOp} {i : marks.Mark} {l r : t.Expr} → update_of op ≡ Some i → Rule at Simple (t.update at op l r) (node Unary l ∷ sign i ∷ node (Level 0) r ∷ [])
-  steps_after : {at : Spot} {op : StepOp} {l : t.Expr} → Rule at Simple (t.step_after at op l) (node Unary l ∷ sign (step_of op) ∷ [])
-  steps_before : {at : Spot} {op : StepOp} {l : t.Expr} → Rule at Simple (t.step_before at op l) (sign (step_of op) ∷ node Unary l ∷ [])
-  conditional : {at : Spot} {c a b : t.Expr} → Rule at (Level 0) (t.conditional at c a b) (node (Level 1) c ∷ sign m.Question ∷ node (Level 0) a ∷ sign m.Colon ∷ node Arm b ∷ [])
-  arm : {at : Spot} {e : t.Expr} → Rule at Arm e (node (Level 0) e ∷ [])
-  chain : {at : Spot} {i : ℕ} {op : BinaryOp} {a b : t.Expr} → level_of op ≡ i → Rule at (Level i) (t.binary at op a b) (node (Level i) a ∷ sign (mark_of op) ∷ node (Level (i + 1)) b ∷ [])
-  up : {at : Spot} {i : ℕ} {e : t.Expr} → i ≤ 10 → Rule at (Level i) e (node (Level (i + 1)) e ∷ [])
-  operand : {at : Spot} {i : ℕ} {e : t.Expr} → 11 ≤ i → Rule at (Level i) e (node Unary e ∷ [])
-  plain : {at : Spot} {e : t.Expr} → Rule at Unary e (node Postfix e ∷ [])
-  prefixed : {at : Spot} {op : UnaryOp} {e : t.Expr} → Rule at Unary (t.unary at op e) (sign (prefix_of op) ∷ node Unary e ∷ [])
-  a_cast : {at : Spot} {to : casts.CastType} {e : t.Expr} → Rule at Unary (t.cast at to e) (sign m.OpenParenthesis ∷ node CastType to ∷ sign m.CloseParenthesis ∷ node Unary e ∷ [])
-  to_int : {at : Spot} → Rule at CastType c.Int (keyword Int ∷ [])
-  to_unsigned : {at : Spot} → Rule at CastType c.Unsigned (keyword Unsigned ∷ [])
-  to_unsigned_int : {at : Spot} → Rule at CastType c.Unsigned (keyword Unsigned ∷ keyword Int ∷ [])
-  to_char : {at : Spot} → Rule at CastType c.Char (keyword Char ∷ [])
-  bare : {at : Spot} {e : t.Expr} → Rule at Postfix e (node Primary e ∷ [])
-  indexed : {at : Spot} {a i : t.Expr} → Rule at Postfix (t.index at a i) (node Postfix a ∷ sign m.OpenBracket ∷ node (Level 0) i ∷ sign m.CloseBracket ∷ [])
-  a_member : {at : Spot} {a : t.Expr} {x : names.Name} → Rule at Postfix (t.member at a x) (node Postfix a ∷ sign m.Dot ∷ node Name x ∷ [])
-  an_arrow : {at : Spot} {a : t.Expr} {x : names.Name} → Rule at Postfix (t.arrow at a x) (node Postfix a ∷ sign m.Arrow ∷ node Name x ∷ [])
-  a_number : {at : Spot} {i : ℕ} {unsigned : Bool} → Rule at Primary (t.number at i unsigned) (word (w.number i unsigned) ∷ [])
-  a_character : {at : Spot} {i : ℕ} → Rule at Primary (t.character at i) (word (w.character i) ∷ [])
-  a_string : {at : Spot} {bytes : List ℕ} → Rule at Primary (t.string at bytes) (word (w.string bytes) ∷ [])
-  the_null : {at : Spot} → Rule at Primary (t.null at) (keyword Null ∷ [])
-  the_eof : {at : Spot} → Rule at Primary (t.eof at) (keyword Eof ∷ [])
-  a_variable : {at : Spot} {x : names.Name} → Rule at Primary (t.variable x) (node Name x ∷ [])
-  calls : {at : Spot} {x : names.Name} → Rule at Primary (t.call x t.none) (node Name x ∷ sign m.OpenParenthesis ∷ sign m.CloseParenthesis ∷ [])
-  calls_with : {at : Spot} {x : names.Name} {v : t.Exprs} → Rule at Primary (t.call x v) (node Name x ∷ sign m.OpenParenthesis ∷ node Arguments v ∷ sign m.CloseParenthesis ∷ [])
-  allocates : {at : Spot} {r : t.Expr} {ty : t.TypeName} → Rule at Primary (t.ralloc at r ty) (keyword Ralloc ∷ sign m.OpenParenthesis ∷ node (Level 0) r ∷ sign m.Comma ∷ node TypeName ty ∷ sign m.CloseParenthesis ∷ [])
-  allocates_array : {at : Spot} {r i : t.Expr} {ty : t.TypeName} → Rule at Primary (t.rarrayalloc at r i ty) (keyword RarrayAlloc ∷ sign m.OpenParenthesis ∷ node (Level 0) r ∷ sign m.Comma ∷ node (Level 0) i ∷ sign m.Comma ∷ node TypeName ty ∷ sign m.CloseParenthesis ∷ [])
-  parentheses : {at : Spot} {e : t.Expr} → Rule at Primary e (sign m.OpenParenthesis ∷ node (Level 0) e ∷ sign m.CloseParenthesis ∷ [])
-  one : {at : Spot} {e : t.Expr} → Rule at Arguments (t.more e t.none) (node (Level 0) e ∷ [])
-  another : {at : Spot} {v : t.Exprs} {e : t.Expr} → Rule at Arguments (with_last v e) (node Arguments v ∷ sign m.Comma ∷ node (Level 0) e ∷ [])
-  a_name : {at : Spot} {bytes : List ℕ} → Rule at Name (record { spot = at; text = bytes }) (word (w.name bytes) ∷ [])
+-- The productions: at a spot, a symbol with its tree is these parts. Above each group stands its production in the language's description
+-- (docs/LANGUAGE.md), or, of a symbol that has no name there, the piece of a production that it is.
+pub data Rule (at : Spot) : (s : Symbol) → TreeOf s → List Part → Type 0 where
+  -- unit = { item } .
+  no_items : Rule at Text [] []
+  items : {before is : List t.Item} → Rule at Text (before ++ is) (node Text before ∷ node Item is ∷ [])
+  -- item = "struct" NAME "{" field { field } "}" ";" | base dec { "," dec } ";" | ["deletes"] result NAME "(" [params] ")" ["deletes"] (block | ";") .
+  a_struct : {x : names.Name} {fs : List t.Field} → Rule at Item (t.struct at x fs ∷ []) (keyword Struct ∷ node Name x ∷ sign m.OpenBrace ∷ node Fields fs ∷ sign m.CloseBrace ∷ sign m.Semicolon ∷ [])
+  globals : {base : bases.Base} {ds : List GlobalDeclarator} → Rule at Item (map (global base) ds) (node Base base ∷ node Decs ds ∷ sign m.Semicolon ∷ [])
+  a_function : {result : Option t.TypeName} {x : names.Name} {ps : List t.Param} {end : FunctionEnding} → Rule at Item (t.function at end.deletes result x ps end.body ∷ []) (node Result result ∷ node Name x ∷ sign m.OpenParenthesis ∷ node ParamsEnd ps ∷ node FunctionEnd end ∷ [])
+  a_deleting : {result : Option t.TypeName} {x : names.Name} {ps : List t.Param} {end : FunctionEnding} → Rule at Item (t.function at true result x ps end.body ∷ []) (keyword Deletes ∷ node Result result ∷ node Name x ∷ sign m.OpenParenthesis ∷ node ParamsEnd ps ∷ node FunctionEnd end ∷ [])
+  -- field { field }
+  first_field : {fs : List t.Field} → Rule at Fields fs (node Field fs ∷ [])
+  more_fields : {before fs : List t.Field} → Rule at Fields (before ++ fs) (node Fields before ∷ node Field fs ∷ [])
+  -- field = base fdec { "," fdec } ";" .
+  fields : {base : bases.Base} {ds : List FieldDeclarator} → Rule at Field (map (field base) ds) (node Base base ∷ node FieldDecs ds ∷ sign m.Semicolon ∷ [])
+  -- fdec { "," fdec }
+  one_field : {d : FieldDeclarator} → Rule at FieldDecs (d ∷ []) (node FieldDec d ∷ [])
+  another_field : {before : List FieldDeclarator} {d : FieldDeclarator} → Rule at FieldDecs (before ++ d ∷ []) (node FieldDecs before ∷ sign m.Comma ∷ node FieldDec d ∷ [])
+  -- fdec = stars NAME ["[" NUMBER "]"] .
+  a_field : {ns : List notes.Note} {x : names.Name} → Rule at FieldDec (record { spot = at; stars = ns; name = x; length = None }) (node Stars ns ∷ node Name x ∷ [])
+  an_array : {ns : List notes.Note} {x : names.Name} {i : ℕ} {unsigned : Bool} → Rule at FieldDec (record { spot = at; stars = ns; name = x; length = Some i }) (node Stars ns ∷ node Name x ∷ sign m.OpenBracket ∷ word (w.number i unsigned) ∷ sign m.CloseBracket ∷ [])
+  -- dec { "," dec }
+  one_global : {d : GlobalDeclarator} → Rule at Decs (d ∷ []) (node Dec d ∷ [])
+  another_global : {before : List GlobalDeclarator} {d : GlobalDeclarator} → Rule at Decs (before ++ d ∷ []) (node Decs before ∷ sign m.Comma ∷ node Dec d ∷ [])
+  -- dec = fdec ["=" constant] .
+  a_global : {d : FieldDeclarator} → Rule at Dec (record { declarator = d; constant = None }) (node FieldDec d ∷ [])
+  an_initial : {d : FieldDeclarator} {i : constants.Constant} → Rule at Dec (record { declarator = d; constant = Some i }) (node FieldDec d ∷ sign m.Equal ∷ node Constant i ∷ [])
+  -- constant = ["-"] NUMBER | CHARACTER | "NULL" | "EOF" .
+  a_constant : {i : ℕ} {unsigned : Bool} → Rule at Constant (k.Number at i unsigned) (word (w.number i unsigned) ∷ [])
+  a_negative : {i : ℕ} {unsigned : Bool} → Rule at Constant (k.Negative at i unsigned) (sign m.Minus ∷ word (w.number i unsigned) ∷ [])
+  a_code : {i : ℕ} → Rule at Constant (k.Character at i) (word (w.character i) ∷ [])
+  a_null : Rule at Constant (k.Null at) (keyword Null ∷ [])
+  an_eof : Rule at Constant (k.Eof at) (keyword Eof ∷ [])
+  -- base = "int" | "unsigned" ["int"] | "char" | "region" | "struct" NAME .
+  an_int : Rule at Base (b.Int at) (keyword Int ∷ [])
+  an_unsigned : Rule at Base (b.Unsigned at) (keyword Unsigned ∷ [])
+  an_unsigned_int : Rule at Base (b.Unsigned at) (keyword Unsigned ∷ keyword Int ∷ [])
+  a_char : Rule at Base (b.Char at) (keyword Char ∷ [])
+  a_region : Rule at Base (b.Region at) (keyword Region ∷ [])
+  a_named_struct : {x : names.Name} → Rule at Base (b.Struct at x) (keyword Struct ∷ node Name x ∷ [])
+  -- stars = { "*" ["sameregion" | "parentptr" | "traditional"] } .
+  no_stars : Rule at Stars [] []
+  plain_star : {before : List notes.Note} → Rule at Stars (before ++ n.Plain ∷ []) (node Stars before ∷ node (Star (length before + 1)) tt ∷ [])
+  noted_star : {before : List notes.Note} (note : notes.Note) {i : Key} → note_of note ≡ Some i → Rule at Stars (before ++ note ∷ []) (node Stars before ∷ node (Star (length before + 1)) tt ∷ keyword i ∷ [])
+  -- the k-th "*" of stars, of which each is one deeper than the one before
+  a_star : {i : ℕ} → Rule at (Star i) tt (sign m.Star ∷ [])
+  -- type = base stars .
+  a_type : {base : bases.Base} {ns : List notes.Note} → Rule at TypeName (typed base ns) (node Base base ∷ node Stars ns ∷ [])
+  -- result = "void" | type .
+  a_void : Rule at Result None (keyword Void ∷ [])
+  a_result : {ty : t.TypeName} → Rule at Result (Some ty) (node TypeName ty ∷ [])
+  -- [params] ")", with params = "void" | param { "," param } .
+  no_params : Rule at ParamsEnd [] (sign m.CloseParenthesis ∷ [])
+  void_params : Rule at ParamsEnd [] (keyword Void ∷ sign m.CloseParenthesis ∷ [])
+  some_params : {ps : List t.Param} → Rule at ParamsEnd ps (node Params ps ∷ sign m.CloseParenthesis ∷ [])
+  -- param { "," param }
+  one_param : {p : t.Param} → Rule at Params (p ∷ []) (node Param p ∷ [])
+  another_param : {before : List t.Param} {p : t.Param} → Rule at Params (before ++ p ∷ []) (node Params before ∷ sign m.Comma ∷ node Param p ∷ [])
+  -- param = type [NAME] .
+  a_nameless : {ty : t.TypeName} → Rule at Param (record { spot = at; type_name = ty; name = None }) (node TypeName ty ∷ [])
+  a_param : {ty : t.TypeName} {x : names.Name} → Rule at Param (record { spot = at; type_name = ty; name = Some x }) (node TypeName ty ∷ node Name x ∷ [])
+  -- ["deletes"] (block | ";"), behind the ")" of a function
+  ends : {body : Option t.Stmts} → Rule at FunctionEnd (record { deletes = false; body = body }) (node BodyEnd body ∷ [])
+  ends_deleting : {body : Option t.Stmts} → Rule at FunctionEnd (record { deletes = true; body = body }) (keyword Deletes ∷ node BodyEnd body ∷ [])
+  -- block | ";"
+  no_body : Rule at BodyEnd None (sign m.Semicolon ∷ [])
+  a_body : {body : t.Stmts} → Rule at BodyEnd (Some body) (node Block body ∷ [])
+  -- block = "{" { local | stmt } "}" .
+  a_block : {body : t.Stmts} → Rule at Block body (sign m.OpenBrace ∷ node Body body ∷ sign m.CloseBrace ∷ [])
+  -- { local | stmt }
+  no_stmts : Rule at Body t.done []
+  then_locals : {before : t.Stmts} {ls : List t.Local} → Rule at Body (joined before (stmts_of ls)) (node Body before ∷ node Locals ls ∷ [])
+  then_stmt : {before : t.Stmts} {s : t.Stmt} → Rule at Body (joined before (t.next s t.done)) (node Body before ∷ node Stmt s ∷ [])
+  -- local = base ldec { "," ldec } ";" .
+  locals : {base : bases.Base} {ds : List LocalDeclarator} → Rule at Locals (map (local base) ds) (node Base base ∷ node LocalDecs ds ∷ sign m.Semicolon ∷ [])
+  -- ldec { "," ldec }
+  one_local : {d : LocalDeclarator} → Rule at LocalDecs (d ∷ []) (node LocalDec d ∷ [])
+  another_local : {before : List LocalDeclarator} {d : LocalDeclarator} → Rule at LocalDecs (before ++ d ∷ []) (node LocalDecs before ∷ sign m.Comma ∷ node LocalDec d ∷ [])
+  -- ldec = stars NAME ["=" expr] .
+  a_local : {ns : List notes.Note} {x : names.Name} → Rule at LocalDec (record { spot = at; stars = ns; name = x; initial = None }) (node Stars ns ∷ node Name x ∷ [])
+  a_local_with : {ns : List notes.Note} {x : names.Name} {e : t.Expr} → Rule at LocalDec (record { spot = at; stars = ns; name = x; initial = Some e }) (node Stars ns ∷ node Name x ∷ sign m.Equal ∷ node (Level 0) e ∷ [])
+  -- stmt = block | ";" | simple ";" | "if" "(" expr ")" stmt ["else" stmt] | "while" "(" expr ")" stmt | "do" stmt "while" "(" expr ")" ";"
+  --      | "for" "(" (local | [simple] ";") [expr] ";" [simple] ")" stmt | "break" ";" | "continue" ";" | "return" [expr] ";" .
+  a_block_stmt : {body : t.Stmts} → Rule at Stmt (t.block at body) (node Block body ∷ [])
+  an_empty : Rule at Stmt (t.empty at) (sign m.Semicolon ∷ [])
+  a_simple : {x : t.Simple} → Rule at Stmt (t.simple at x) (node Simple x ∷ sign m.Semicolon ∷ [])
+  an_if : {e : t.Expr} {a : t.Stmt} → Rule at Stmt (t.if_then at e a) (keyword If ∷ sign m.OpenParenthesis ∷ node (Level 0) e ∷ sign m.CloseParenthesis ∷ node Stmt a ∷ [])
+  an_if_else : {e : t.Expr} {a b : t.Stmt} → ends_open a ≡ false → Rule at Stmt (t.if_else at e a b) (keyword If ∷ sign m.OpenParenthesis ∷ node (Level 0) e ∷ sign m.CloseParenthesis ∷ node Stmt a ∷ keyword Else ∷ node Stmt b ∷ [])
+  a_while : {e : t.Expr} {a : t.Stmt} → Rule at Stmt (t.while_do at e a) (keyword While ∷ sign m.OpenParenthesis ∷ node (Level 0) e ∷ sign m.CloseParenthesis ∷ node Stmt a ∷ [])
+  a_do : {a : t.Stmt} {e : t.Expr} → Rule at Stmt (t.do_while at a e) (keyword Do ∷ node Stmt a ∷ keyword While ∷ sign m.OpenParenthesis ∷ node (Level 0) e ∷ sign m.CloseParenthesis ∷ sign m.Semicolon ∷ [])
+  a_for : {start : t.ForStart} {e : Option t.Expr} {then : Option t.Simple} {a : t.Stmt} → Rule at Stmt (t.for_do at start e then a) (keyword For ∷ sign m.OpenParenthesis ∷ node ForStart start ∷ node ExprEnd e ∷ node SimpleEnd then ∷ node Stmt a ∷ [])
+  a_break : Rule at Stmt (t.break_loop at) (keyword Break ∷ sign m.Semicolon ∷ [])
+  a_continue : Rule at Stmt (t.continue_loop at) (keyword Continue ∷ sign m.Semicolon ∷ [])
+  a_return : {e : Option t.Expr} → Rule at Stmt (t.return_with at e) (keyword Return ∷ node ExprEnd e ∷ [])
+  -- local | [simple] ";", at the beginning of a `for`
+  starts_local : {ls : List t.Local} → Rule at ForStart (t.locals ls) (node Locals ls ∷ [])
+  starts_simple : {x : t.Simple} → Rule at ForStart (t.simply x) (node Simple x ∷ sign m.Semicolon ∷ [])
+  starts_nothing : Rule at ForStart t.nothing (sign m.Semicolon ∷ [])
+  -- [expr] ";"
+  no_expr : Rule at ExprEnd None (sign m.Semicolon ∷ [])
+  an_expr : {e : t.Expr} → Rule at ExprEnd (Some e) (node (Level 0) e ∷ sign m.Semicolon ∷ [])
+  -- [simple] ")"
+  no_simple : Rule at SimpleEnd None (sign m.CloseParenthesis ∷ [])
+  some_simple : {x : t.Simple} → Rule at SimpleEnd (Some x) (node Simple x ∷ sign m.CloseParenthesis ∷ [])
+  -- simple = expr | unary ("=" | op"=") expr | unary ("++" | "--") | ("++" | "--") unary .
+  evaluates : {e : t.Expr} → Rule at Simple (t.expression e) (node (Level 0) e ∷ [])
+  assigns : {l r : t.Expr} → Rule at Simple (t.assign at l r) (node Unary l ∷ sign m.Equal ∷ node (Level 0) r ∷ [])
+  updates : {op : BinaryOp} {i : marks.Mark} {l r : t.Expr} → update_of op ≡ Some i → Rule at Simple (t.update at op l r) (node Unary l ∷ sign i ∷ node (Level 0) r ∷ [])
+  steps_after : {op : StepOp} {l : t.Expr} → Rule at Simple (t.step_after at op l) (node Unary l ∷ sign (step_of op) ∷ [])
+  steps_before : {op : StepOp} {l : t.Expr} → Rule at Simple (t.step_before at op l) (sign (step_of op) ∷ node Unary l ∷ [])
+  -- expr = cond, and cond = lor ["?" expr ":" cond] .
+  conditional : {c a b : t.Expr} → Rule at (Level 0) (t.conditional at c a b) (node (Level 1) c ∷ sign m.Question ∷ node (Level 0) a ∷ sign m.Colon ∷ node Arm b ∷ [])
+  -- cond, behind the ":" of a conditional
+  arm : {e : t.Expr} → Rule at Arm e (node (Level 0) e ∷ [])
+  -- a level of binary operators = the next level { operator the next level } . The last of them is of unaries.
+  chain : {i : ℕ} {op : BinaryOp} {a b : t.Expr} → level_of op ≡ i → Rule at (Level i) (t.binary at op a b) (node (Level i) a ∷ sign (mark_of op) ∷ node (Level (i + 1)) b ∷ [])
+  up : {i : ℕ} {e : t.Expr} → i ≤ 10 → Rule at (Level i) e (node (Level (i + 1)) e ∷ [])
+  operand : {e : t.Expr} → Rule at (Level 11) e (node Unary e ∷ [])
+  -- unary = postfix | ("-" | "+" | "!" | "~" | "*" | "&") unary | "(" ("int" | "unsigned" ["int"] | "char") ")" unary .
+  plain : {e : t.Expr} → Rule at Unary e (node Postfix e ∷ [])
+  prefixed : {op : UnaryOp} {e : t.Expr} → Rule at Unary (t.unary at op e) (sign (prefix_of op) ∷ node Unary e ∷ [])
+  a_cast : {to : casts.CastType} {e : t.Expr} → Rule at Unary (t.cast at to e) (sign m.OpenParenthesis ∷ node CastType to ∷ sign m.CloseParenthesis ∷ node Unary e ∷ [])
+  -- "int" | "unsigned" ["int"] | "char"
+  to_int : Rule at CastType c.Int (keyword Int ∷ [])
+  to_unsigned : Rule at CastType c.Unsigned (keyword Unsigned ∷ [])
+  to_unsigned_int : Rule at CastType c.Unsigned (keyword Unsigned ∷ keyword Int ∷ [])
+  to_char : Rule at CastType c.Char (keyword Char ∷ [])
+  -- postfix = primary { "[" expr "]" | "." NAME | "->" NAME } .
+  bare : {e : t.Expr} → Rule at Postfix e (node Primary e ∷ [])
+  indexed : {a i : t.Expr} → Rule at Postfix (t.index at a i) (node Postfix a ∷ sign m.OpenBracket ∷ node (Level 0) i ∷ sign m.CloseBracket ∷ [])
+  a_member : {a : t.Expr} {x : names.Name} → Rule at Postfix (t.member at a x) (node Postfix a ∷ sign m.Dot ∷ node Name x ∷ [])
+  an_arrow : {a : t.Expr} {x : names.Name} → Rule at Postfix (t.arrow at a x) (node Postfix a ∷ sign m.Arrow ∷ node Name x ∷ [])
+  -- primary = NUMBER | CHARACTER | STRING | "NULL" | "EOF" | NAME | NAME "(" [expr { "," expr }] ")"
+  --         | "ralloc" "(" expr "," type ")" | "rarrayalloc" "(" expr "," expr "," type ")" | "(" expr ")" .
+  a_number : {i : ℕ} {unsigned : Bool} → Rule at Primary (t.number at i unsigned) (word (w.number i unsigned) ∷ [])
+  a_character : {i : ℕ} → Rule at Primary (t.character at i) (word (w.character i) ∷ [])
+  a_string : {bytes : List ℕ} → Rule at Primary (t.string at bytes) (word (w.string bytes) ∷ [])
+  the_null : Rule at Primary (t.null at) (keyword Null ∷ [])
+  the_eof : Rule at Primary (t.eof at) (keyword Eof ∷ [])
+  a_variable : {x : names.Name} → Rule at Primary (t.variable x) (node Name x ∷ [])
+  calls : {x : names.Name} → Rule at Primary (t.call x t.none) (node Name x ∷ sign m.OpenParenthesis ∷ sign m.CloseParenthesis ∷ [])
+  calls_with : {x : names.Name} {v : t.Exprs} → Rule at Primary (t.call x v) (node Name x ∷ sign m.OpenParenthesis ∷ node Arguments v ∷ sign m.CloseParenthesis ∷ [])
+  allocates : {r : t.Expr} {ty : t.TypeName} → Rule at Primary (t.ralloc at r ty) (keyword Ralloc ∷ sign m.OpenParenthesis ∷ node (Level 0) r ∷ sign m.Comma ∷ node TypeName ty ∷ sign m.CloseParenthesis ∷ [])
+  allocates_array : {r i : t.Expr} {ty : t.TypeName} → Rule at Primary (t.rarrayalloc at r i ty) (keyword RarrayAlloc ∷ sign m.OpenParenthesis ∷ node (Level 0) r ∷ sign m.Comma ∷ node (Level 0) i ∷ sign m.Comma ∷ node TypeName ty ∷ sign m.CloseParenthesis ∷ [])
+  parentheses : {e : t.Expr} → Rule at Primary e (sign m.OpenParenthesis ∷ node (Level 0) e ∷ sign m.CloseParenthesis ∷ [])
+  -- expr { "," expr }
+  one : {e : t.Expr} → Rule at Arguments (t.more e t.none) (node (Level 0) e ∷ [])
+  another : {v : t.Exprs} {e : t.Expr} → Rule at Arguments (with_last v e) (node Arguments v ∷ sign m.Comma ∷ node (Level 0) e ∷ [])
+  -- NAME
+  a_name : {bytes : List ℕ} → Rule at Name (record { spot = at; text = bytes }) (word (w.name bytes) ∷ [])
 
 -- A word with its spot.
 pub record Placed : Type 0 where

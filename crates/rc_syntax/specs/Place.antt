@@ -54,10 +54,25 @@ Answers round s shape tokens at (Err (Syntax line)) = (rest : List Placed) × Is
 Answers round s shape tokens at (Err (Deep line)) = (rest : List Placed) × IsTooDeep round s (drop at (placed 0 tokens)) rest × (line ≡ line_at tokens rest)
 Answers round s shape tokens at (Err Memory) = Unit {0}
 
+-- The longest front of the words that begins a text has no word that is too deep, the words are no text, and the first word behind that front,
+-- else the last of all, is on this line.
+pub record StopsAtLine (tokens : List Token) (line : ℕ) : Type 0 where
+  pub front : List Placed
+  pub rest : List Placed
+  pub stretch : Stretch Text (placed 0 tokens) front rest
+  pub shallow : Shallow 0 Text front
+  pub no_tree : (items : TreeOf Text) → Derives (placed 0 tokens) (node Text items) → ⊥
+  pub on_line : line ≡ line_at tokens rest
+
+-- The first word that is too deep in a text is on this line.
+pub record SinksAtLine (tokens : List Token) (line : ℕ) : Type 0 where
+  pub rest : List Placed
+  pub too_deep : IsTooDeep 0 Text (placed 0 tokens) rest
+  pub on_line : line ≡ line_at tokens rest
+
 -- What a parser of a whole text answers, without want of memory: all the words are its tree, or they are none.
 abbrev pub AnswersAll : List Token → Result declared_tree.Tree ParseFault → Type 0
 AnswersAll tokens (Ok r) = Derives (placed 0 tokens) (node Text (tree_of r).items) × Shallow 0 Text (placed 0 tokens)
-AnswersAll tokens (Err (Syntax line)) =
-    (front rest : List Placed) × Stretch Text (placed 0 tokens) front rest × Shallow 0 Text front × ((a : TreeOf Text) → Derives (placed 0 tokens) (node Text a) → ⊥) × (line ≡ line_at tokens rest)
-AnswersAll tokens (Err (Deep line)) = (rest : List Placed) × IsTooDeep 0 Text (placed 0 tokens) rest × (line ≡ line_at tokens rest)
+AnswersAll tokens (Err (Syntax line)) = StopsAtLine tokens line
+AnswersAll tokens (Err (Deep line)) = SinksAtLine tokens line
 AnswersAll tokens (Err Memory) = Unit {0}

@@ -9,9 +9,9 @@ use Rattle.rc_syntax.specs.Bytes.{is_blank, is_margin, is_letter, in_name, in_li
 use Rattle.rc_syntax.specs.Numerals.{Number}
 use Rattle.rc_syntax.specs.Literals.{WritesAll}
 
--- an end of a comment is inside these bytes, or begins with the last of them where a `*` follows
+-- an end of a comment is inside these bytes
 abbrev pub HasEnd : List ℕ → Type 0
-HasEnd bytes = (front back : List ℕ) × (bytes ++ 42 ∷ [] ≡ front ++ 42 ∷ 47 ∷ back)
+HasEnd bytes = (front back : List ℕ) × (bytes ≡ front ++ 42 ∷ 47 ∷ back)
 
 -- `/` before `/` or `*` opens a comment, and is no mark
 abbrev pub opens_comment : List ℕ → Bool

@@ -1,13 +1,13 @@
 // Why words have no tree.
 
 /// Why a parser gives no tree.
-#[derive(Debug, Drop)]
+#[derive(Clone, Copy, Debug, PartialEq, Eq)]
 pub enum ParseFault {
     /// The words are no tree, with the line of the first word that can't follow those before it,
     /// or of the last word where each can; 1 where there is no word.
     Syntax(u32),
     /// A word is too deep, with its line, and the words before it can be followed.
     Deep(u32),
-    /// Memory is wanting.
+    /// Out of memory.
     Memory,
 }

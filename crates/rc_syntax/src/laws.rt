@@ -5,9 +5,9 @@ ghost use Rattle.rc_syntax.specs.Tokens.{Token};
 ghost use Rattle.rc_syntax.specs.Words.{Words};
 ghost use Rattle.rc_syntax.specs.Tree.{Expr, Item};
 ghost use Rattle.rc_syntax.specs.Grammar.{Text, Level, Unary, Placed, node, Derives, Begins, placed};
-ghost use Rattle.rc_syntax.specs.Printing.{IsPrintable};
-ghost use Rattle.rc_syntax.specs.Unplaced.{words_at, ReadBack};
-ghost use Rattle.rc_syntax.specs.TreeWords.{items_words};
+ghost use Rattle.rc_syntax.specs.printing.Printing.{IsPrintable};
+ghost use Rattle.rc_syntax.specs.printing.Unplaced.{words_at, ReadBack};
+ghost use Rattle.rc_syntax.specs.printing.TreeWords.{items_words};
 
 /// Words have at most one tree: as a text, as an expression, and as a unary.
 pub fn words_have_one_tree()

@@ -1,7 +1,6 @@
 // Words.
 ghost use Rattle.std.specs.Prelude.{◌≡◌, List, ℕ, IfOk};
-ghost use Rattle.rc_syntax.specs.Spellings.{key_spelling, mark_spelling, keys, marks};
-ghost use Rattle.rc_syntax.specs.Look.{key_named, mark_named};
+ghost use Rattle.rc_syntax.specs.Spellings.{key_spelling, mark_spelling, keys, marks, key_named, mark_named};
 
 use std::alloc::{AllocError, Global};
 use std::marker::Model;

@@ -2,7 +2,7 @@
 ghost use Rattle.std.specs.Prelude.{ℕ, List, ◌≡◌, ◌⊎◌, All};
 ghost use Rattle.rc_syntax.specs.Tokens.{Word, Token};
 ghost use Rattle.rc_syntax.specs.Words.{Words, StopsAt};
-ghost use Rattle.rc_syntax.specs.Printing.{printed, IsPrintable, words_in, on_first_line};
+ghost use Rattle.rc_syntax.specs.printing.Printing.{printed, IsPrintable, words_in, on_first_line};
 
 /// A text has at most one list of words.
 pub fn one_list_of_words()

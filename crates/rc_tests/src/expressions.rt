@@ -31,36 +31,35 @@ fn is_less(tree: &Expr, value: u32) -> bool {
 }
 
 /// Whether it is a difference of a difference from the right, and where it ends.
-fn ends_behind_differences(given: Result<(Expr, u32), ParseFault>, end: u32) -> bool {
+fn ends_behind_differences(given: Result<(Box<Expr>, u32), ParseFault>, end: u32) -> bool {
     let Ok((tree, place)) = given else {
         return false
     };
     if place != end {
         return false;
     }
-    match tree {
-        Expr::Binary(_, BinaryOp::Subtract, left, right) => is_less(&left, 1)
-            && is_number(&right, 2),
+    match &*tree {
+        Expr::Binary(_, BinaryOp::Subtract, left, right) => is_less(left, 1) && is_number(right, 2),
         _ => false,
     }
 }
 
 /// Whether it is what a pointer leads to, and where it ends.
-fn ends_behind_target(given: Result<(Expr, u32), ParseFault>, end: u32) -> bool {
+fn ends_behind_target(given: Result<(Box<Expr>, u32), ParseFault>, end: u32) -> bool {
     let Ok((tree, place)) = given else {
         return false
     };
     if place != end {
         return false;
     }
-    match tree {
+    match &*tree {
         Expr::Unary(_, UnaryOp::Dereference, _) => true,
         _ => false,
     }
 }
 
 /// Whether it is no expression, with this line.
-fn stops(given: Result<(Expr, u32), ParseFault>, line: u32) -> bool {
+fn stops(given: Result<(Box<Expr>, u32), ParseFault>, line: u32) -> bool {
     match given {
         Err(ParseFault::Syntax(found)) => found == line,
         _ => false,
@@ -68,7 +67,7 @@ fn stops(given: Result<(Expr, u32), ParseFault>, line: u32) -> bool {
 }
 
 /// Whether a word is too deep, with this line.
-fn is_deep(given: Result<(Expr, u32), ParseFault>, line: u32) -> bool {
+fn is_deep(given: Result<(Box<Expr>, u32), ParseFault>, line: u32) -> bool {
     match given {
         Err(ParseFault::Deep(found)) => found == line,
         _ => false,

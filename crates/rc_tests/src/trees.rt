@@ -182,6 +182,10 @@ fn lengths(rt: HostRuntime) -> Result<(), Fail> {
     // An expression of 1,023 words, and one of 1,025.
     assert!(rt; repeated_is(alloc, &["", "a +", "a ;", "", ""], 511, Is::Tree)?);
     assert!(rt; repeated_is(alloc, &["", "a +", "a ;", "", ""], 512, Is::Deep(1))?);
+    // Arrows in a row, and conditionals each in the middle of the one before.
+    assert!(rt; repeated_is(alloc, &["a", "-> b", ";", "", ""], 511, Is::Tree)?);
+    assert!(rt; repeated_is(alloc, &["", "a ?", "a", ": a", ";"], 255, Is::Tree)?);
+    assert!(rt; repeated_is(alloc, &["", "a ?", "a", ": a", ";"], 500, Is::Deep(1))?);
     // What one statement has doesn't count in the next.
     assert!(rt; repeated_is(alloc, &["", "a = a ;", "", "int a ;", ""], 2000, Is::Tree)?);
     assert!(rt; repeated_is(alloc, &["f ( a", "", "", ", a", ") ;"], 500, Is::Tree)?);

@@ -9,7 +9,7 @@ use Rattle.rc_syntax.specs.declared.tree.Expr.TheVariants.{rolls-Call}
 use Rattle.rc_syntax.specs.Shape as written
 use Rattle.rc_deletes.specs.Scopes.{Context, Scope}
 use Rattle.rc_deletes.specs.Statements.{expression_alone}
-use Rattle.rc_typing.specs.Alone.{value_alone}
+use Rattle.rc_deletes.specs.Statements.{value_alone}
 
 pub alone_is : (context : Context) (names : Scope) (before : List (List ℕ)) (e : Expr) → ((n : Name) (given : Vec Expr Alloc) → e ≡ Call n given → ⊥) →
     expression_alone context names before (written.expr_of e) ≡ value_alone context names before (written.expr_of e)

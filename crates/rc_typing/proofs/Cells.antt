@@ -7,11 +7,11 @@ use Rattle.rc_core.specs.Types.{struct}
 use Rattle.rc_core.specs.Programs.{Struct}
 use Rattle.rc_core.specs.Layout.{Layout, layouts_of, size}
 use Rattle.rc_rules.specs.Sizes.{TellSmall}
-use Rattle.rc_typing.specs.declared.context.Context.{Context}
-use Rattle.rc_typing.specs.Contexts.{context_of}
-use Rattle.rc_typing.specs.Fields.{struct_in}
-use Rattle.rc_typing.specs.Sizes.{capped, HasSizes}
-use Rattle.rc_typing.proofs.Contexts.{structs_are}
+use Rattle.rc_terms.specs.declared.context.Context.{Context}
+use Rattle.rc_terms.specs.Contexts.{context_of}
+use Rattle.rc_terms.specs.Fields.{struct_in}
+use Rattle.rc_terms.specs.Sizes.{capped, HasSizes}
+use Rattle.rc_terms.proofs.Contexts.{structs_are}
 
 cut_le : (n most k : ℕ) → k < most → nat_le (min n most) k ≡ nat_le n k
 cut_le n most k h = grind (arith, nat_tests)
@@ -23,4 +23,4 @@ pub tell_small : (c : Context) → TellSmall (context_of c) c.sizes.items
 tell_small c s =
     ap (λ n. nat_le n 256) (capped_at (map struct_in c.structs.items) c.sizes.items s c.sized)
     ∙ cut_le (size (map struct_in c.structs.items) (struct s)) 1048577 256 (omega arith)
-    ∙ ap (λ ss. nat_le (size ss (struct s)) 256) (sym (structs_are c.types c.structs.items))
+    ∙ ap (λ ss. nat_le (size ss (struct s)) 256) (sym (structs_are c))

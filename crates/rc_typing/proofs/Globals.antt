@@ -10,15 +10,15 @@ use Rattle.rc_core.specs.Types.{Ty}
 use Rattle.rc_deletes.specs.declared.fault.Refusal.TheVariants.{Mistyped, TooBig}
 use Rattle.rc_deletes.specs.Judged.{Judged, Holds, ruled, failing}
 use Rattle.rc_deletes.specs.Kinds.{written_type}
-use Rattle.rc_deletes.specs.Scopes.{Context, Scope, type_names, a_global, meaning_in}
+use Rattle.rc_deletes.specs.Scopes.{Context, Scope, a_global, meaning_in}
 use Rattle.rc_deletes.specs.Items.{Outside, Made, item, behind_item, with_name, cell_type, once, cells_of_global, global_made, global_of, initial_of, is_empty, value_or_zero}
-use Rattle.rc_rules.specs.declared.stop.Stop.{Stop}
-use Rattle.rc_rules.specs.Stops.{StopsAt}
+use Rattle.rc_operators.specs.declared.stop.Stop.{Stop}
+use Rattle.rc_operators.specs.Stops.{StopsAt}
 use Rattle.rc_rules.specs.declared.meanings.Meaning.{Meaning as CodeMeaning}
 use Rattle.rc_rules.specs.Shapes.{meaning_of}
-use Rattle.rc_typing.specs.Contexts.{scope_of}
-use Rattle.rc_typing.specs.Sizes.{SameUpTo}
-use Rattle.rc_typing.proofs.Stops.{both_ruled}
+use Rattle.rc_terms.specs.Contexts.{scope_of}
+use Rattle.rc_terms.specs.Sizes.{SameUpTo}
+use Rattle.rc_terms.proofs.Stops.{both_ruled}
 
 is_few : (at : Spot) (b e l : Bool) (a m : Made) → ruled at (failing b Mistyped ++ failing (e || l) TooBig) a ≡ Holds m → l ≡ false
 is_few at true e l a m h = absurd cc
@@ -33,15 +33,15 @@ pub total_few : (context : Context) (at : Spot) (n : t.TypeName) (count : Option
 total_few context at n count total initial m h = no_more total (is_few at (is_none initial) (is_empty count) (nat_lt 1048576 total) _ m h)
 
 module _ (context : Context) (o : Outside) (at : Spot) (n : t.TypeName) (name : Name) (count : Option ℕ) (c : Option Constant) (ty : Ty) (total : ℕ)
-    (typed : cell_type context o.structs n ≡ Holds tt) (is : ty ≡ written_type (type_names context) n) (new : once name (is_some (meaning_in o.names name.text)) ≡ Holds tt)
+    (typed : cell_type context o.structs n ≡ Holds tt) (is : ty ≡ written_type context.types n) (new : once name (is_some (meaning_in o.names name.text)) ≡ Holds tt)
     (same : SameUpTo 1048576 total (o.cells + cells_of_global context n count)) where
   abbrev made : Bool → Option ℤ → Judged Made
   made many initial = ruled at (failing (is_none initial) Mistyped ++ failing (is_empty count || many) TooBig) (record { globals = global_of context n count (value_or_zero initial) ∷ []; functions = [] })
 
   pub item_is : item context o (t.global at n name count c) ≡ global_made context at n count total (initial_of ty count c)
   item_is =
-      both_ruled (cell_type context o.structs n) tt (once name (is_some (meaning_in o.names name.text))) tt (λ u v. global_made context at n count (o.cells + cells_of_global context n count) (initial_of (written_type (type_names context) n) count c)) _ typed new refl
-      ∙ ap (λ b. made b (initial_of (written_type (type_names context) n) count c)) (sym same.0)
+      both_ruled (cell_type context o.structs n) tt (once name (is_some (meaning_in o.names name.text))) tt (λ u v. global_made context at n count (o.cells + cells_of_global context n count) (initial_of (written_type context.types n) count c)) _ typed new refl
+      ∙ ap (λ b. made b (initial_of (written_type context.types n) count c)) (sym same.0)
       ∙ ap (λ u. made (nat_lt 1048576 total) (initial_of u count c)) (sym is)
 
   pub global_stops : (s : Stop) → StopsAt (global_made context at n count total (initial_of ty count c)) s → StopsAt (item context o (t.global at n name count c)) s
@@ -59,9 +59,9 @@ pub known_new : (name : Name) (names : Scope) (twice : Bool) → twice ≡ is_so
 known_new name names twice h k = subst (λ b. once name b ≡ Holds tt) h k
 
 pub global_behind : (context : Context) (o : Outside) (at : Spot) (n : t.TypeName) (name : Name) (count : Option ℕ) (c : Option Constant) (ty again : Ty) (names : Scope) (next total : ℕ) →
-    ty ≡ written_type (type_names context) n → again ≡ ty → names ≡ with_name o.names name.text (a_global o.globals again count) → next ≡ suc o.globals → total ≡ o.cells + cells_of_global context n count →
+    ty ≡ written_type context.types n → again ≡ ty → names ≡ with_name o.names name.text (a_global o.globals again count) → next ≡ suc o.globals → total ≡ o.cells + cells_of_global context n count →
     record o { names = names; globals = next; cells = total } ≡ behind_item context o (t.global at n name count c)
 global_behind context o at n name count c ty again names next total is same named counted summed =
     ap (λ ns. record o { names = ns; globals = next; cells = total }) (named ∙ ap (λ u. with_name o.names name.text (a_global o.globals u count)) (same ∙ is))
-    ∙ ap (λ k. record o { names = with_name o.names name.text (a_global o.globals (written_type (type_names context) n) count); globals = k; cells = total }) counted
-    ∙ ap (λ k. record o { names = with_name o.names name.text (a_global o.globals (written_type (type_names context) n) count); globals = suc o.globals; cells = k }) summed
+    ∙ ap (λ k. record o { names = with_name o.names name.text (a_global o.globals (written_type context.types n) count); globals = k; cells = total }) counted
+    ∙ ap (λ k. record o { names = with_name o.names name.text (a_global o.globals (written_type context.types n) count); globals = suc o.globals; cells = k }) summed

@@ -6,14 +6,14 @@ use Rattle.rc_syntax.specs.Shape as written
 use Rattle.rc_syntax.specs.Tree as t
 use Rattle.rc_deletes.specs.Judged.{Judged, Holds, Faulty, with_part, with_parts, in_front}
 use Rattle.rc_deletes.specs.Scopes.{Context}
-use Rattle.rc_deletes.specs.Items.{field_rule, fields_rule}
-use Rattle.rc_rules.specs.declared.stop.Stop.{Stop}
-use Rattle.rc_rules.specs.declared.stop.Stop.TheVariants.{Rule, Memory}
-use Rattle.rc_rules.specs.Stops.{StopsAt}
-use Rattle.rc_typing.specs.Groups.{before_fields, shares_with_next}
-use Rattle.rc_typing.proofs.Stops.{left_stops}
-use Rattle.rc_typing.proofs.Fronts.{tail, split, nothing_left}
-use Rattle.rc_typing.proofs.Groups.{field_next}
+use Rattle.rc_deletes.specs.Items.{field_rule, fields_rule, before_fields}
+use Rattle.rc_operators.specs.declared.stop.Stop.{Stop}
+use Rattle.rc_operators.specs.declared.stop.Stop.TheVariants.{Rule, Memory}
+use Rattle.rc_operators.specs.Stops.{StopsAt}
+use Rattle.rc_terms.specs.Groups.{shares_with_next}
+use Rattle.rc_terms.proofs.Stops.{left_stops}
+use Rattle.rc_terms.proofs.Fronts.{tail, split, nothing_left}
+use Rattle.rc_terms.proofs.Groups.{field_next}
 
 pub front_stop : {A B : Type 0} (x : Judged A) (y : Judged B) (s : Stop) → StopsAt x s → StopsAt (in_front x y) s
 front_stop x y Memory h = tt

@@ -13,19 +13,18 @@ use Rattle.rc_core.specs.Typing.{is_struct}
 use Rattle.rc_deletes.specs.declared.fault.Refusal.TheVariants.{Mistyped}
 use Rattle.rc_deletes.specs.Judged.{Judged, Holds, Faulty, with_part, with_parts, ruled, failing}
 use Rattle.rc_deletes.specs.Kinds.{written_type}
-use Rattle.rc_deletes.specs.Scopes.{Context, type_names}
+use Rattle.rc_deletes.specs.Scopes.{Context}
 use Rattle.rc_deletes.specs.Statements.{Here}
 use Rattle.rc_deletes.specs.Expressions.{base_rule}
 use Rattle.rc_deletes.specs.Items.{param_name, param_rule, params_rule, with_param, with_params, type_option}
-use Rattle.rc_rules.specs.declared.stop.Stop.{Stop}
-use Rattle.rc_rules.specs.declared.stop.Stop.TheVariants.{Rule}
-use Rattle.rc_rules.specs.Stops.{StopsAt}
-use Rattle.rc_typing.specs.declared.context.Context.{Context as CodeContext}
-use Rattle.rc_typing.specs.Contexts.{context_of}
-use Rattle.rc_typing.proofs.Contexts.{types_are}
+use Rattle.rc_operators.specs.declared.stop.Stop.{Stop}
+use Rattle.rc_operators.specs.declared.stop.Stop.TheVariants.{Rule}
+use Rattle.rc_operators.specs.Stops.{StopsAt}
+use Rattle.rc_terms.specs.declared.context.Context.{Context as CodeContext}
+use Rattle.rc_terms.specs.Contexts.{context_of}
 use Rattle.rc_typing.proofs.Ruled.{ruled_broken}
-use Rattle.rc_typing.proofs.Walks.{front, none_left}
-use Rattle.rc_typing.proofs.Stops.{left_stops, right_stops, both_stop}
+use Rattle.rc_terms.proofs.Walks.{front, none_left}
+use Rattle.rc_terms.proofs.Stops.{left_stops, right_stops, both_stop}
 
 unit_part : (y : Judged (Unit {0})) → with_part y (λ v. Holds tt) ≡ y
 unit_part (Holds v) = refl
@@ -54,21 +53,20 @@ module _ (types : List (List ℕ)) (qs : List Param) (i : ℕ) (before : List Co
 -- the rule of one parameter
 module _ (context : Context) (has_body : Bool) (here : Here) (q : t.Param) (typed : base_rule context q.type_name.base ≡ Holds tt) where
   abbrev own : Unit {0} → Unit {0} → Judged (Unit {0})
-  own u v = ruled q.spot (failing (is_struct (written_type (type_names context) q.type_name) || (has_body && is_none q.name)) Mistyped) tt
+  own u v = ruled q.spot (failing (is_struct (written_type context.types q.type_name) || (has_body && is_none q.name)) Mistyped) tt
 
   pub name_stops : (s : Stop) → StopsAt (param_name here q.name) s → StopsAt (param_rule context has_body here q) s
   name_stops s h = right_stops (base_rule context q.type_name.base) tt (param_name here q.name) own s typed h
 
-  pub own_stops : (ty : Ty) (b : Bool) (s : Stop) → param_name here q.name ≡ Holds tt → ty ≡ written_type (type_names context) q.type_name → b ≡ (is_struct ty || (has_body && is_none q.name)) → b ≡ true → s ≡ Rule (record { at = q.spot; refusal = Mistyped }) → StopsAt (param_rule context has_body here q) s
+  pub own_stops : (ty : Ty) (b : Bool) (s : Stop) → param_name here q.name ≡ Holds tt → ty ≡ written_type context.types q.type_name → b ≡ (is_struct ty || (has_body && is_none q.name)) → b ≡ true → s ≡ Rule (record { at = q.spot; refusal = Mistyped }) → StopsAt (param_rule context has_body here q) s
   own_stops ty b s named is e t r =
       subst (λ s. StopsAt (param_rule context has_body here q) s) (sym r)
       (both_stop (base_rule context q.type_name.base) tt (param_name here q.name) tt own (Rule (record { at = q.spot; refusal = Mistyped })) typed named
-      (ruled_broken q.spot (is_struct (written_type (type_names context) q.type_name) || (has_body && is_none q.name)) Mistyped (tt {0}) (ap (λ u. is_struct u || (has_body && is_none q.name)) (sym is) ∙ sym e ∙ t)))
+      (ruled_broken q.spot (is_struct (written_type context.types q.type_name) || (has_body && is_none q.name)) Mistyped (tt {0}) (ap (λ u. is_struct u || (has_body && is_none q.name)) (sym is) ∙ sym e ∙ t)))
 
 pub given_is : (c : CodeContext) (gives : Option TypeName) (n : TypeName) (ty : Ty) → gives ≡ Some n → ty ≡ written_type c.types (written.type_of n) → Some ty ≡ type_option (context_of c) (written.mapped written.type_of gives)
 given_is c gives n ty e h =
-    ap Some (h ∙ ap (λ ns. written_type ns (written.type_of n)) (sym (types_are c)))
-    ∙ ap (λ g. type_option (context_of c) (written.mapped written.type_of g)) (sym e)
+    ap Some h ∙ ap (λ g. type_option (context_of c) (written.mapped written.type_of g)) (sym e)
 
 module _ (context : Context) (has_body : Bool) (here : Here) (qs : List Param) (i : ℕ) where
   pub param_stops : (q : Param) (s : Stop) → i < length qs → q ≡ get_or qs i q → StopsAt (param_rule context has_body here (written.param_of q)) s → StopsAt (params_rule context has_body here (map written.param_of (drop i qs))) s

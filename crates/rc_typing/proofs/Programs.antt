@@ -11,13 +11,13 @@ use Rattle.rc_deletes.specs.Judged.{Judged, Holds, with_part}
 use Rattle.rc_deletes.specs.Kinds.{place_of, number_or}
 use Rattle.rc_deletes.specs.Places.{deletes_faults}
 use Rattle.rc_deletes.specs.Scopes.{Context, structs_in}
-use Rattle.rc_rules.specs.declared.stop.Stop.{Stop}
-use Rattle.rc_rules.specs.Stops.{StopsAt}
-use Rattle.rc_typing.specs.declared.fields.NamedField.{NamedField}
-use Rattle.rc_typing.specs.Fields.{named_of}
+use Rattle.rc_operators.specs.declared.stop.Stop.{Stop}
+use Rattle.rc_operators.specs.Stops.{StopsAt}
+use Rattle.rc_terms.specs.declared.fields.NamedField.{NamedField}
+use Rattle.rc_terms.specs.Fields.{named_of}
 use Rattle.rc_typing.specs.Outside.{all_made}
-use Rattle.rc_typing.proofs.Stops.{part_stops}
-use Rattle.rc_typing.proofs.Walks.{none_left}
+use Rattle.rc_terms.proofs.Stops.{part_stops}
+use Rattle.rc_terms.proofs.Walks.{none_left}
 
 append_end : {A : Type 0} (xs : List A) → xs ++ [] ≡ xs
 append_end [] = refl

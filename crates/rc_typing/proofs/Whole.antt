@@ -7,15 +7,15 @@ use Rattle.rc_syntax.specs.Tree as t
 use Rattle.rc_core.specs.Programs as p
 use Rattle.rc_deletes.specs.Judged.{Judged, Holds, Faulty, with_parts, in_front}
 use Rattle.rc_deletes.specs.Scopes.{Context}
-use Rattle.rc_deletes.specs.Items.{Outside, Made, nothing_made, made_both, item, items, before_item, behind_item, behind_items}
-use Rattle.rc_rules.specs.declared.stop.Stop.{Stop}
-use Rattle.rc_rules.specs.declared.stop.Stop.TheVariants.{Rule, Memory}
-use Rattle.rc_rules.specs.Stops.{StopsAt}
-use Rattle.rc_typing.specs.Groups.{before_globals, goes_on}
-use Rattle.rc_typing.proofs.Stops.{left_stops}
+use Rattle.rc_deletes.specs.Items.{Outside, Made, nothing_made, made_both, item, items, before_globals, behind_item, behind_items}
+use Rattle.rc_operators.specs.declared.stop.Stop.{Stop}
+use Rattle.rc_operators.specs.declared.stop.Stop.TheVariants.{Rule, Memory}
+use Rattle.rc_operators.specs.Stops.{StopsAt}
+use Rattle.rc_terms.specs.Groups.{goes_on}
+use Rattle.rc_terms.proofs.Stops.{left_stops}
 use Rattle.rc_typing.proofs.Members.{front_stop}
-use Rattle.rc_typing.proofs.Fronts.{tail, split, nothing_left}
-use Rattle.rc_typing.proofs.Groups.{global_next}
+use Rattle.rc_terms.proofs.Fronts.{tail, split, nothing_left}
+use Rattle.rc_terms.proofs.Groups.{global_next}
 
 abbrev pub after_made : Made → Judged Made → Judged Made
 after_made m (Holds n) = Holds (made_both m n)
@@ -49,11 +49,6 @@ after_stops m (Faulty g gs) (Rule f) h = h
 after_stops m (Holds a) (Rule f) h = absurd cc
 
 module _ (context : Context) (o : Outside) where
-  front_is : (i : t.Item) (after : List t.Item) → before_globals context o.structs (i ∷ after) ≡ before_item context o i after
-  front_is (t.struct at name fields) after = refl
-  front_is (t.global at n name count c) after = refl
-  front_is (t.function at deletes result name params body) after = refl
-
   pub known_next : (i : t.Item) (after : List t.Item) → goes_on i after ≡ true → before_globals context o.structs (i ∷ after) ≡ Holds tt → before_globals context (behind_item context o i).structs after ≡ Holds tt
   known_next i [] h e = refl
   known_next (t.struct at name fields) (j ∷ after) h e = absurd cc
@@ -65,11 +60,11 @@ module _ (context : Context) (o : Outside) (i : t.Item) (after : List t.Item) wh
   here = with_parts (item context o i) (items context (behind_item context o i) after) (λ a b. Holds (made_both a b))
 
   pub group_stops : (s : Stop) → StopsAt (before_globals context o.structs (i ∷ after)) s → StopsAt (items context o (i ∷ after)) s
-  group_stops s h = front_stop (before_item context o i after) here s (subst (λ (x : Judged (Unit {0})). StopsAt x s) (front_is context o i after) h)
+  group_stops s h = front_stop (before_globals context o.structs (i ∷ after)) here s h
 
   module _ (held : before_globals context o.structs (i ∷ after) ≡ Holds tt) where
     without : items context o (i ∷ after) ≡ here
-    without = ap (λ (x : Judged (Unit {0})). in_front x here) (sym (front_is context o i after) ∙ held)
+    without = ap (λ (x : Judged (Unit {0})). in_front x here) held
 
     pub item_stops : (s : Stop) → StopsAt (item context o i) s → StopsAt (items context o (i ∷ after)) s
     item_stops s h = subst (λ (x : Judged Made). StopsAt x s) (sym without) (left_stops (item context o i) (items context (behind_item context o i) after) (λ a b. Holds (made_both a b)) s h)

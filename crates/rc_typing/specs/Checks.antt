@@ -7,7 +7,9 @@ use Rattle.rc_core.specs.Shapes.{program_of}
 use Rattle.rc_deletes.specs.Answer.{IsProgramOf, refusal, at_node, at_main, at_place}
 use Rattle.rc_deletes.specs.Limits.{AreShort}
 use Rattle.rc_typing.specs.declared.fault.TypeFault.{TypeFault}
-use Rattle.rc_typing.specs.declared.fault.TypeFault.TheVariants.{Rule, Main, Place, Memory}
+use Rattle.rc_deletes.specs.declared.fault.Refusal.TheVariants as node_refusal
+use Rattle.rc_deletes.specs.declared.deletes.DeletesFault.TheVariants as place_refusal
+use Rattle.rc_typing.specs.declared.fault.TypeFault.TheVariants.{Unknown, Twice, Mistyped, Arity, AnnotationPlace, NotDeletes, DeletesPlace, Main, TooBig, Memory}
 
 -- the tree of at most so many words, whose string literals are no longer than a text may be
 pub record IsWritten (tree : Tree) : Type 0 where
@@ -17,9 +19,15 @@ pub record IsWritten (tree : Tree) : Type 0 where
   pub short : AreShort words
 
 abbrev pub Refuses : Tree → TypeFault → Type 0
-Refuses tree (Rule k line) = refusal tree ≡ Some (at_node k line)
+Refuses tree (Unknown line) = refusal tree ≡ Some (at_node node_refusal.Unknown line)
+Refuses tree (Twice line) = refusal tree ≡ Some (at_node node_refusal.Twice line)
+Refuses tree (Mistyped line) = refusal tree ≡ Some (at_node node_refusal.Mistyped line)
+Refuses tree (Arity line) = refusal tree ≡ Some (at_node node_refusal.Arity line)
+Refuses tree (AnnotationPlace line) = refusal tree ≡ Some (at_place (place_refusal.AnnotationPlace line))
+Refuses tree (NotDeletes line) = refusal tree ≡ Some (at_place (place_refusal.NotDeletes line))
+Refuses tree (DeletesPlace line) = refusal tree ≡ Some (at_place (place_refusal.DeletesPlace line))
 Refuses tree (Main line) = refusal tree ≡ Some (at_main line)
-Refuses tree (Place fault) = refusal tree ≡ Some (at_place fault)
+Refuses tree (TooBig line) = refusal tree ≡ Some (at_node node_refusal.TooBig line)
 Refuses tree Memory = Unit {0}
 
 abbrev pub Checks : Tree → Result Parts TypeFault → Type 0

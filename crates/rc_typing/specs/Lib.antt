@@ -1,14 +1,5 @@
-pub mod Alone
-pub mod Building
 pub mod Checks
-pub mod Contexts
-pub mod Fields
-pub mod Firsts
-pub mod Groups
+pub mod Enclosing
 pub mod Here
-pub mod Loops
-pub mod Main
 pub mod Outside
 pub mod Parts
-pub mod Pointed
-pub mod Sizes

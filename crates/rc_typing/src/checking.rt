@@ -1,37 +1,32 @@
 // Whole texts.
-ghost use Rattle.std.specs.Prelude.{◌≡◌, ◌&&◌, List, ◌∷◌, true, map, IfOk, IfErr};
+ghost use Rattle.std.specs.Prelude.{◌≡◌, ◌&&◌, Some, map, IfOk, IfErr};
 ghost use Rattle.std.specs.Str.{bytes_eq};
 ghost use Rattle.rc_core.specs.Shapes.{struct_of, program_of};
 ghost use Rattle.rc_deletes.specs.Answer as answer;
-ghost use Rattle.rc_deletes.specs.Answer.{main_fault};
+ghost use Rattle.rc_deletes.specs.Answer.{refusal, main_fault, main_shape_of, is_definition_of_main};
 ghost use Rattle.rc_deletes.specs.Items.{main_name, judged};
 ghost use Rattle.rc_deletes.specs.Judged.{Holds};
 ghost use Rattle.rc_deletes.specs.Kinds.{place_of, number_or};
 ghost use Rattle.rc_deletes.specs.Scopes.{structs_in};
-ghost use Rattle.rc_rules.specs.Stops.{StopsAt};
+ghost use Rattle.rc_operators.specs.Stops.{StopsAt};
 ghost use Rattle.rc_syntax.specs.Shape as written;
 ghost use Rattle.rc_syntax.specs.Shape.{tree_of};
 ghost use Rattle.rc_syntax.specs.Tree as t;
 ghost use Rattle.rc_typing.specs.Checks.{Checks, IsWritten, Refuses};
-ghost use Rattle.rc_typing.specs.Contexts.{context_of};
-ghost use Rattle.rc_typing.specs.Fields.{struct_in};
-ghost use Rattle.rc_typing.specs.Main.{is_definition_of_main};
+ghost use Rattle.rc_terms.specs.Contexts.{context_of};
+ghost use Rattle.rc_terms.specs.Fields.{struct_in};
 
 use crate::bounds::numbers;
-use crate::building::context;
-use crate::context::Context;
 use crate::fault::TypeFault;
-use crate::fields::Fields;
 use crate::items::{Whole, items};
 use rc_core::parts::{Field, Parts, Struct};
 use rc_core::program::Program;
-use rc_deletes::check_deletes;
 use rc_deletes::laws::{fits_together, keeps_limits};
-use rc_rules::Stop;
-use rc_rules::items::{gives_int, main_shape, takes_nothing};
-use rc_rules::kinds::copy_of;
-use rc_rules::stop::add;
+use rc_deletes::{DeletesFault, Fault, Refusal, check_deletes};
+use rc_operators::{Stop, add, copy_of};
+use rc_rules::{gives_int, main_shape, takes_nothing};
 use rc_syntax::tree::{Item, Name, Param, Spot, Tree, TypeName};
+use rc_terms::{Context, Fields, gather};
 use std::alloc::Global;
 
 const MAIN: &[u8] = b"main";
@@ -63,13 +58,12 @@ fn defines_main(item: &Item) -> bool
     }
 }
 
-/// What is wrong with `main` where an item defines it.
-#[tactic(auto, using(crate::proofs::Mains::alike))]
+/// The line of a function that has parameters or another result than `int`.
 fn fault_in(item: &Item) -> Option<u32>
-    ensures { (rest : List t.Item) → is_definition_of_main (written.item_of item.now) ≡ true → result ≡ main_fault (written.item_of item.now ∷ rest) }
+    ensures { result ≡ main_shape_of (written.item_of item.now) }
 {
     match item {
-        Item::Function(at, _, gives, _, params, Some(_)) => shape_of_main(*at, gives, params),
+        Item::Function(at, _, gives, _, params, _) => shape_of_main(*at, gives, params),
         _ => None,
     }
 }
@@ -135,7 +129,7 @@ fn parts_of(alloc: Global, tree: &Tree) -> Result<Parts, Stop>
     ensures ok { IfOk result (λ parts. judged (tree_of tree.now) ≡ Holds (program_of parts)) }
     ensures err { IfErr result (StopsAt (judged (tree_of tree.now))) }
 {
-    let context = context(alloc, &tree.items)?;
+    let context = gather(alloc, &tree.items)?;
     let Whole {
         globals,
         functions,
@@ -151,11 +145,37 @@ fn parts_of(alloc: Global, tree: &Tree) -> Result<Parts, Stop>
     })
 }
 
+/// The refusal of a rule that fails at a node.
+fn at_node(fault: Fault) -> TypeFault
+    ensures { (tree : t.Tree) → refusal tree ≡ Some (answer.at_node fault.refusal fault.at.line) → Refuses tree result }
+{
+    let line = fault.at.line;
+    match fault.refusal {
+        Refusal::Unknown => TypeFault::Unknown(line),
+        Refusal::Twice => TypeFault::Twice(line),
+        Refusal::Mistyped => TypeFault::Mistyped(line),
+        Refusal::Arity => TypeFault::Arity(line),
+        Refusal::TooBig => TypeFault::TooBig(line),
+    }
+}
+
+/// The refusal of a place where regions are deleted or pointers annotated.
+fn at_place(fault: DeletesFault) -> TypeFault
+    ensures { (tree : t.Tree) → refusal tree ≡ Some (answer.at_place fault) → Refuses tree result }
+{
+    match fault {
+        DeletesFault::AnnotationPlace(line) => TypeFault::AnnotationPlace(line),
+        DeletesFault::NotDeletes(line) => TypeFault::NotDeletes(line),
+        DeletesFault::DeletesPlace(line) => TypeFault::DeletesPlace(line),
+    }
+}
+
+/// Why a tree is refused whose walk stops so.
 fn fault_of(stop: Stop) -> TypeFault
     ensures { (tree : t.Tree) → StopsAt (judged tree) stop → Refuses tree result }
 {
     match stop {
-        Stop::Rule(fault) => TypeFault::Rule(fault.refusal, fault.at.line),
+        Stop::Rule(fault) => at_node(fault),
         Stop::Memory => TypeFault::Memory,
     }
 }
@@ -174,7 +194,7 @@ fn program_with(tree: &Tree, parts: Parts) -> Result<Program, TypeFault>
     fits_together(tree);
     match check_deletes(tree, &parts) {
         Ok(()) => Ok(Program::new(parts)),
-        Err(fault) => Err(TypeFault::Place(fault)),
+        Err(fault) => Err(at_place(fault)),
     }
 }
 
@@ -183,7 +203,7 @@ fn program_with(tree: &Tree, parts: Parts) -> Result<Program, TypeFault>
 /// # Errors
 ///
 /// The first refusal: of a node where a rule on names, types, arities and sizes fails; where none
-/// does, of `main`; and then of the places of deletions and annotations. Or memory is wanting.
+/// does, of `main`; and then of the places of deletions and annotations. Or out of memory.
 pub fn check(alloc: Global, tree: &Tree) -> Result<Program, TypeFault>
     requires { IsWritten (tree_of tree.now) }
     ensures { Checks (tree_of tree.now) result }

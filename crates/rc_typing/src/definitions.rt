@@ -4,31 +4,28 @@ ghost use Rattle.rc_core.specs.Shapes.{ty_of, global_of};
 ghost use Rattle.rc_deletes.specs.Items as rule;
 ghost use Rattle.rc_deletes.specs.Judged.{Holds};
 ghost use Rattle.rc_deletes.specs.Kinds.{written_type};
-ghost use Rattle.rc_deletes.specs.Scopes.{type_names, meaning_in};
+ghost use Rattle.rc_deletes.specs.Scopes.{meaning_in};
 ghost use Rattle.rc_rules.specs.Shapes.{meaning_of};
-ghost use Rattle.rc_rules.specs.Stops.{StopsAt};
+ghost use Rattle.rc_operators.specs.Stops.{StopsAt};
 ghost use Rattle.rc_syntax.specs.Shape as written;
 ghost use Rattle.rc_syntax.specs.Tree as t;
-ghost use Rattle.rc_typing.specs.Contexts.{context_of, scope_of};
+ghost use Rattle.rc_terms.specs.Contexts.{context_of, scope_of};
 ghost use Rattle.rc_typing.specs.Outside.{outside_of};
 ghost use Rattle.rc_typing.specs.Parts.{written_global};
-ghost use Rattle.rc_typing.specs.Sizes.{SameUpTo};
+ghost use Rattle.rc_terms.specs.Sizes.{SameUpTo};
 
-use crate::by_value::{before_field, cell_type, shares_with_next};
-use crate::context::Context;
-use crate::names::{add_name, meaning};
 use crate::outside::Outside;
 use crate::parts::WrittenGlobal;
-use crate::sizes::{cells_of, size_by};
 use rc_core::parts::Global as GlobalPart;
 use rc_core::ty::Ty;
 use rc_deletes::Refusal;
-use rc_rules::items::{global_rule, initial_of, is_defined_before, is_empty, once};
-use rc_rules::kinds::copy_of;
-use rc_rules::stop::refuse_where;
-use rc_rules::{Meaning, Stop};
+use rc_operators::{Stop, copy_of, refuse_where};
+use rc_rules::{Meaning, global_rule, initial_of, is_defined_before, is_empty, once};
 use rc_scope::{Names, Scopes};
 use rc_syntax::tree::{Field, Name, Spot};
+use rc_terms::{
+    Context, add_name, before_field, cell_type, cells_of, meaning, shares_with_next, size_by,
+};
 use std::alloc::Global;
 
 /// Whether a name is among others.
@@ -38,8 +35,8 @@ fn is_among(names: &Names, name: &Name) -> bool
     names.find(name.text.as_slice()).is_some()
 }
 
-/// A field of a struct, behind the earlier ones.
-#[tactic(auto, using(crate::proofs::Stops::left_stops, crate::proofs::Stops::right_stops, crate::proofs::Stops::both_stop, crate::proofs::Stops::both_ruled, crate::proofs::Ruled::ruled_kept, crate::proofs::Ruled::ruled_broken))]
+/// A field of a struct, after the earlier ones.
+#[tactic(auto, using(rc_terms::proofs::Stops::left_stops, rc_terms::proofs::Stops::right_stops, rc_terms::proofs::Stops::both_stop, rc_terms::proofs::Stops::both_ruled, crate::proofs::Ruled::ruled_kept, crate::proofs::Ruled::ruled_broken))]
 fn field(
     f: &Field,
     alloc: Global,
@@ -103,7 +100,7 @@ pub(crate) fn structure(
     refuse_where(is_too_big(context, number), at, Refusal::TooBig)
 }
 
-/// How many are defined behind the definition with this number.
+/// How many are defined after the definition with this number.
 pub(crate) fn behind_definition(count: u32, number: Option<u32>) -> Result<u32, Stop>
     ensures ok { IfOk result (λ n. n ≡ rule.behind_definition count number) }
     ensures err { IfErr result (λ s. s ≡ Stop.Memory) }
@@ -140,11 +137,11 @@ pub(crate) fn add_meaning(
     }
 }
 
-/// The cells of the globals, with one more behind those before it.
+/// The cells of the globals, with one more after those before it.
 #[tactic(auto, using(crate::proofs::Totals::total_same))]
 fn cells_with(context: &Context, cells: u64, ty: &Ty, length: Option<u32>) -> u64
     requires { cells ≤ 1048576 }
-    ensures { (n : t.TypeName) → ty_of ty.now ≡ written_type (type_names (context_of context.now)) n → SameUpTo 1048576 result (cells + rule.cells_of_global (context_of context.now) n length) }
+    ensures { (n : t.TypeName) → ty_of ty.now ≡ written_type (context_of context.now).types n → SameUpTo 1048576 result (cells + rule.cells_of_global (context_of context.now) n length) }
 {
     cells + cells_of(size_by(context.sizes.as_slice(), ty), length)
 }
@@ -168,7 +165,7 @@ fn is_known(names: &Scopes<Meaning>, name: &Name) -> bool
     meaning(names, name).is_some()
 }
 
-/// The number of globals behind one more.
+/// The number of globals, with one more.
 fn next_global(globals: u32) -> Result<u32, Stop>
     ensures ok { IfOk result (λ n. n ≡ suc globals) }
     ensures err { IfErr result (λ s. s ≡ Stop.Memory) }
@@ -179,7 +176,7 @@ fn next_global(globals: u32) -> Result<u32, Stop>
     Ok(globals + 1)
 }
 
-/// A global behind those before it.
+/// A global after those before it.
 pub(crate) fn global(
     g: &WrittenGlobal<'_>,
     alloc: Global,

@@ -5,37 +5,32 @@ ghost use Rattle.rc_core.specs.Typing as typing;
 ghost use Rattle.rc_deletes.specs.Items as rule;
 ghost use Rattle.rc_deletes.specs.Judged.{Holds};
 ghost use Rattle.rc_deletes.specs.Kinds.{written_type};
-ghost use Rattle.rc_deletes.specs.Scopes.{type_names, meaning_in};
+ghost use Rattle.rc_deletes.specs.Scopes.{meaning_in};
 ghost use Rattle.rc_rules.specs.Shapes.{signature_of};
-ghost use Rattle.rc_rules.specs.Stops.{StopsAt};
+ghost use Rattle.rc_operators.specs.Stops.{StopsAt};
 ghost use Rattle.rc_syntax.specs.Shape as written;
-ghost use Rattle.rc_typing.specs.Contexts.{context_of, scope_of};
+ghost use Rattle.rc_terms.specs.Contexts.{context_of, scope_of};
 ghost use Rattle.rc_typing.specs.Here.{here_of};
 ghost use Rattle.rc_typing.specs.Outside.{outside_of};
 ghost use Rattle.rc_typing.specs.Parts.{written_params, written_result, written_signature, with_function};
 
-use crate::building::type_in;
-use crate::context::Context;
-use crate::defined::defined_type;
 use crate::definitions::add_meaning;
 use crate::here::Here;
 use crate::locals::{add_local, named_local, new_name};
-use crate::names::meaning;
 use crate::outside::Outside;
 use crate::parts::Head;
 use rc_core::ty::Ty;
 use rc_deletes::Refusal;
-use rc_rules::items::function_name;
-use rc_rules::kinds::is_struct;
-use rc_rules::stop::{add, refuse_where};
-use rc_rules::{Meaning, Signature, Stop};
+use rc_operators::{Stop, add, is_struct, refuse_where};
+use rc_rules::{Meaning, Signature, function_name};
 use rc_syntax::tree::{Name, Param, TypeName};
+use rc_terms::{Context, defined_type, meaning, type_in};
 use std::alloc::Global;
 
 /// The types of parameters.
-#[tactic(auto, using(crate::proofs::Params::taken_step, crate::proofs::Params::taken_end, crate::proofs::Contexts::types_are))]
+#[tactic(auto, using(crate::proofs::Params::taken_step, crate::proofs::Params::taken_end))]
 fn taken(alloc: Global, context: &Context, params: &[Param]) -> Result<Vec<Ty>, Stop>
-    ensures ok { IfOk result (λ types. map ty_of types.items ≡ map (λ q. written_type (type_names (context_of context.now)) q.type_name) (map written.param_of params.now)) }
+    ensures ok { IfOk result (λ types. map ty_of types.items ≡ map (λ q. written_type (context_of context.now).types q.type_name) (map written.param_of params.now)) }
     ensures err { IfErr result (λ s. s ≡ Stop.Memory) }
 {
     let mut types = Vec::new(alloc);
@@ -47,7 +42,6 @@ fn taken(alloc: Global, context: &Context, params: &[Param]) -> Result<Vec<Ty>, 
 }
 
 /// The type of a result, none for `void`.
-#[tactic(auto, using(crate::proofs::Contexts::types_are))]
 pub(crate) fn given(
     alloc: Global,
     context: &Context,
@@ -119,7 +113,7 @@ fn is_unfit(ty: &Ty, has_body: bool, name: &Option<Name>) -> bool
 
 /// A parameter is a local, which may have no name.
 fn add_param(alloc: Global, here: &mut Here, ty: &Ty, q: &Param) -> Result<(), Stop>
-    ensures ok { (context : Context) → ty_of ty.now ≡ written_type (type_names (context_of context)) (written.type_of q.now.type_name) → OnOk result (here_of here.new ≡ rule.with_param (context_of context) (here_of here.old) (written.param_of q.now)) }
+    ensures ok { (context : Context) → ty_of ty.now ≡ written_type (context_of context).types (written.type_of q.now.type_name) → OnOk result (here_of here.new ≡ rule.with_param (context_of context) (here_of here.old) (written.param_of q.now)) }
     ensures err { IfErr result (λ s. s ≡ Stop.Memory) }
 {
     match &q.name {
@@ -132,7 +126,7 @@ fn add_param(alloc: Global, here: &mut Here, ty: &Ty, q: &Param) -> Result<(), S
 }
 
 /// A parameter, which is a local from here on.
-#[tactic(auto, using(crate::proofs::Stops::left_stops, crate::proofs::Stops::right_stops, crate::proofs::Stops::both_stop, crate::proofs::Stops::both_ruled))]
+#[tactic(auto, using(rc_terms::proofs::Stops::left_stops, rc_terms::proofs::Stops::right_stops, rc_terms::proofs::Stops::both_stop, rc_terms::proofs::Stops::both_ruled))]
 fn param(
     q: &Param,
     alloc: Global,
@@ -189,7 +183,7 @@ fn declare_name(
 }
 
 /// The result and the name of a function, which is declared from here on.
-#[tactic(auto, using(crate::proofs::Stops::left_stops, crate::proofs::Stops::second_stops))]
+#[tactic(auto, using(rc_terms::proofs::Stops::left_stops, rc_terms::proofs::Stops::second_stops))]
 pub(crate) fn declare(
     head: &Head<'_>,
     has_body: bool,

@@ -2,11 +2,12 @@
 ghost use Rattle.std.specs.Prelude.{◌≡◌, ◌++◌, length, IfOk, IfErr, OnOk};
 ghost use Rattle.rc_deletes.specs.Scopes.{Scope};
 ghost use Rattle.rc_deletes.specs.Statements as rule;
-ghost use Rattle.rc_typing.specs.Contexts.{scope_of};
+ghost use Rattle.rc_terms.specs.Contexts.{scope_of};
 ghost use Rattle.rc_typing.specs.Here.{here_of, outer_of};
 
 use rc_core::ty::Ty;
-use rc_rules::{Meaning, Stop};
+use rc_operators::Stop;
+use rc_rules::Meaning;
 use rc_scope::Scopes;
 
 /// Where a node of a function stands.

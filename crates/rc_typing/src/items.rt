@@ -5,17 +5,16 @@ ghost use Rattle.rc_deletes.specs.Items as rule;
 ghost use Rattle.rc_deletes.specs.Judged.{Holds, with_parts};
 ghost use Rattle.rc_deletes.specs.Scopes.{a_builtin};
 ghost use Rattle.rc_deletes.specs.Statements as statements;
-ghost use Rattle.rc_rules.specs.Stops.{StopsAt};
+ghost use Rattle.rc_operators.specs.Stops.{StopsAt};
 ghost use Rattle.rc_syntax.specs.Shape as written;
 ghost use Rattle.rc_syntax.specs.Tree as t;
-ghost use Rattle.rc_typing.specs.Contexts.{context_of, scope_of};
+ghost use Rattle.rc_terms.specs.Contexts.{context_of, scope_of};
 ghost use Rattle.rc_typing.specs.Here.{here_of};
 ghost use Rattle.rc_typing.specs.Outside.{outside_of, made_of, all_made};
 ghost use Rattle.rc_typing.specs.Parts.{written_global, written_function};
 
-use crate::by_value::{before_global, goes_on};
-use crate::context::Context;
 use crate::definitions::{behind_definition, global, structure};
+use crate::enclosing::Enclosing;
 use crate::heads::{declare, given, params_of};
 use crate::here::Here;
 use crate::outside::Outside;
@@ -26,11 +25,11 @@ use rc_core::parts::{Function, Global as GlobalPart};
 use rc_core::stmt::Stmt as Step;
 use rc_core::ty::Ty;
 use rc_deletes::{Builtin, Refusal};
-use rc_rules::items::is_struct_option;
-use rc_rules::stop::{add, refuse_where};
-use rc_rules::{Meaning, Stop};
+use rc_operators::{Stop, add, refuse_where};
+use rc_rules::{Meaning, is_struct_option};
 use rc_scope::Scopes;
 use rc_syntax::tree::{Field, Item, Name, Param, Spot, Stmt};
+use rc_terms::{Context, before_global, goes_on};
 use std::alloc::Global;
 
 /// A struct.
@@ -105,7 +104,13 @@ fn body_of(
 {
     let outer = here.outer();
     params_of(params, alloc, context, true, here)?;
-    let steps = stmts(body, alloc, context, gives, false, here)?;
+    let enclosing = Enclosing {
+        alloc,
+        context,
+        gives,
+        looping: false,
+    };
+    let steps = stmts(body, &enclosing, here)?;
     here.leave(outer);
     Ok(steps)
 }
@@ -188,8 +193,8 @@ fn item(i: &Item, alloc: Global, context: &Context, outside: &mut Outside) -> Re
     }
 }
 
-/// Puts what an item adds behind what the items before it added.
-#[tactic(auto, using(crate::proofs::Lists::map_push))]
+/// Puts what an item adds after what the items before it added.
+#[tactic(auto, using(rc_terms::proofs::Lists::map_push))]
 fn keep(
     p: Produced,
     globals: &mut Vec<GlobalPart>,

@@ -2,26 +2,19 @@
 #![tactic(auto)]
 
 mod bounds;
-mod building;
-mod by_value;
 mod checking;
-mod context;
-mod defined;
 mod definitions;
-mod expressions;
-pub mod fault;
-mod fields;
+mod enclosing;
+mod fault;
 mod heads;
 mod here;
 mod items;
 mod locals;
-mod names;
 mod nodes;
 mod outside;
+mod own;
 mod parts;
-mod places;
 mod produced;
-mod sizes;
 mod statements;
 mod steps;
 

@@ -4,25 +4,22 @@ ghost use Rattle.rc_core.specs.Shapes.{ty_of, stmt_of, stmts_of};
 ghost use Rattle.rc_deletes.specs.Judged.{Holds};
 ghost use Rattle.rc_deletes.specs.Scopes.{a_local};
 ghost use Rattle.rc_deletes.specs.Statements as rule;
-ghost use Rattle.rc_rules.specs.Stops.{StopsAt};
+ghost use Rattle.rc_operators.specs.Stops.{StopsAt};
 ghost use Rattle.rc_syntax.specs.Shape as written;
-ghost use Rattle.rc_typing.specs.Contexts.{context_of, scope_of};
+ghost use Rattle.rc_terms.specs.Contexts.{context_of, scope_of};
 ghost use Rattle.rc_typing.specs.Here.{here_of};
 
-use crate::context::Context;
-use crate::defined::defined_type;
 use crate::here::Here;
-use crate::names::meaning;
-use crate::steps::{empty_block, simple, value_option};
+use crate::nodes::{block, empty_block};
+use crate::own::{own_simple, own_value};
 use rc_core::stmt::Stmt as Step;
 use rc_core::ty::Ty;
 use rc_deletes::Refusal;
-use rc_rules::kinds::copy_of;
-use rc_rules::statements::{declaration, is_twice};
-use rc_rules::stop::{add, fails, fitting};
-use rc_rules::{Meaning, Stop};
+use rc_operators::{Stop, add, copy_of, fails};
+use rc_rules::{Meaning, declaration, fitting, is_twice};
 use rc_scope::Scopes;
 use rc_syntax::tree::{ForStart, Local, Name};
+use rc_terms::{Context, defined_type, meaning};
 use std::alloc::Global;
 
 /// A declared name is new in its scope.
@@ -37,7 +34,7 @@ pub(crate) fn new_name(here: &Here, name: &Name) -> Result<(), Stop>
 }
 
 /// A name stands for a local.
-#[tactic(auto, using(crate::proofs::Meanings::scope_more))]
+#[tactic(auto, using(rc_terms::proofs::Meanings::scope_more))]
 fn name_local(
     alloc: Global,
     names: &mut Scopes<Meaning>,
@@ -55,8 +52,8 @@ fn name_local(
     }
 }
 
-/// A local of a type behind those before it.
-#[tactic(auto, using(crate::proofs::Lists::map_push))]
+/// Puts a local of a type after those before it.
+#[tactic(auto, using(rc_terms::proofs::Lists::map_push))]
 pub(crate) fn add_local(alloc: Global, locals: &mut Vec<Ty>, ty: &Ty) -> Result<(), Stop>
     ensures ok { OnOk result (map ty_of locals.new.items ≡ map ty_of locals.old.items ++ ty_of ty.now ∷ []) }
     ensures err { IfErr result (λ s. s ≡ Stop.Memory) }
@@ -78,27 +75,27 @@ pub(crate) fn named_local(alloc: Global, here: &mut Here, ty: &Ty, name: &Name) 
 }
 
 /// A declarator of a local.
-#[tactic(auto, using(crate::proofs::Stops::left_stops, crate::proofs::Stops::second_stops, crate::proofs::Stops::third_stops, crate::proofs::Stops::all_stop, crate::proofs::Stops::all_ruled))]
+#[tactic(auto, using(rc_terms::proofs::Stops::left_stops, rc_terms::proofs::Stops::second_stops, rc_terms::proofs::Stops::third_stops, rc_terms::proofs::Stops::all_stop, rc_terms::proofs::Stops::all_ruled))]
 pub(crate) fn local(
     l: &Local,
     alloc: Global,
     context: &Context,
     here: &mut Here,
-) -> Result<Step, Stop>
-    ensures ok { IfOk result (λ s. rule.local (context_of context.now) (here_of here.old) (written.local_of l.now) ≡ Holds (stmt_of s)) }
+) -> Result<Box<Step>, Stop>
+    ensures ok { IfOk result (λ s. rule.local (context_of context.now) (here_of here.old) (written.local_of l.now) ≡ Holds (stmt_of s.value)) }
     ensures behind { OnOk result (here_of here.new ≡ rule.behind_local (context_of context.now) (here_of here.old) (written.local_of l.now)) }
     ensures err { IfErr result (StopsAt (rule.local (context_of context.now) (here_of here.old) (written.local_of l.now))) }
 {
     let ty = defined_type(alloc, context, &l.type_name)?;
     new_name(here, &l.name)?;
     let number = named_local(alloc, here, &ty, &l.name)?;
-    let initial = value_option(&l.initial, alloc, context, &here.names, &mut here.strings)?;
+    let initial = own_value(&l.initial, alloc, context, here)?;
     let step = declaration(alloc, l.spot.line, number, &ty, initial)?;
     fitting(l.spot, step)
 }
 
 /// The declarators of locals, in their order.
-#[tactic(auto, using(crate::proofs::Walks::after_steps_nil, crate::proofs::Walks::locals_step, crate::proofs::Walks::locals_end, crate::proofs::Walks::locals_stop, crate::proofs::Walks::locals_behind, crate::proofs::Walks::locals_behind_end, crate::proofs::Lists::map_push))]
+#[tactic(auto, using(crate::proofs::Walks::after_steps_nil, crate::proofs::Walks::locals_step, crate::proofs::Walks::locals_end, crate::proofs::Walks::locals_stop, crate::proofs::Walks::locals_behind, crate::proofs::Walks::locals_behind_end, rc_terms::proofs::Lists::map_push))]
 pub(crate) fn locals_of(
     ls: &[Local],
     alloc: Global,
@@ -112,29 +109,29 @@ pub(crate) fn locals_of(
     let mut steps = Vec::new(alloc);
     for l in ls {
         let step = local(l, alloc, context, here)?;
-        add(&mut steps, step)?;
+        add(&mut steps, Box::into_inner(step))?;
     }
     Ok(steps)
 }
 
 /// The first part of the head of a `for`.
-#[tactic(auto, using(crate::proofs::Stops::part_stops, crate::proofs::Stops::part_held, rc_core::proofs::ShapeRows::made_block))]
+#[tactic(auto, using(rc_terms::proofs::Stops::part_stops, rc_terms::proofs::Stops::part_held))]
 pub(crate) fn for_start(
     start: &ForStart,
     alloc: Global,
     context: &Context,
     here: &mut Here,
-) -> Result<Step, Stop>
-    ensures ok { IfOk result (λ s. rule.for_start (context_of context.now) (here_of here.old) (written.start_of start.now) ≡ Holds (stmt_of s)) }
+) -> Result<Box<Step>, Stop>
+    ensures ok { IfOk result (λ s. rule.for_start (context_of context.now) (here_of here.old) (written.start_of start.now) ≡ Holds (stmt_of s.value)) }
     ensures behind { OnOk result (here_of here.new ≡ rule.behind_start (context_of context.now) (here_of here.old) (written.start_of start.now)) }
     ensures err { IfErr result (StopsAt (rule.for_start (context_of context.now) (here_of here.old) (written.start_of start.now))) }
 {
     match start {
-        ForStart::Nothing => Ok(empty_block(alloc)),
-        ForStart::Simple(s) => simple(s, alloc, context, &here.names, &mut here.strings),
+        ForStart::Nothing => empty_block(alloc),
+        ForStart::Simple(s) => own_simple(s, alloc, context, here),
         ForStart::Locals(ls) => {
             let body = locals_of(ls, alloc, context, here)?;
-            Ok(Step::Block { body })
+            block(alloc, body)
         }
     }
 }

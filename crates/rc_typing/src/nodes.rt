@@ -1,70 +1,108 @@
 // Statements, made of their parts.
 ghost use Rattle.std.specs.Prelude.{◌≡◌, option_map, IfOk, IfErr};
 ghost use Rattle.rc_core.specs.Programs as p;
-ghost use Rattle.rc_core.specs.Shapes.{expr_of, stmt_of};
+ghost use Rattle.rc_core.specs.Shapes.{expr_of, stmt_of, stmts_of};
 
 use rc_core::expr::Expr as Value;
 use rc_core::stmt::Stmt as Step;
-use rc_rules::Stop;
-use rc_rules::stop::boxed;
+use rc_operators::{Stop, boxed};
 use std::alloc::Global;
+
+/// A block of these statements.
+#[tactic(auto, using(rc_core::proofs::ShapeRows::made_block))]
+pub(crate) fn block(alloc: Global, body: Vec<Step>) -> Result<Box<Step>, Stop>
+    ensures ok { IfOk result (λ s. stmt_of s.value ≡ p.block (stmts_of body.items)) }
+    ensures err { IfErr result (λ s. s ≡ Stop.Memory) }
+{
+    boxed(alloc, Step::Block { body })
+}
+
+/// The block without statements.
+pub(crate) fn empty_block(alloc: Global) -> Result<Box<Step>, Stop>
+    ensures ok { IfOk result (λ s. stmt_of s.value ≡ p.block p.done) }
+    ensures err { IfErr result (λ s. s ≡ Stop.Memory) }
+{
+    block(alloc, Vec::new(alloc))
+}
 
 /// `if`, whose absent `else` is an empty block.
 pub(crate) fn branch(
     alloc: Global,
     line: u32,
-    test: Value,
-    yes: Step,
-    no: Step,
-) -> Result<Step, Stop>
-    ensures ok { IfOk result (λ s. stmt_of s ≡ p.branch line (expr_of test) (stmt_of yes) (stmt_of no)) }
+    test: Box<Value>,
+    yes: Box<Step>,
+    no: Box<Step>,
+) -> Result<Box<Step>, Stop>
+    ensures ok { IfOk result (λ s. stmt_of s.value ≡ p.branch line (expr_of test.value) (stmt_of yes.value) (stmt_of no.value)) }
     ensures err { IfErr result (λ s. s ≡ Stop.Memory) }
 {
-    let yes = boxed(alloc, yes)?;
-    let no = boxed(alloc, no)?;
-    Ok(Step::If {
-        line,
-        test,
-        yes,
-        no,
-    })
+    let test = Box::into_inner(test);
+    boxed(
+        alloc,
+        Step::If {
+            line,
+            test,
+            yes,
+            no,
+        },
+    )
 }
 
-pub(crate) fn while_loop(alloc: Global, line: u32, test: Value, body: Step) -> Result<Step, Stop>
-    ensures ok { IfOk result (λ s. stmt_of s ≡ p.while line (expr_of test) (stmt_of body)) }
+pub(crate) fn while_loop(
+    alloc: Global,
+    line: u32,
+    test: Box<Value>,
+    body: Box<Step>,
+) -> Result<Box<Step>, Stop>
+    ensures ok { IfOk result (λ s. stmt_of s.value ≡ p.while line (expr_of test.value) (stmt_of body.value)) }
     ensures err { IfErr result (λ s. s ≡ Stop.Memory) }
 {
-    let body = boxed(alloc, body)?;
-    Ok(Step::While { line, test, body })
+    let test = Box::into_inner(test);
+    boxed(alloc, Step::While { line, test, body })
 }
 
-pub(crate) fn do_loop(alloc: Global, line: u32, body: Step, test: Value) -> Result<Step, Stop>
-    ensures ok { IfOk result (λ s. stmt_of s ≡ p.repeat line (stmt_of body) (expr_of test)) }
+pub(crate) fn do_loop(
+    alloc: Global,
+    line: u32,
+    body: Box<Step>,
+    test: Box<Value>,
+) -> Result<Box<Step>, Stop>
+    ensures ok { IfOk result (λ s. stmt_of s.value ≡ p.repeat line (stmt_of body.value) (expr_of test.value)) }
     ensures err { IfErr result (λ s. s ≡ Stop.Memory) }
 {
-    let body = boxed(alloc, body)?;
-    Ok(Step::Do { line, body, test })
+    let test = Box::into_inner(test);
+    boxed(alloc, Step::Do { line, body, test })
+}
+
+fn unboxed(value: Option<Box<Value>>) -> Option<Value>
+    ensures { option_map expr_of result ≡ option_map (λ e. expr_of e.value) value }
+{
+    match value {
+        None => None,
+        Some(value) => Some(Box::into_inner(value)),
+    }
 }
 
 pub(crate) fn for_loop(
     alloc: Global,
     line: u32,
-    first: Step,
-    test: Option<Value>,
-    third: Step,
-    body: Step,
-) -> Result<Step, Stop>
-    ensures ok { IfOk result (λ s. stmt_of s ≡ p.for line (stmt_of first) (option_map expr_of test) (stmt_of third) (stmt_of body)) }
+    first: Box<Step>,
+    test: Option<Box<Value>>,
+    third: Box<Step>,
+    body: Box<Step>,
+) -> Result<Box<Step>, Stop>
+    ensures ok { IfOk result (λ s. stmt_of s.value ≡ p.for line (stmt_of first.value) (option_map (λ e. expr_of e.value) test) (stmt_of third.value) (stmt_of body.value)) }
     ensures err { IfErr result (λ s. s ≡ Stop.Memory) }
 {
-    let first = boxed(alloc, first)?;
-    let third = boxed(alloc, third)?;
-    let body = boxed(alloc, body)?;
-    Ok(Step::For {
-        line,
-        first,
-        test,
-        third,
-        body,
-    })
+    let test = unboxed(test);
+    boxed(
+        alloc,
+        Step::For {
+            line,
+            first,
+            test,
+            third,
+            body,
+        },
+    )
 }

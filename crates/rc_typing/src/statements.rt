@@ -1,145 +1,228 @@
-// Statements.
-ghost use Rattle.std.specs.Prelude.{◌≡◌, ◌++◌, map, option_map, IfOk, IfErr, OnOk};
-ghost use Rattle.rc_core.specs.Shapes.{bytes_of, ty_of, stmt_of, stmts_of};
-ghost use Rattle.rc_deletes.specs.Judged.{Holds, with_part, fitting as fits};
+// Statements. The parts of each node are typed in a function of its own, which stays one, so that
+// the walk needs little stack for a level.
+ghost use Rattle.std.specs.Prelude.{◌≡◌, IfOk, IfErr, OnOk};
+ghost use Rattle.rc_core.specs.Programs as p;
+ghost use Rattle.rc_core.specs.Shapes.{stmt_of, stmts_of};
+ghost use Rattle.rc_deletes.specs.Judged.{Holds, with_part};
 ghost use Rattle.rc_deletes.specs.Statements as rule;
-ghost use Rattle.rc_rules.specs.Stops.{StopsAt};
+ghost use Rattle.rc_operators.specs.Stops.{StopsAt};
 ghost use Rattle.rc_syntax.specs.Shape as written;
-ghost use Rattle.rc_typing.specs.Contexts.{context_of, scope_of};
+ghost use Rattle.rc_syntax.specs.Tree as t;
+ghost use Rattle.rc_typing.specs.Enclosing.{context_at, gives_at};
 ghost use Rattle.rc_typing.specs.Here.{here_of};
-ghost use Rattle.rc_typing.specs.Loops.{in_a_loop};
 
-use crate::context::Context;
+use crate::enclosing::Enclosing;
 use crate::here::Here;
 use crate::locals::{for_start, local};
-use crate::nodes::{branch, do_loop, for_loop, while_loop};
-use crate::steps::{condition, condition_option, empty_block, simple, simple_option, value_option};
+use crate::nodes::{block, branch, do_loop, empty_block, for_loop, while_loop};
+use crate::own::{own_condition, own_condition_option, own_simple, own_simple_option, own_value};
 use rc_core::stmt::Stmt as Step;
-use rc_core::ty::Ty;
 use rc_deletes::Refusal;
-use rc_rules::statements::returned;
-use rc_rules::stop::{add, fails, fitting};
-use rc_rules::{Meaning, Stop};
-use rc_scope::Scopes;
-use rc_syntax::tree::{Expr, Spot, Stmt};
+use rc_operators::{Stop, add, boxed, fails};
+use rc_rules::{fitting, returned};
+use rc_syntax::tree::{Expr, ForStart, Simple, Spot, Stmt};
 use std::alloc::Global;
 
 /// A statement that stands in loops alone.
-fn in_loop(looping: bool, at: Spot, step: Step) -> Result<Step, Stop>
-    ensures ok { IfOk result (λ s. in_a_loop looping at (stmt_of step) ≡ Holds (stmt_of s)) }
-    ensures err { IfErr result (StopsAt (in_a_loop looping at (stmt_of step))) }
+fn in_loop(alloc: Global, looping: bool, at: Spot, step: Step) -> Result<Box<Step>, Stop>
+    ensures ok { IfOk result (λ s. rule.in_a_loop looping at (stmt_of step) ≡ Holds (stmt_of s.value)) }
+    ensures err { IfErr result (StopsAt (rule.in_a_loop looping at (stmt_of step))) }
 {
     if looping {
-        return Ok(step);
+        return boxed(alloc, step);
     }
     fails(at, Refusal::Mistyped)
 }
 
 /// `return`, with a value or without.
-#[tactic(auto, using(crate::proofs::Stops::part_stops, crate::proofs::Stops::part_ruled, crate::proofs::Stops::part_held))]
-fn returning(
+#[inline(never)]
+#[tactic(auto, using(rc_terms::proofs::Stops::part_stops, rc_terms::proofs::Stops::part_ruled, rc_terms::proofs::Stops::part_held))]
+fn type_return(
     at: Spot,
     e: &Option<Expr>,
-    alloc: Global,
-    context: &Context,
-    gives: &Option<Ty>,
-    names: &Scopes<Meaning>,
-    strings: &mut Vec<Vec<u8>>,
-) -> Result<Step, Stop>
-    ensures ok { IfOk result (λ s. with_part (rule.value_option (context_of context.now) (scope_of names.now) (map bytes_of strings.old.items) (written.mapped written.expr_of e.now)) (λ v. fits at (rule.returned at.line (option_map ty_of gives.now) v)) ≡ Holds (stmt_of s)) }
-    ensures strings { OnOk result (map bytes_of strings.new.items ≡ map bytes_of strings.old.items ++ rule.strings_in_option (written.mapped written.expr_of e.now)) }
-    ensures err { IfErr result (StopsAt (with_part (rule.value_option (context_of context.now) (scope_of names.now) (map bytes_of strings.old.items) (written.mapped written.expr_of e.now)) (λ v. fits at (rule.returned at.line (option_map ty_of gives.now) v)))) }
+    enclosing: &Enclosing<'_>,
+    here: &mut Here,
+) -> Result<Box<Step>, Stop>
+    ensures ok { IfOk result (λ s. rule.stmt (context_at enclosing.now) (gives_at enclosing.now) enclosing.now.looping (here_of here.old) (t.return_with at (written.mapped written.expr_of e.now)) ≡ Holds (stmt_of s.value)) }
+    ensures behind { OnOk result (here_of here.new ≡ rule.behind_option (here_of here.old) (written.mapped written.expr_of e.now)) }
+    ensures err { IfErr result (StopsAt (rule.stmt (context_at enclosing.now) (gives_at enclosing.now) enclosing.now.looping (here_of here.old) (t.return_with at (written.mapped written.expr_of e.now)))) }
 {
-    let v = value_option(e, alloc, context, names, strings)?;
-    let step = returned(alloc, at.line, gives, v)?;
+    let v = own_value(e, enclosing.alloc, enclosing.context, here)?;
+    let step = returned(enclosing.alloc, at.line, enclosing.gives, v)?;
     fitting(at, step)
 }
 
-/// A statement, in a function with this result, in a loop or not. Its names, locals and strings
-/// are put behind those before it; names hold to the end of their block.
+/// A block, whose names hold to its end.
+#[inline(never)]
 #[cycle(statements)]
-pub(crate) fn stmt(
-    s: &Stmt,
-    alloc: Global,
-    context: &Context,
-    gives: &Option<Ty>,
-    looping: bool,
-    here: &mut Here,
-) -> Result<Step, Stop>
-    ensures ok { IfOk result (λ r. rule.stmt (context_of context.now) (option_map ty_of gives.now) looping (here_of here.old) (written.stmt_of s.now) ≡ Holds (stmt_of r)) }
-    ensures behind { OnOk result (here_of here.new ≡ rule.behind_stmt (context_of context.now) (here_of here.old) (written.stmt_of s.now)) }
-    ensures err { IfErr result (StopsAt (rule.stmt (context_of context.now) (option_map ty_of gives.now) looping (here_of here.old) (written.stmt_of s.now))) }
+fn type_block(body: &[Stmt], enclosing: &Enclosing<'_>, here: &mut Here) -> Result<Box<Step>, Stop>
+    ensures ok { IfOk result (λ s. with_part (rule.stmts (context_at enclosing.now) (gives_at enclosing.now) enclosing.now.looping (rule.inside (here_of here.old)) (written.stmts_of body.now)) (λ b. Holds (p.block b)) ≡ Holds (stmt_of s.value)) }
+    ensures behind { OnOk result (here_of here.new ≡ rule.outside (here_of here.old) (rule.behind_stmts (context_at enclosing.now) (rule.inside (here_of here.old)) (written.stmts_of body.now))) }
+    ensures err { IfErr result (StopsAt (with_part (rule.stmts (context_at enclosing.now) (gives_at enclosing.now) enclosing.now.looping (rule.inside (here_of here.old)) (written.stmts_of body.now)) (λ b. Holds (p.block b)))) }
 {
+    let outer = here.outer();
+    here.enter()?;
+    let steps = stmts(body, enclosing, here)?;
+    here.leave(outer);
+    block(enclosing.alloc, steps)
+}
+
+/// `if` without `else`.
+#[inline(never)]
+#[cycle(statements)]
+#[tactic(auto, using(rc_terms::proofs::Stops::left_stops, rc_terms::proofs::Stops::right_stops, rc_terms::proofs::Stops::both_ruled))]
+fn type_if(
+    at: Spot,
+    c: &Expr,
+    a: &Stmt,
+    enclosing: &Enclosing<'_>,
+    here: &mut Here,
+) -> Result<Box<Step>, Stop>
+    ensures ok { IfOk result (λ s. rule.stmt (context_at enclosing.now) (gives_at enclosing.now) enclosing.now.looping (here_of here.old) (t.if_then at (written.expr_of c.now) (written.stmt_of a.now)) ≡ Holds (stmt_of s.value)) }
+    ensures behind { OnOk result (here_of here.new ≡ rule.behind_stmt (context_at enclosing.now) (here_of here.old) (t.if_then at (written.expr_of c.now) (written.stmt_of a.now))) }
+    ensures err { IfErr result (StopsAt (rule.stmt (context_at enclosing.now) (gives_at enclosing.now) enclosing.now.looping (here_of here.old) (t.if_then at (written.expr_of c.now) (written.stmt_of a.now)))) }
+{
+    let test = own_condition(c, enclosing.alloc, enclosing.context, here)?;
+    let yes = stmt(a, enclosing, here)?;
+    let no = empty_block(enclosing.alloc)?;
+    branch(enclosing.alloc, at.line, test, yes, no)
+}
+
+/// `if` with `else`.
+#[inline(never)]
+#[cycle(statements)]
+#[tactic(auto, using(rc_terms::proofs::Stops::left_stops, rc_terms::proofs::Stops::second_stops, rc_terms::proofs::Stops::third_stops, rc_terms::proofs::Stops::all_ruled))]
+fn type_if_else(
+    at: Spot,
+    c: &Expr,
+    a: &Stmt,
+    b: &Stmt,
+    enclosing: &Enclosing<'_>,
+    here: &mut Here,
+) -> Result<Box<Step>, Stop>
+    ensures ok { IfOk result (λ s. rule.stmt (context_at enclosing.now) (gives_at enclosing.now) enclosing.now.looping (here_of here.old) (t.if_else at (written.expr_of c.now) (written.stmt_of a.now) (written.stmt_of b.now)) ≡ Holds (stmt_of s.value)) }
+    ensures behind { OnOk result (here_of here.new ≡ rule.behind_stmt (context_at enclosing.now) (here_of here.old) (t.if_else at (written.expr_of c.now) (written.stmt_of a.now) (written.stmt_of b.now))) }
+    ensures err { IfErr result (StopsAt (rule.stmt (context_at enclosing.now) (gives_at enclosing.now) enclosing.now.looping (here_of here.old) (t.if_else at (written.expr_of c.now) (written.stmt_of a.now) (written.stmt_of b.now)))) }
+{
+    let test = own_condition(c, enclosing.alloc, enclosing.context, here)?;
+    let yes = stmt(a, enclosing, here)?;
+    let no = stmt(b, enclosing, here)?;
+    branch(enclosing.alloc, at.line, test, yes, no)
+}
+
+/// `while`.
+#[inline(never)]
+#[cycle(statements)]
+#[tactic(auto, using(rc_terms::proofs::Stops::left_stops, rc_terms::proofs::Stops::right_stops, rc_terms::proofs::Stops::both_ruled))]
+fn type_while(
+    at: Spot,
+    c: &Expr,
+    a: &Stmt,
+    enclosing: &Enclosing<'_>,
+    here: &mut Here,
+) -> Result<Box<Step>, Stop>
+    ensures ok { IfOk result (λ s. rule.stmt (context_at enclosing.now) (gives_at enclosing.now) enclosing.now.looping (here_of here.old) (t.while_do at (written.expr_of c.now) (written.stmt_of a.now)) ≡ Holds (stmt_of s.value)) }
+    ensures behind { OnOk result (here_of here.new ≡ rule.behind_stmt (context_at enclosing.now) (here_of here.old) (t.while_do at (written.expr_of c.now) (written.stmt_of a.now))) }
+    ensures err { IfErr result (StopsAt (rule.stmt (context_at enclosing.now) (gives_at enclosing.now) enclosing.now.looping (here_of here.old) (t.while_do at (written.expr_of c.now) (written.stmt_of a.now)))) }
+{
+    let test = own_condition(c, enclosing.alloc, enclosing.context, here)?;
+    let body = stmt(a, &enclosing.in_loop(), here)?;
+    while_loop(enclosing.alloc, at.line, test, body)
+}
+
+/// `do`.
+#[inline(never)]
+#[cycle(statements)]
+#[tactic(auto, using(rc_terms::proofs::Stops::left_stops, rc_terms::proofs::Stops::right_stops, rc_terms::proofs::Stops::both_ruled))]
+fn type_do(
+    at: Spot,
+    a: &Stmt,
+    c: &Expr,
+    enclosing: &Enclosing<'_>,
+    here: &mut Here,
+) -> Result<Box<Step>, Stop>
+    ensures ok { IfOk result (λ s. rule.stmt (context_at enclosing.now) (gives_at enclosing.now) enclosing.now.looping (here_of here.old) (t.do_while at (written.stmt_of a.now) (written.expr_of c.now)) ≡ Holds (stmt_of s.value)) }
+    ensures behind { OnOk result (here_of here.new ≡ rule.behind_stmt (context_at enclosing.now) (here_of here.old) (t.do_while at (written.stmt_of a.now) (written.expr_of c.now))) }
+    ensures err { IfErr result (StopsAt (rule.stmt (context_at enclosing.now) (gives_at enclosing.now) enclosing.now.looping (here_of here.old) (t.do_while at (written.stmt_of a.now) (written.expr_of c.now)))) }
+{
+    let body = stmt(a, &enclosing.in_loop(), here)?;
+    let test = own_condition(c, enclosing.alloc, enclosing.context, here)?;
+    do_loop(enclosing.alloc, at.line, body, test)
+}
+
+/// `for`, whose locals hold to its end.
+#[inline(never)]
+#[cycle(statements)]
+#[tactic(auto, using(rc_terms::proofs::Stops::left_stops, rc_terms::proofs::Stops::right_stops, rc_terms::proofs::Stops::both_ruled))]
+fn type_for(
+    at: Spot,
+    start: &ForStart,
+    c: &Option<Expr>,
+    next: &Option<Simple>,
+    a: &Stmt,
+    enclosing: &Enclosing<'_>,
+    here: &mut Here,
+) -> Result<Box<Step>, Stop>
+    ensures ok { IfOk result (λ s. rule.stmt (context_at enclosing.now) (gives_at enclosing.now) enclosing.now.looping (here_of here.old) (t.for_do at (written.start_of start.now) (written.mapped written.expr_of c.now) (written.mapped written.simple_of next.now) (written.stmt_of a.now)) ≡ Holds (stmt_of s.value)) }
+    ensures behind { OnOk result (here_of here.new ≡ rule.behind_stmt (context_at enclosing.now) (here_of here.old) (t.for_do at (written.start_of start.now) (written.mapped written.expr_of c.now) (written.mapped written.simple_of next.now) (written.stmt_of a.now))) }
+    ensures err { IfErr result (StopsAt (rule.stmt (context_at enclosing.now) (gives_at enclosing.now) enclosing.now.looping (here_of here.old) (t.for_do at (written.start_of start.now) (written.mapped written.expr_of c.now) (written.mapped written.simple_of next.now) (written.stmt_of a.now)))) }
+{
+    let outer = here.outer();
+    here.enter()?;
+    let begin = for_start(start, enclosing.alloc, enclosing.context, here)?;
+    let test = own_condition_option(c, enclosing.alloc, enclosing.context, here)?;
+    let third = own_simple_option(next, enclosing.alloc, enclosing.context, here)?;
+    let body = stmt(a, &enclosing.in_loop(), here)?;
+    here.leave(outer);
+    for_loop(enclosing.alloc, at.line, begin, test, third, body)
+}
+
+/// A statement. Its names, locals and strings are put after those before it.
+#[cycle(statements)]
+pub(crate) fn stmt(s: &Stmt, enclosing: &Enclosing<'_>, here: &mut Here) -> Result<Box<Step>, Stop>
+    ensures ok { IfOk result (λ r. rule.stmt (context_at enclosing.now) (gives_at enclosing.now) enclosing.now.looping (here_of here.old) (written.stmt_of s.now) ≡ Holds (stmt_of r.value)) }
+    ensures behind { OnOk result (here_of here.new ≡ rule.behind_stmt (context_at enclosing.now) (here_of here.old) (written.stmt_of s.now)) }
+    ensures err { IfErr result (StopsAt (rule.stmt (context_at enclosing.now) (gives_at enclosing.now) enclosing.now.looping (here_of here.old) (written.stmt_of s.now))) }
+{
+    let alloc = enclosing.alloc;
     match s {
-        Stmt::Local(l) => local(l, alloc, context, here),
-        Stmt::Block(_, body) => {
-            let outer = here.outer();
-            here.enter()?;
-            let body = stmts(body, alloc, context, gives, looping, here)?;
-            here.leave(outer);
-            Ok(Step::Block { body })
+        Stmt::Local(l) => local(l, alloc, enclosing.context, here),
+        Stmt::Block(_, body) => type_block(body, enclosing, here),
+        Stmt::Empty(_) => empty_block(alloc),
+        Stmt::Simple(_, e) => own_simple(e, alloc, enclosing.context, here),
+        Stmt::If(at, c, a, None) => type_if(*at, c, a, enclosing, here),
+        Stmt::If(at, c, a, Some(b)) => type_if_else(*at, c, a, b, enclosing, here),
+        Stmt::While(at, c, a) => type_while(*at, c, a, enclosing, here),
+        Stmt::Do(at, a, c) => type_do(*at, a, c, enclosing, here),
+        Stmt::For(at, start, c, next, a) => type_for(*at, start, c, next, a, enclosing, here),
+        Stmt::Break(at) => {
+            let line = at.line;
+            in_loop(alloc, enclosing.looping, *at, Step::Break { line })
         }
-        Stmt::Empty(_) => Ok(empty_block(alloc)),
-        Stmt::Simple(_, e) => simple(e, alloc, context, &here.names, &mut here.strings),
-        Stmt::If(at, c, a, b) => {
-            let test = condition(c, alloc, context, &here.names, &mut here.strings)?;
-            let yes = stmt(a, alloc, context, gives, looping, here)?;
-            match b {
-                None => branch(alloc, at.line, test, yes, empty_block(alloc)),
-                Some(b) => {
-                    let no = stmt(b, alloc, context, gives, looping, here)?;
-                    branch(alloc, at.line, test, yes, no)
-                }
-            }
+        Stmt::Continue(at) => {
+            let line = at.line;
+            in_loop(alloc, enclosing.looping, *at, Step::Continue { line })
         }
-        Stmt::While(at, c, a) => {
-            let test = condition(c, alloc, context, &here.names, &mut here.strings)?;
-            let body = stmt(a, alloc, context, gives, true, here)?;
-            while_loop(alloc, at.line, test, body)
-        }
-        Stmt::Do(at, a, c) => {
-            let body = stmt(a, alloc, context, gives, true, here)?;
-            let test = condition(c, alloc, context, &here.names, &mut here.strings)?;
-            do_loop(alloc, at.line, body, test)
-        }
-        Stmt::For(at, start, c, next, a) => {
-            let outer = here.outer();
-            here.enter()?;
-            let begin = for_start(start, alloc, context, here)?;
-            let test = condition_option(c, alloc, context, &here.names, &mut here.strings)?;
-            let third = simple_option(next, alloc, context, &here.names, &mut here.strings)?;
-            let body = stmt(a, alloc, context, gives, true, here)?;
-            here.leave(outer);
-            for_loop(alloc, at.line, begin, test, third, body)
-        }
-        Stmt::Break(at) => in_loop(looping, *at, Step::Break { line: at.line }),
-        Stmt::Continue(at) => in_loop(looping, *at, Step::Continue { line: at.line }),
-        Stmt::Return(at, e) => {
-            let strings = &mut here.strings;
-            returning(*at, e, alloc, context, gives, &here.names, strings)
-        }
+        Stmt::Return(at, e) => type_return(*at, e, enclosing, here),
     }
 }
 
 /// Statements, in their order.
 #[cycle(statements)]
-#[tactic(auto, using(crate::proofs::Walks::after_steps_nil, crate::proofs::Walks::stmts_step, crate::proofs::Walks::stmts_end, crate::proofs::Walks::stmts_stop, crate::proofs::Walks::behind_step, crate::proofs::Walks::behind_end, crate::proofs::Lists::map_push))]
+#[tactic(auto, using(crate::proofs::Walks::after_steps_nil, crate::proofs::Walks::stmts_step, crate::proofs::Walks::stmts_end, crate::proofs::Walks::stmts_stop, crate::proofs::Walks::behind_step, crate::proofs::Walks::behind_end, rc_terms::proofs::Lists::map_push))]
 pub(crate) fn stmts(
     body: &[Stmt],
-    alloc: Global,
-    context: &Context,
-    gives: &Option<Ty>,
-    looping: bool,
+    enclosing: &Enclosing<'_>,
     here: &mut Here,
 ) -> Result<Vec<Step>, Stop>
-    ensures ok { IfOk result (λ steps. rule.stmts (context_of context.now) (option_map ty_of gives.now) looping (here_of here.old) (written.stmts_of body.now) ≡ Holds (stmts_of steps.items)) }
-    ensures behind { OnOk result (here_of here.new ≡ rule.behind_stmts (context_of context.now) (here_of here.old) (written.stmts_of body.now)) }
-    ensures err { IfErr result (StopsAt (rule.stmts (context_of context.now) (option_map ty_of gives.now) looping (here_of here.old) (written.stmts_of body.now))) }
+    ensures ok { IfOk result (λ steps. rule.stmts (context_at enclosing.now) (gives_at enclosing.now) enclosing.now.looping (here_of here.old) (written.stmts_of body.now) ≡ Holds (stmts_of steps.items)) }
+    ensures behind { OnOk result (here_of here.new ≡ rule.behind_stmts (context_at enclosing.now) (here_of here.old) (written.stmts_of body.now)) }
+    ensures err { IfErr result (StopsAt (rule.stmts (context_at enclosing.now) (gives_at enclosing.now) enclosing.now.looping (here_of here.old) (written.stmts_of body.now))) }
 {
-    let mut steps = Vec::new(alloc);
+    let mut steps = Vec::new(enclosing.alloc);
     for s in body {
-        let step = stmt(s, alloc, context, gives, looping, here)?;
-        add(&mut steps, step)?;
+        let step = stmt(s, enclosing, here)?;
+        add(&mut steps, Box::into_inner(step))?;
     }
     Ok(steps)
 }

@@ -1,5 +1,5 @@
-use Rattle.rc_expr.proofs.Values.{call_shape}
+use Rattle.rc_expr.proofs.Values.{boxed_call}
 use Rattle.rc_expr.proofs.nodes.call_node.Goals as goal
 
-pub returns : goal.returns
-returns c = call_shape c.args.name c.args.values
+pub returns-clause-ok : goal.returns-clause-ok
+returns-clause-ok c = boxed_call c.args.name c.args.values c.boxed.result c.boxed.ensures.ok

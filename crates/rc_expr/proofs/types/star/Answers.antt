@@ -1,7 +1,7 @@
-use Rattle.std.proofs.Common.{◌≡◌, ◌≤◌, ◌<◌, ◌+◌, ◌++◌, ◌∷◌, [], length, ap, ◌∙◌, sym, arith}
-use Rattle.rc_syntax.specs.Todo.{build}
-use Rattle.rc_syntax.specs.Reading.{starred}
-use Rattle.rc_syntax.specs.Steps.{run}
+use Rattle.std.proofs.Common.{◌≤◌, ◌+◌, ◌++◌, ◌∷◌, [], length, ap, ◌∙◌, sym, arith}
+use Rattle.rc_syntax.specs.reader.Todo.{build}
+use Rattle.rc_syntax.specs.reader.Reading.{starred}
+use Rattle.rc_syntax.specs.reader.Steps.{run}
 use Rattle.rc_expr.specs.Goes.{amid, from}
 use Rattle.rc_expr.proofs.Running.{goes_along, star_taken}
 use Rattle.rc_expr.proofs.types.star.Goals as goal

@@ -1,7 +1,7 @@
 use Rattle.std.proofs.Common.{◌≡◌, ◌≤◌, ◌-◌, ℕ, [], length}
 use Rattle.rc_syntax.specs.Grammar.{Symbol, Stars}
-use Rattle.rc_syntax.specs.Todo.{build}
-use Rattle.rc_syntax.specs.Steps.{Stack, run}
+use Rattle.rc_syntax.specs.reader.Todo.{build}
+use Rattle.rc_syntax.specs.reader.Steps.{Stack, run}
 use Rattle.rc_expr.specs.Goes.{from, amid, Around}
 use Rattle.rc_expr.proofs.types.stars.Given as goal
 

@@ -1,10 +1,9 @@
-use Rattle.std.proofs.Common.{◌≡◌, ◌≤◌, ◌+◌, ℕ, [], List, refl, ◌∙◌, arith}
+use Rattle.std.proofs.Common.{◌≡◌, ◌≤◌, ◌+◌, [], List, refl, ◌∙◌, arith}
 use Rattle.rc_syntax.specs.declared.tree.Note.{Note}
-use Rattle.rc_syntax.specs.Grammar.{Base, Stars, TypeName, typed, TreeOf}
-use Rattle.rc_syntax.specs.Todo.{Todo, build}
-use Rattle.rc_syntax.specs.Reading.{with_stars}
-use Rattle.rc_syntax.specs.Shape.{type_of}
-use Rattle.rc_expr.specs.Goes.{amid, inside, spot_of, from}
+use Rattle.rc_syntax.specs.Grammar.{Base, Stars, TypeName, typed}
+use Rattle.rc_syntax.specs.reader.Todo.{Todo, build}
+use Rattle.rc_syntax.specs.reader.Reading.{with_stars}
+use Rattle.rc_expr.specs.Goes.{inside, spot_of, from}
 use Rattle.rc_expr.proofs.Running.{passes, begins_with, deeper_around, closes, opens}
 use Rattle.rc_expr.proofs.Tests.{quiet_plain, quiet_stars}
 use Rattle.rc_expr.proofs.types.type_name.Goals as goal

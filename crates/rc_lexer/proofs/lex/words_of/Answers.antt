@@ -3,7 +3,7 @@ use Rattle.std.specs.Prelude.{◌==◌, count_by}
 use Rattle.rc_syntax.specs.Tokens.{Token}
 use Rattle.rc_syntax.specs.WordShapes.{tokens_of}
 use Rattle.rc_syntax.specs.Words.{Cut, end, with_line}
-use Rattle.rc_syntax.specs.Look.{Seen, look}
+use Rattle.rc_syntax.specs.reader.Look.{Seen, look}
 use Rattle.rc_lexer.specs.declared.fault.LexFault.{LexFault}
 use Rattle.rc_lexer.specs.Shapes.{word_in}
 use Rattle.rc_lexer.specs.Pieces.{piece_in}

@@ -1,5 +1,5 @@
 use Rattle.std.proofs.Common.{◌≡◌, ◌<◌, ◌+◌, drop, length, get_or, Some, ap, sym, ◌∙◌, arith}
-use Rattle.rc_syntax.specs.Look.{value_next, body_at}
+use Rattle.rc_syntax.specs.reader.Look.{value_next, body_at}
 use Rattle.rc_lexer.proofs.Bodies.{prefixed, body_more, next_within, test_not, whole_rest}
 use Rattle.rc_lexer.proofs.literal.body_at.Goals as goal
 

@@ -1,5 +1,5 @@
 use Rattle.std.proofs.Common.{◌≡◌, ◌≤◌, ◌-◌, drop, length}
-use Rattle.rc_syntax.specs.Look.{body_at}
+use Rattle.rc_syntax.specs.reader.Look.{body_at}
 use Rattle.rc_lexer.proofs.Bodies.{prefixed}
 use Rattle.rc_lexer.proofs.literal.body_at.Given as goal
 

@@ -1,7 +1,7 @@
 use Rattle.std.proofs.Common.{◌≡◌, ◌≤◌, take, true}
 use Rattle.std.specs.List.{list_all}
 use Rattle.rc_syntax.specs.Numerals.{value_in}
-use Rattle.rc_syntax.specs.Look.{is_digit_in}
+use Rattle.rc_syntax.specs.reader.Look.{is_digit_in}
 use Rattle.rc_lexer.proofs.number.value_at.Given as goal
 
 abbrev pub invariant-loop-b : goal.invariant-loop-b

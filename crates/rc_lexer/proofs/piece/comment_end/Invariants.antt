@@ -1,5 +1,5 @@
 use Rattle.std.proofs.Common.{◌≡◌, drop}
-use Rattle.rc_syntax.specs.Look.{comment_end}
+use Rattle.rc_syntax.specs.reader.Look.{comment_end}
 use Rattle.rc_lexer.proofs.Places.{from_place}
 use Rattle.rc_lexer.proofs.piece.comment_end.Given as goal
 

@@ -1,5 +1,5 @@
 use Rattle.std.proofs.Common.{◌≡◌, ◌≤◌, length, take}
-use Rattle.rc_syntax.specs.Look.{is_in_margin}
+use Rattle.rc_syntax.specs.reader.Look.{is_in_margin}
 use Rattle.rc_lexer.proofs.piece.is_in_margin.Given as goal
 
 abbrev pub invariant-loop-at : goal.invariant-loop-at

@@ -3,7 +3,7 @@ use Rattle.std.specs.Prelude.{◌==◌}
 use Rattle.std.specs.List.{prefix_len}
 use Rattle.rc_syntax.specs.Bytes.{in_name, begins}
 use Rattle.rc_syntax.specs.WordShapes.{word_of}
-use Rattle.rc_syntax.specs.Look.{found_word, number_word}
+use Rattle.rc_syntax.specs.reader.Look.{found_word, number_word}
 use Rattle.rc_lexer.specs.Shapes.{word_in}
 use Rattle.rc_lexer.proofs.Bodies.{whole_rest}
 use Rattle.rc_lexer.proofs.Places.{number_from}

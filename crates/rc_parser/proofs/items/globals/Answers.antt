@@ -3,14 +3,14 @@ use Rattle.rc_syntax.specs.declared.word.Mark.TheVariants as m
 use Rattle.rc_syntax.specs.declared.tree.Base.{Base}
 use Rattle.rc_syntax.specs.Tokens.{mark}
 use Rattle.rc_syntax.specs.Grammar.{TreeOf, Item, Decs, global}
-use Rattle.rc_syntax.specs.Todo.{Todo, build, stop, read, sees}
-use Rattle.rc_syntax.specs.Reading.{is_semicolon}
+use Rattle.rc_syntax.specs.reader.Todo.{Todo, build, stop, read, sees}
+use Rattle.rc_syntax.specs.reader.Reading.{is_semicolon}
 use Rattle.rc_expr.specs.Goes.{spot_of}
 use Rattle.rc_parser.specs.Shapes.{global_of}
-use Rattle.rc_parser.specs.Along.{dec_rest}
-use Rattle.rc_parser.proofs.Going.{fails, word, word_refused, ends_plain}
-use Rattle.rc_parser.proofs.Inside.{resumed, resumed_refused}
-use Rattle.rc_parser.proofs.Tests.{semicolon_else}
+use Rattle.rc_parser.specs.Items.{dec_rest}
+use Rattle.rc_stmt.proofs.Going.{fails, word, word_refused, ends_plain}
+use Rattle.rc_stmt.proofs.Inside.{resumed, resumed_refused}
+use Rattle.rc_stmt.proofs.Tests.{semicolon_else}
 use Rattle.rc_parser.proofs.items.globals.Goals as goal
 
 abbrev closed_globals : Base → TreeOf Decs → Todo Item

@@ -3,11 +3,11 @@ use Rattle.rc_syntax.specs.declared.tree.Spot.{Spot}
 use Rattle.rc_syntax.specs.declared.tree.Base.{Base}
 use Rattle.rc_syntax.specs.declared.tree.Note.{Note}
 use Rattle.rc_syntax.specs.Grammar.{Item, Stars}
-use Rattle.rc_syntax.specs.Todo.{Todo, stop, read}
-use Rattle.rc_syntax.specs.Reading.{named, item_named}
+use Rattle.rc_syntax.specs.reader.Todo.{Todo, stop, read}
+use Rattle.rc_syntax.specs.reader.Reading.{named, item_named}
 use Rattle.rc_expr.specs.Goes.{spot_of}
-use Rattle.rc_parser.proofs.Going.{fails, opened_part, opened_part_refused, name_read, name_refused}
-use Rattle.rc_parser.proofs.Inside.{peeked}
+use Rattle.rc_stmt.proofs.Going.{fails, opened_part, opened_part_refused, name_read, name_refused}
+use Rattle.rc_parser.proofs.Itemed.{peeked}
 use Rattle.rc_parser.proofs.items.item_based.Goals as goal
 
 abbrev starred : Spot → Base → ℕ → Spot → List Note → Todo Item

@@ -1,10 +1,10 @@
 use Rattle.std.proofs.Common.{◌≤◌, ◌+◌, refl, arith}
 use Rattle.rc_syntax.specs.declared.word.Key.TheVariants.{Struct}
 use Rattle.rc_syntax.specs.Tokens.{key}
-use Rattle.rc_syntax.specs.Todo.{stop, read}
-use Rattle.rc_syntax.specs.Reading.{named, struct_named}
+use Rattle.rc_syntax.specs.reader.Todo.{stop, read}
+use Rattle.rc_syntax.specs.reader.Reading.{named, struct_named}
 use Rattle.rc_expr.specs.Goes.{spot_of}
-use Rattle.rc_parser.proofs.Going.{fails_first, flat, first_word, name_read, name_refused}
+use Rattle.rc_stmt.proofs.Going.{fails_first, flat, first_word, name_read, name_refused}
 use Rattle.rc_parser.proofs.items.struct_item.Goals as goal
 
 pub returns-in_err-name-clause-reads : goal.returns-in_err-name-clause-reads

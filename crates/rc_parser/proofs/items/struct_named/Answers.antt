@@ -3,12 +3,12 @@ use Rattle.rc_syntax.specs.declared.word.Mark.TheVariants as m
 use Rattle.rc_syntax.specs.declared.tree.Base.TheVariants as b
 use Rattle.rc_syntax.specs.Tokens.{mark}
 use Rattle.rc_syntax.specs.Grammar.{Item}
-use Rattle.rc_syntax.specs.Reading.{is_open_brace, struct_fields, item_based}
+use Rattle.rc_syntax.specs.reader.Reading.{is_open_brace, struct_fields, item_based}
 use Rattle.rc_syntax.specs.Shape.{item_of}
 use Rattle.rc_expr.specs.Goes.{spot_of}
-use Rattle.rc_parser.specs.Along.{Proceeds}
-use Rattle.rc_parser.proofs.Going.{word, no_word}
-use Rattle.rc_parser.proofs.Tests.{open_brace_else}
+use Rattle.rc_stmt.specs.Along.{Proceeds}
+use Rattle.rc_stmt.proofs.Going.{word, no_word}
+use Rattle.rc_stmt.proofs.Tests.{open_brace_else}
 use Rattle.rc_parser.proofs.items.struct_named.Goals as goal
 
 pub returns-then-is_mark-clause-reads : goal.returns-then-is_mark-clause-reads

@@ -1,5 +1,5 @@
 use Rattle.std.proofs.Common.{refl}
-use Rattle.rc_parser.proofs.Going.{fails_first, flat}
+use Rattle.rc_stmt.proofs.Going.{fails_first, flat}
 use Rattle.rc_parser.proofs.Itemed.{item_part, item_part_refused}
 use Rattle.rc_parser.proofs.items.typed_item.Goals as goal
 

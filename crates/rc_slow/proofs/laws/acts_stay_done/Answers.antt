@@ -2,7 +2,7 @@ use Rattle.std.proofs.Common.{◌≡◌, true, false, refl}
 use Rattle.rc_base.specs.Acts.{Act}
 use Rattle.std.specs.Prelude.{List, Bool, if◌then◌else◌}
 use Rattle.rc_core.specs.Heap.{Value}
-use Rattle.rc_slow.specs.KeptWorld.{KeptWorld, kept}
+use Rattle.rc_memory.specs.KeptWorld.{KeptWorld, kept}
 use Rattle.rc_slow.specs.Prefix.{behind_acts}
 use Rattle.rc_slow.proofs.Prefixes.{acts_agree}
 use Rattle.rc_slow.proofs.Simulation.{main_agrees}

@@ -1,11 +1,10 @@
-use Rattle.rc_base.specs.declared.ends.RunFault.TheVariants.{ReadFault, WriteFault}
 use Rattle.rc_core.specs.Shapes.{program_of}
-use Rattle.rc_slow.specs.Codes.{control_of}
+use Rattle.rc_nodes.specs.Codes.{control_of}
 use Rattle.rc_slow.specs.Going.{way_from}
 use Rattle.rc_slow.specs.Performing.{Follows}
 use Rattle.rc_slow.proofs.Fallings.{lessens}
-use Rattle.rc_slow.proofs.Goings.{nowhere, performed, step_cause, step_from, stopped}
-use Rattle.rc_slow.proofs.Results.{if_ok_map}
+use Rattle.rc_slow.proofs.Goings.{halts_inside, inside_leaves, nowhere, performed, step_from, stopped}
+use Rattle.rc_nodes.proofs.Results.{if_ok_map}
 use Rattle.rc_slow.proofs.run.advance.Goals as goal
 
 pub returns-in-Err-clause-comes : goal.returns-in-Err-clause-comes
@@ -33,10 +32,10 @@ returns-in-Ok-clause-lessens g c =
     (λ next follows. lessens program limits control c.args.machine.now c.step.new.machine c.in-Ok.progress next (c.in-Ok.ensures control nowhere c.requires.laid) follows)
     c.perform.ensures.follows
 
-pub returns-in-Err-clause-read_cause : goal.returns-in-Err-clause-read_cause
-returns-in-Err-clause-read_cause g c =
-    step_cause ReadFault c.in-Err.stop _ (step_from (program_of c.args.setting.now.parts.now) c.args.setting.now.limits (control_of c.args.control) c.args.machine.now nowhere) (λ is. cc) (c.in-Err.ensures (control_of c.args.control) nowhere c.requires.laid)
+pub returns-in-Ok-clause-leaves : goal.returns-in-Ok-clause-leaves
+returns-in-Ok-clause-leaves g c = c.perform.ensures.leaves
 
-pub returns-in-Err-clause-write_cause : goal.returns-in-Err-clause-write_cause
-returns-in-Err-clause-write_cause g c =
-    step_cause WriteFault c.in-Err.stop _ (step_from (program_of c.args.setting.now.parts.now) c.args.setting.now.limits (control_of c.args.control) c.args.machine.now nowhere) (λ is. cc) (c.in-Err.ensures (control_of c.args.control) nowhere c.requires.laid)
+pub returns-in-Err-clause-leaves : goal.returns-in-Err-clause-leaves
+returns-in-Err-clause-leaves g c =
+    inside_leaves (g.S.Source.state c.args.input.now) (g.O.Sink.state c.args.out.now) c.in-Err.stop
+    (halts_inside c.in-Err.stop (step_from (program_of c.args.setting.now.parts.now) c.args.setting.now.limits (control_of c.args.control) c.args.machine.now nowhere) (c.in-Err.ensures (control_of c.args.control) nowhere c.requires.laid))

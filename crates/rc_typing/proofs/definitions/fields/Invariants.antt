@@ -1,9 +1,8 @@
 use Rattle.std.proofs.Common.{◌≡◌, [], true, length, map}
 use Rattle.rc_syntax.specs.Shape.{field_of}
 use Rattle.rc_deletes.specs.Judged.{Holds}
-use Rattle.rc_deletes.specs.Items.{fields_rule}
-use Rattle.rc_typing.specs.Contexts.{context_of}
-use Rattle.rc_typing.specs.Groups.{before_fields}
+use Rattle.rc_deletes.specs.Items.{fields_rule, before_fields}
+use Rattle.rc_terms.specs.Contexts.{context_of}
 use Rattle.rc_typing.proofs.definitions.fields.Given as goal
 
 abbrev pub invariant-loop-rest : goal.invariant-loop-rest

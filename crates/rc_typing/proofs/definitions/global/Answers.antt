@@ -3,8 +3,8 @@ use Rattle.rc_syntax.specs.Shape as written
 use Rattle.rc_core.specs.Shapes.{ty_of}
 use Rattle.rc_deletes.specs.Judged.{Holds}
 use Rattle.rc_deletes.specs.Items as rule
-use Rattle.rc_rules.specs.Stops.{StopsAt}
-use Rattle.rc_typing.specs.Contexts.{context_of, scope_of}
+use Rattle.rc_operators.specs.Stops.{StopsAt}
+use Rattle.rc_terms.specs.Contexts.{context_of, scope_of}
 use Rattle.rc_typing.specs.Outside.{outside_of}
 use Rattle.rc_typing.proofs.Globals.{known_new, total_few, global_stops, global_held, global_behind}
 use Rattle.rc_typing.proofs.definitions.global.Goals as goal

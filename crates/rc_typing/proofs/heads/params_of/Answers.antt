@@ -2,8 +2,8 @@ use Rattle.std.proofs.Common.{sym, subst, rules, map}
 use Rattle.rc_syntax.specs.Shape.{param_of}
 use Rattle.rc_deletes.specs.Judged.{Judged}
 use Rattle.rc_deletes.specs.Items.{params_rule}
-use Rattle.rc_rules.specs.Stops.{StopsAt}
-use Rattle.rc_typing.specs.Contexts.{context_of}
+use Rattle.rc_operators.specs.Stops.{StopsAt}
+use Rattle.rc_terms.specs.Contexts.{context_of}
 use Rattle.rc_typing.specs.Here.{here_of}
 use Rattle.rc_typing.proofs.Params.{param_stops}
 use Rattle.rc_typing.proofs.heads.params_of.Goals as goal

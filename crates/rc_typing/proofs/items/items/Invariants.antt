@@ -1,10 +1,9 @@
 use Rattle.std.proofs.Common.{◌≡◌, true, length, map}
 use Rattle.rc_syntax.specs.Shape.{item_of}
 use Rattle.rc_deletes.specs.Judged.{Holds}
-use Rattle.rc_deletes.specs.Items.{items, behind_items, at_the_start}
-use Rattle.rc_typing.specs.Contexts.{context_of}
+use Rattle.rc_deletes.specs.Items.{items, behind_items, at_the_start, before_globals}
+use Rattle.rc_terms.specs.Contexts.{context_of}
 use Rattle.rc_typing.specs.Outside.{outside_of, all_made}
-use Rattle.rc_typing.specs.Groups.{before_globals}
 use Rattle.rc_typing.proofs.Whole.{after_made}
 use Rattle.rc_typing.proofs.items.items.Given as goal
 

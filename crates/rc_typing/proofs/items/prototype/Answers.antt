@@ -1,7 +1,7 @@
 use Rattle.std.proofs.Common.{rules, ap, ◌∙◌, false}
 use Rattle.rc_deletes.specs.Statements.{Here}
 use Rattle.rc_deletes.specs.Items.{before_params}
-use Rattle.rc_typing.specs.Contexts.{context_of}
+use Rattle.rc_terms.specs.Contexts.{context_of}
 use Rattle.rc_typing.specs.Here.{here_of}
 use Rattle.rc_typing.specs.Outside.{outside_of}
 use Rattle.rc_typing.specs.Parts.{written_params, written_result}

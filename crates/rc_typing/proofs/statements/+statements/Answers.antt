@@ -1,49 +1,57 @@
-use Rattle.std.proofs.Common.{◌∙◌, option_map, rules}
-use Rattle.rc_core.specs.Shapes.{ty_of, expr_of}
-use Rattle.rc_typing.specs.Contexts.{context_of}
+use Rattle.std.proofs.Common.{◌≡◌, ap, sym, ◌∙◌, subst, IfOk, IfErr, OnOk}
+use Rattle.rc_core.specs.Shapes.{stmt_of}
+use Rattle.rc_syntax.specs.Shape as written
+use Rattle.rc_syntax.specs.Tree as tree
+use Rattle.rc_syntax.proofs.Rows.{block_is}
+use Rattle.rc_deletes.specs.Judged.{Holds}
+use Rattle.rc_deletes.specs.Statements.{outside, behind_stmts, behind_stmt, stmt}
+use Rattle.rc_operators.specs.Stops.{StopsAt}
+use Rattle.rc_typing.specs.Enclosing.{context_at, gives_at}
+use Rattle.rc_typing.specs.declared.enclosing.Enclosing.{Enclosing}
 use Rattle.rc_typing.specs.Here.{here_of}
-use Rattle.rc_typing.proofs.Kept.{more_strings}
-use Rattle.rc_typing.proofs.Blocks.{block_held, block_stops, block_own, block_behind}
-use Rattle.rc_typing.proofs.Ifs.{yes_stops}
-use Rattle.rc_typing.proofs.Fors.{for_own, for_end}
-use Rattle.rc_typing.proofs.Lists.{on_any}
+use Rattle.rc_typing.proofs.Blocks.{block_own, for_own, for_end}
+use Rattle.rc_terms.proofs.Lists.{on_any}
 use Rattle.rc_typing.proofs.statements.+statements.Goals as goal
 
-pub stmt-returns-in_err-body-in-Block-clause-err : goal.stmt-returns-in_err-body-in-Block-clause-err
-stmt-returns-in_err-body-in-Block-clause-err t c =
-    let h = block_stops (context_of c.args.context.now) (option_map ty_of c.args.gives.now) c.args.looping (here_of c.args.here.now) (here_of c.enter.new.self) c.args.s.now c.in-Block.field-0 c.in-Block.body c.deref.result.now c.in_ok-enter-in-Block.ensures.ok c.in-Block.is c.deref.ensures.value
-    c.in_err-body-in-Block.field-0.0 c.in_err-body-in-Block.ensures.err in
-    search rules
+pub type_block-returns-clause-behind : goal.type_block-returns-clause-behind
+type_block-returns-clause-behind t c =
+    let context = context_at c.args.enclosing.now in
+    let own = block_own context (here_of c.args.here.now) (here_of c.enter.new.self) (here_of c.stmts.new.here) (written.stmts_of c.args.body.now) c.in_ok-enter.ensures.ok c.in_ok-steps.ensures.behind in
+    on_any c.block.result
+    (c.leave.ensures c.args.here.now c.outer-outer.ensures own.0 own.1
+    ∙ ap (outside (here_of c.args.here.now)) (c.in_ok-steps.ensures.behind ∙ ap (λ h. behind_stmts context h (written.stmts_of c.args.body.now)) c.in_ok-enter.ensures.ok))
 
-pub stmt-returns-in_ok-body-in-Block-clause-ok : goal.stmt-returns-in_ok-body-in-Block-clause-ok
-stmt-returns-in_ok-body-in-Block-clause-ok t c =
-    block_held (context_of c.args.context.now) (option_map ty_of c.args.gives.now) c.args.looping (here_of c.args.here.now) (here_of c.enter.new.self) c.args.s.now c.in-Block.field-0 c.in-Block.body c.deref.result.now c.in_ok-enter-in-Block.ensures.ok c.in-Block.is c.deref.ensures.value
-    c.in_ok-body-in-Block.body c.in_ok-body-in-Block.ensures.ok
-
-pub stmt-returns-in_ok-body-in-Block-clause-behind : goal.stmt-returns-in_ok-body-in-Block-clause-behind
-stmt-returns-in_ok-body-in-Block-clause-behind t c =
-    let own = block_own (context_of c.args.context.now) (option_map ty_of c.args.gives.now) c.args.looping (here_of c.args.here.now) (here_of c.enter.new.self) c.args.s.now c.in-Block.field-0 c.in-Block.body c.deref.result.now c.in_ok-enter-in-Block.ensures.ok c.in-Block.is c.deref.ensures.value
-    (here_of c.stmts.new.here) c.in_ok-body-in-Block.ensures.behind in
-    c.leave.ensures c.args.here.now c.outer-outer.ensures own.0 own.1
-    ∙ block_behind (context_of c.args.context.now) (option_map ty_of c.args.gives.now) c.args.looping (here_of c.args.here.now) (here_of c.enter.new.self) c.args.s.now c.in-Block.field-0 c.in-Block.body c.deref.result.now c.in_ok-enter-in-Block.ensures.ok c.in-Block.is c.deref.ensures.value
-    (here_of c.stmts.new.here) c.in_ok-body-in-Block.ensures.behind
-
-pub stmt-returns-in_err-yes-in-If-clause-err : goal.stmt-returns-in_err-yes-in-If-clause-err
-stmt-returns-in_err-yes-in-If-clause-err t c =
-    let h = yes_stops (context_of c.args.context.now) (option_map ty_of c.args.gives.now) c.args.looping (here_of c.args.here.now) (here_of (record c.args.here.now { strings = c.condition.new.strings })) c.in-If.at c.in-If.c c.in-If.a c.in_err-yes-in-If.field-0.0 (expr_of c.in_ok-test-in-If.test)
-    c.in_ok-test-in-If.ensures.ok (more_strings c.args.here.now c.condition.new.strings _ c.in_ok-test-in-If.ensures.strings) c.args.s.now c.deref-in-If.result.now c.in-If.b c.in-If.is c.deref-in-If.ensures c.in_err-yes-in-If.ensures.err in
-    search rules
-
-pub stmt-returns-in_ok-body-in-For-clause-behind : goal.stmt-returns-in_ok-body-in-For-clause-behind
-stmt-returns-in_ok-body-in-For-clause-behind t c =
-    let three = record c.for_start.new.here { strings = c.condition_option.new.strings } in
-    let own = for_own (context_of c.args.context.now) (here_of c.args.here.now) (here_of c.enter-in-For.new.self) (here_of c.for_start.new.here) (here_of three) (here_of (record three { strings = c.simple_option.new.strings }))
-    c.args.s.now c.in-For.at c.in-For.start c.in-For.c c.in-For.next c.in-For.a c.deref-in-For.result.now c.in-For.is c.deref-in-For.ensures
-    c.in_ok-enter-in-For.ensures.ok c.in_ok-begin-in-For.ensures.behind (more_strings c.for_start.new.here c.condition_option.new.strings _ c.in_ok-test-in-For.ensures.strings) (more_strings three c.simple_option.new.strings _ c.in_ok-third-in-For.ensures.strings)
-    (here_of c.stmt-in-For.new.here) c.in_ok-body-in-For.ensures.behind in
+pub type_for-returns-clause-behind : goal.type_for-returns-clause-behind
+type_for-returns-clause-behind t c =
+    let context = context_at c.args.enclosing.now in
+    let start = written.start_of c.args.start.now in
+    let test = written.mapped written.expr_of c.args.c.now in
+    let next = written.mapped written.simple_of c.args.next.now in
+    let a = written.stmt_of c.args.a.now in
+    let walked = c.in_ok-body.ensures.behind ∙ ap (λ (e : Enclosing). behind_stmt (context_at e) (here_of c.own_simple_option.new.here) a) c.in_loop.ensures in
+    let own = for_own context (here_of c.args.here.now) (here_of c.enter.new.self) (here_of c.for_start.new.here) (here_of c.own_condition_option.new.here) (here_of c.own_simple_option.new.here) (here_of c.stmt.new.here) start test next a
+    c.in_ok-enter.ensures.ok c.in_ok-begin.ensures.behind c.in_ok-test.ensures.behind c.in_ok-third.ensures.behind walked in
     on_any c.for_loop.result
-    (c.leave-in-For.ensures c.args.here.now c.outer-outer-in-For.ensures own.0 own.1
-    ∙ for_end (context_of c.args.context.now) (here_of c.args.here.now) (here_of c.enter-in-For.new.self) (here_of c.for_start.new.here) (here_of three) (here_of (record three { strings = c.simple_option.new.strings }))
-    c.args.s.now c.in-For.at c.in-For.start c.in-For.c c.in-For.next c.in-For.a c.deref-in-For.result.now c.in-For.is c.deref-in-For.ensures
-    c.in_ok-enter-in-For.ensures.ok c.in_ok-begin-in-For.ensures.behind (more_strings c.for_start.new.here c.condition_option.new.strings _ c.in_ok-test-in-For.ensures.strings) (more_strings three c.simple_option.new.strings _ c.in_ok-third-in-For.ensures.strings)
-    (here_of c.stmt-in-For.new.here) c.in_ok-body-in-For.ensures.behind)
+    (c.leave.ensures c.args.here.now c.outer-outer.ensures own.0 own.1
+    ∙ for_end context (here_of c.args.here.now) (here_of c.enter.new.self) (here_of c.for_start.new.here) (here_of c.own_condition_option.new.here) (here_of c.own_simple_option.new.here) (here_of c.stmt.new.here) start test next a
+    c.in_ok-enter.ensures.ok c.in_ok-begin.ensures.behind c.in_ok-test.ensures.behind c.in_ok-third.ensures.behind walked)
+
+pub stmt-returns-in-Block-clause-ok : goal.stmt-returns-in-Block-clause-ok
+stmt-returns-in-Block-clause-ok t c =
+    let e = block_is c.args.s.now c.in-Block.field-0 c.in-Block.body c.in-Block.is ∙ ap (λ xs. tree.block c.in-Block.field-0 (written.stmts_of xs)) (sym c.deref.ensures.value) in
+    subst (λ (x : tree.Stmt). IfOk c.type_block.result (λ r. stmt (context_at c.args.enclosing.now) (gives_at c.args.enclosing.now) c.args.enclosing.now.looping (here_of c.args.here.now) x ≡ Holds (stmt_of r.value))) (sym e) c.type_block.ensures.ok
+
+pub stmt-returns-in-Block-clause-behind : goal.stmt-returns-in-Block-clause-behind
+stmt-returns-in-Block-clause-behind t c =
+    let e = block_is c.args.s.now c.in-Block.field-0 c.in-Block.body c.in-Block.is ∙ ap (λ xs. tree.block c.in-Block.field-0 (written.stmts_of xs)) (sym c.deref.ensures.value) in
+    subst (λ (x : tree.Stmt). OnOk c.type_block.result (here_of c.type_block.new.here ≡ behind_stmt (context_at c.args.enclosing.now) (here_of c.args.here.now) x)) (sym e) c.type_block.ensures.behind
+
+pub stmt-returns-in-Block-clause-err : goal.stmt-returns-in-Block-clause-err
+stmt-returns-in-Block-clause-err t c =
+    let e = block_is c.args.s.now c.in-Block.field-0 c.in-Block.body c.in-Block.is ∙ ap (λ xs. tree.block c.in-Block.field-0 (written.stmts_of xs)) (sym c.deref.ensures.value) in
+    subst (λ (x : tree.Stmt). IfErr c.type_block.result (StopsAt (stmt (context_at c.args.enclosing.now) (gives_at c.args.enclosing.now) c.args.enclosing.now.looping (here_of c.args.here.now) x))) (sym e) c.type_block.ensures.err
+
+pub stmt-returns-in-Do-clause-ok : goal.stmt-returns-in-Do-clause-ok
+stmt-returns-in-Do-clause-ok t c =
+    let e = ap written.stmt_of c.in-Do.is ∙ ap (λ x. tree.do_while c.in-Do.at (written.stmt_of x) (written.expr_of c.in-Do.c)) (sym c.deref-in-Do.ensures) in
+    subst (λ (x : tree.Stmt). IfOk c.type_do.result (λ r. stmt (context_at c.args.enclosing.now) (gives_at c.args.enclosing.now) c.args.enclosing.now.looping (here_of c.args.here.now) x ≡ Holds (stmt_of r.value))) (sym e) c.type_do.ensures.ok

@@ -1,7 +1,6 @@
 use Rattle.std.proofs.Common.{◌≡◌, drop, find}
 use Rattle.std.specs.Prelude.{bytes_eq}
-use Rattle.rc_syntax.specs.Spellings.{key_spelling, keys}
-use Rattle.rc_syntax.specs.Look.{key_named}
+use Rattle.rc_syntax.specs.Spellings.{key_spelling, keys, key_named}
 use Rattle.rc_syntax.proofs.word.Key.named.Given as goal
 
 abbrev pub invariant-loop-key : goal.invariant-loop-key

@@ -1,8 +1,7 @@
 use Rattle.std.proofs.Common.{◌≡◌, drop, find}
 use Rattle.std.specs.Prelude.{nat_eq}
 use Rattle.std.specs.List.{starts_with}
-use Rattle.rc_syntax.specs.Spellings.{mark_spelling, marks}
-use Rattle.rc_syntax.specs.Look.{mark_named}
+use Rattle.rc_syntax.specs.Spellings.{mark_spelling, marks, mark_named}
 use Rattle.rc_syntax.proofs.word.Mark.at_front.Given as goal
 
 abbrev pub invariant-loop-mark : goal.invariant-loop-mark

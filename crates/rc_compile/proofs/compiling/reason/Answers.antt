@@ -1,0 +1,34 @@
+use Rattle.std.proofs.Common.{subst}
+use Rattle.rc_deletes.specs.Answer as rules
+use Rattle.rc_deletes.specs.declared.fault.Refusal.TheVariants as node_refusal
+use Rattle.rc_deletes.specs.declared.deletes.DeletesFault.TheVariants as place_refusal
+use Rattle.rc_typing.specs.Checks.{Refuses}
+use Rattle.rc_compile.proofs.OneAnswer.{rules_only}
+use Rattle.rc_compile.proofs.compiling.reason.Goals as goal
+
+pub returns-in-Unknown : goal.returns-in-Unknown
+returns-in-Unknown c = λ text tree only found. rules_only text tree (rules.at_node node_refusal.Unknown c.in-Unknown.line) only (subst (Refuses tree) c.in-Unknown.is found)
+
+pub returns-in-Twice : goal.returns-in-Twice
+returns-in-Twice c = λ text tree only found. rules_only text tree (rules.at_node node_refusal.Twice c.in-Twice.line) only (subst (Refuses tree) c.in-Twice.is found)
+
+pub returns-in-Mistyped : goal.returns-in-Mistyped
+returns-in-Mistyped c = λ text tree only found. rules_only text tree (rules.at_node node_refusal.Mistyped c.in-Mistyped.line) only (subst (Refuses tree) c.in-Mistyped.is found)
+
+pub returns-in-Arity : goal.returns-in-Arity
+returns-in-Arity c = λ text tree only found. rules_only text tree (rules.at_node node_refusal.Arity c.in-Arity.line) only (subst (Refuses tree) c.in-Arity.is found)
+
+pub returns-in-TooBig : goal.returns-in-TooBig
+returns-in-TooBig c = λ text tree only found. rules_only text tree (rules.at_node node_refusal.TooBig c.in-TooBig.line) only (subst (Refuses tree) c.in-TooBig.is found)
+
+pub returns-in-AnnotationPlace : goal.returns-in-AnnotationPlace
+returns-in-AnnotationPlace c = λ text tree only found. rules_only text tree (rules.at_place (place_refusal.AnnotationPlace c.in-AnnotationPlace.line)) only (subst (Refuses tree) c.in-AnnotationPlace.is found)
+
+pub returns-in-NotDeletes : goal.returns-in-NotDeletes
+returns-in-NotDeletes c = λ text tree only found. rules_only text tree (rules.at_place (place_refusal.NotDeletes c.in-NotDeletes.line)) only (subst (Refuses tree) c.in-NotDeletes.is found)
+
+pub returns-in-DeletesPlace : goal.returns-in-DeletesPlace
+returns-in-DeletesPlace c = λ text tree only found. rules_only text tree (rules.at_place (place_refusal.DeletesPlace c.in-DeletesPlace.line)) only (subst (Refuses tree) c.in-DeletesPlace.is found)
+
+pub returns-in-Main : goal.returns-in-Main
+returns-in-Main c = λ text tree only found. rules_only text tree (rules.at_main c.in-Main.line) only (subst (Refuses tree) c.in-Main.is found)

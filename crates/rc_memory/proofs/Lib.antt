@@ -1,0 +1,4 @@
+pub mod Lists
+pub mod Keeps
+pub mod Blanks
+pub mod Laying

@@ -1,0 +1,7 @@
+pub mod Values
+pub mod Outcomes
+pub mod Kept
+pub mod KeptWorld
+pub mod Leaving
+pub mod Laid
+pub mod Change

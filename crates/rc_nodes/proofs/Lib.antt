@@ -1,0 +1,4 @@
+pub mod LiveParts
+pub mod LiveFrames
+pub mod Lives
+pub mod Results

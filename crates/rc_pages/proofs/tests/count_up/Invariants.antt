@@ -1,8 +1,0 @@
-use Rattle.std.proofs.Common.{◌≡◌, length}
-use Rattle.rc_pages.proofs.tests.count_up.Given as goal
-
-abbrev pub invariant-loop-at : goal.invariant-loop-at
-invariant-loop-at l = record {
-  now : length l.pages ≡ length l.fn.pages;
-  end : l.at-end ≡ length l.fn.pages;
-}

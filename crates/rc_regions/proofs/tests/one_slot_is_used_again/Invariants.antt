@@ -1,7 +1,0 @@
-use Rattle.std.proofs.Common.{◌≡◌}
-use Rattle.rc_regions.specs.Above.{IsTree}
-use Rattle.rc_regions.specs.Slots.{live_slots}
-use Rattle.rc_regions.proofs.tests.one_slot_is_used_again.Given as goal
-
-abbrev pub invariant-loop : goal.invariant-loop
-invariant-loop g l = record { tree : IsTree l.tree; live : live_slots l.tree ≡ 1 }

@@ -1,0 +1,134 @@
+// Calls over objects in memory, and what they come to.
+use crate::row::{Came, Row};
+use rc_base::{Buffer, Bytes, Drawer, NoMemory};
+use rc_driver::{rc_main, status_of};
+use std::alloc::{AllocError, Global};
+use std::io::{self, ErrorKind};
+
+/// How many bytes the error stream takes.
+const ERROR_ROOM: u32 = 256;
+
+/// How many calls were made, and how many of them differ.
+#[derive(Clone, Copy)]
+pub(crate) struct Found {
+    pub(crate) calls: u64,
+    pub(crate) differ: u64,
+}
+
+fn with_one_file(alloc: Global, text: &[u8], fails: Vec<u64>) -> Result<Drawer, AllocError> {
+    let name = String::from_str(alloc, "a.c")?;
+    let files = Vec::from_array(alloc, [(name, text.to_vec(alloc)?)])?;
+    Ok(Drawer::new(alloc, files, fails))
+}
+
+/// A sink with room for so many bytes.
+fn sink(alloc: Global, room: u32, fails: &[u64]) -> io::Result<Buffer> {
+    match Buffer::new(alloc, room, fails.to_vec(alloc)?) {
+        Ok(sink) => Ok(sink),
+        Err(NoMemory) => Err(io::Error::from(ErrorKind::OutOfMemory)),
+    }
+}
+
+/// Makes the call of a row with these words, and answers what `rc_main` does, as `{:?}` prints it,
+/// and its status.
+fn answered(
+    alloc: Global,
+    row: &Row,
+    words: &[String],
+    out: &mut Buffer,
+    err: &mut Buffer,
+) -> io::Result<(String, u8)> {
+    let mut files = with_one_file(alloc, &row.text, row.failing.files.clone()?)?;
+    let mut input = Bytes::new(row.input.clone()?, row.failing.reads.clone()?);
+    let answer = rc_main(alloc, words, &mut files, &mut input, out, err);
+    let status = status_of(&answer);
+    Ok((format!(in alloc; "{answer:?}")?, status))
+}
+
+/// Makes the call of a row with these words, and answers what it came to.
+fn came(alloc: Global, row: &Row, words: &[String]) -> io::Result<Came> {
+    let mut out = sink(alloc, row.room, &row.failing.writes)?;
+    let mut err = sink(alloc, ERROR_ROOM, &row.failing.errors)?;
+    let (answer, status) = answered(alloc, row, words, &mut out, &mut err)?;
+    Ok(Came {
+        answer,
+        status,
+        out: out.taken().to_vec(alloc)?,
+        err: err.taken().to_vec(alloc)?,
+    })
+}
+
+/// Whether two lists have the same bytes.
+fn same_bytes(a: &[u8], b: &[u8]) -> bool {
+    a == b
+}
+
+/// Whether a call came to another thing than is wanted.
+fn is_other(came: &Came, wanted: &Came) -> bool {
+    if came.status != wanted.status {
+        return true;
+    }
+    if came.answer.as_str() != wanted.answer.as_str() {
+        return true;
+    }
+    if !same_bytes(came.out.as_slice(), wanted.out.as_slice()) {
+        return true;
+    }
+    !same_bytes(came.err.as_slice(), wanted.err.as_slice())
+}
+
+/// Prints what a call came to.
+fn print(
+    rt: &HostRuntime,
+    file: &str,
+    name: &str,
+    words: &[String],
+    came: &Came,
+) -> io::Result<()> {
+    let answer = came.answer.as_str();
+    let status = came.status;
+    println!(rt; "{file}: {name}: {words:?}: {answer} {status}")?;
+    let out = came.out.as_slice();
+    let err = came.err.as_slice();
+    println!(rt; "  {out:?} {err:?}")
+}
+
+/// Makes a call, and answers whether it differs from what the row wants, which it then prints.
+fn differs(rt: &HostRuntime, file: &str, row: &Row, words: &[String]) -> io::Result<bool> {
+    let came = came(rt.alloc(), row, words)?;
+    if !is_other(&came, &row.wanted) {
+        return Ok(false);
+    }
+    print(rt, file, row.name.as_str(), words, &came)?;
+    Ok(true)
+}
+
+/// The words that ask for the file with a verb and with these options.
+fn asking(alloc: Global, verb: &str, options: &[String]) -> Result<Vec<String>, AllocError> {
+    let mut words = Vec::new(alloc);
+    for word in [verb, "a.c"] {
+        words.push(String::from_str(alloc, word)?)?;
+    }
+    for option in options {
+        words.push(option.clone()?)?;
+    }
+    Ok(words)
+}
+
+/// Makes the calls of a row.
+pub(crate) fn differing(rt: &HostRuntime, file: &str, row: &Row) -> io::Result<Found> {
+    if !row.both {
+        let differs = differs(rt, file, row, &row.words)?;
+        return Ok(Found {
+            calls: 1,
+            differ: u64::from(differs),
+        });
+    }
+    let mut differ = 0u64;
+    for verb in ["run", "slow"] {
+        let words = asking(rt.alloc(), verb, &row.words)?;
+        let differs = differs(rt, file, row, &words)?;
+        differ = differ.saturating_add(u64::from(differs));
+    }
+    Ok(Found { calls: 2, differ })
+}

@@ -1,0 +1,62 @@
+// A row: what the calls are given, and what each must come to.
+use std::alloc::{AllocError, Global};
+
+/// The numbers of the calls that fail, from 0.
+#[derive(Drop)]
+pub(crate) struct Failing {
+    pub(crate) files: Vec<u64>,
+    pub(crate) reads: Vec<u64>,
+    pub(crate) writes: Vec<u64>,
+    pub(crate) errors: Vec<u64>,
+}
+
+/// What a call comes to: its answer as `{:?}` prints it, its status, and what the output and the error
+/// stream took.
+#[derive(Drop)]
+pub(crate) struct Came {
+    pub(crate) answer: String,
+    pub(crate) status: u8,
+    pub(crate) out: Vec<u8>,
+    pub(crate) err: Vec<u8>,
+}
+
+#[derive(Drop)]
+pub(crate) struct Row {
+    pub(crate) name: String,
+    /// The words of the one call, or the options of both.
+    pub(crate) words: Vec<String>,
+    pub(crate) both: bool,
+    pub(crate) text: Vec<u8>,
+    pub(crate) input: Vec<u8>,
+    pub(crate) failing: Failing,
+    /// How many bytes the output takes.
+    pub(crate) room: u32,
+    /// What each call must come to.
+    pub(crate) wanted: Came,
+}
+
+impl Row {
+    /// A row of this name that gives nothing else.
+    pub(crate) fn new(alloc: Global, name: &str) -> Result<Row, AllocError> {
+        Ok(Row {
+            name: String::from_str(alloc, name)?,
+            words: Vec::new(alloc),
+            both: true,
+            text: Vec::new(alloc),
+            input: Vec::new(alloc),
+            failing: Failing {
+                files: Vec::new(alloc),
+                reads: Vec::new(alloc),
+                writes: Vec::new(alloc),
+                errors: Vec::new(alloc),
+            },
+            room: 512,
+            wanted: Came {
+                answer: String::new(alloc),
+                status: 0,
+                out: Vec::new(alloc),
+                err: Vec::new(alloc),
+            },
+        })
+    }
+}

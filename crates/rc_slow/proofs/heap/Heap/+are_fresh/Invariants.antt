@@ -1,5 +1,0 @@
-use Rattle.std.proofs.Common.{length}
-use Rattle.rc_slow.proofs.heap.Heap.+are_fresh.Given as goal
-
-abbrev pub decreases-are_fresh : goal.decreases-are_fresh
-decreases-are_fresh l = length l.values.now

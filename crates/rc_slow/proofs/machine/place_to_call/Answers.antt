@@ -1,0 +1,32 @@
+use Rattle.std.proofs.Common.{◌∙◌, sym, ap, subst}
+use Rattle.rc_core.specs.Runs.{Run}
+use Rattle.rc_core.specs.Shapes.{program_of}
+use Rattle.rc_slow.specs.Advancing.{Leads, LeadsTo, standing, state_at}
+use Rattle.rc_nodes.specs.Codes.{frame_of, frames_of, CodeFrames}
+use Rattle.rc_memory.specs.KeptWorld.{KeptWorld}
+use Rattle.rc_slow.specs.Whole.{Progress, aim_step}
+use Rattle.rc_slow.proofs.Advances.{aim_any}
+use Rattle.rc_slow.proofs.machine.place_to_call.Goals as goal
+
+pub returns-in-None : goal.returns-in-None
+returns-in-None c = λ k w laid.
+    let program = program_of c.args.setting.now.parts.now in
+    let limits = c.args.setting.now.limits in
+    let m0 = c.args.machine.now in
+    let P : CodeFrames → Type 0 = λ fs. LeadsTo limits c.leave_without_value.result c.leave_without_value.new.machine w (aim_step program (frames_of fs) c.args.target (state_at k m0) (standing limits m0 w)) in
+    subst P (sym c.in-None.ensures) (c.leave_without_value.ensures program limits k w)
+
+pub returns-in-Some : goal.returns-in-Some
+returns-in-Some c = λ k w laid.
+    let program = program_of c.args.setting.now.parts.now in
+    let limits = c.args.setting.now.limits in
+    let m0 = c.args.machine.now in
+    let s = state_at k m0 in
+    let W = standing limits m0 w in
+    let fs = frames_of c.pop.new.self in
+    let P : Run KeptWorld Progress → Type 0 = λ r. Leads limits c.place_to_frame.result c.place_to_frame.new.machine w (r) in
+    c.proceed.ensures limits c.place_to_frame.new.machine w _
+    (subst P
+    (sym (aim_any program limits (frame_of c.in-Some.frame) fs c.args.target s fs W)
+    ∙ ap (λ l. aim_step program (frames_of l) c.args.target s W) (sym c.in-Some.ensures))
+    (c.place_to_frame.ensures k w laid))

@@ -1,0 +1,12 @@
+use Rattle.std.proofs.Common.{sym, subst}
+use Rattle.rc_slow.specs.Advancing.{LeadsTo, standing, state_at}
+use Rattle.rc_nodes.specs.Codes.{frames_of, CodeFrames}
+use Rattle.rc_memory.specs.Values.{value_of}
+use Rattle.rc_slow.specs.Whole.{returns_step}
+use Rattle.rc_slow.proofs.machine.returned_to_call.Goals as goal
+
+pub returns-in-None : goal.returns-in-None
+returns-in-None c = λ program limits k w.
+    let m0 = c.args.machine.now in
+    let P : CodeFrames → Type 0 = λ fs. LeadsTo limits c.leave_call.result c.leave_call.new.machine w (returns_step program (frames_of fs) (value_of c.args.value) (state_at k m0) (standing limits m0 w)) in
+    subst P (sym c.in-None.ensures) (c.leave_call.ensures program limits k w)

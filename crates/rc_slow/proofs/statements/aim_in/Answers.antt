@@ -1,9 +1,0 @@
-use Rattle.std.proofs.Common.{◌∙◌, ap}
-use Rattle.rc_core.specs.Shapes.{place_of}
-use Rattle.rc_slow.specs.Codes.{frames_of, CodeFrames}
-use Rattle.rc_slow.specs.Stepping.{start}
-use Rattle.rc_slow.proofs.Results.{if_ok_map}
-use Rattle.rc_slow.proofs.statements.aim_in.Goals as goal
-
-pub returns-clause-waits : goal.returns-clause-waits
-returns-clause-waits c = if_ok_map c.start.result _ _ (λ x h program env. h program env ∙ ap (λ (fs : CodeFrames). start program (place_of c.args.place.now) (frames_of fs) env) c.in_ok-push.ensures.pushed) c.start.ensures.starts

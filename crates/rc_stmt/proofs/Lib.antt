@@ -1,0 +1,6 @@
+pub mod Going
+pub mod Tests
+pub mod Inside
+pub mod Values
+pub mod Declarators
+pub mod Stated

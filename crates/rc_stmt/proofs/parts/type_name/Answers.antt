@@ -1,0 +1,13 @@
+use Rattle.std.proofs.Common.{refl}
+use Rattle.rc_syntax.specs.Grammar.{TypeName}
+use Rattle.rc_syntax.specs.Shape.{type_of}
+use Rattle.rc_expr.specs.Goes.{from, spot_of}
+use Rattle.rc_expr.proofs.Tests.{quiet_plain}
+use Rattle.rc_stmt.proofs.Going.{from_anywhere}
+use Rattle.rc_stmt.proofs.parts.type_name.Goals as goal
+
+pub returns-clause-reads : goal.returns-clause-reads
+returns-clause-reads c =
+    let ts = c.args.tokens.now in
+    from_anywhere (record { none = refl; plain = λ n r. refl }) c.requires.few c.type_name.ensures.place
+    (λ x e. quiet_plain TypeName (spot_of ts c.args.at) (type_of x.0) (from ts x.1) (λ p. refl)) c.type_name.ensures.reads
