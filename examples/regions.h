@@ -5,8 +5,8 @@
    (clang takes the same words). `rc` itself never reads this file: it skips each line `#include`.
 
    Here nothing is checked: a pointer into a deleted region is as wild as any other in C, no
-   annotation is looked at, and a deletion always goes through. What a program that rc runs without a
-   trap writes, and the status that it ends with, are the same. */
+   annotation is looked at, and a deletion always goes through. C also leaves open what RC defines, as
+   the order of operands, and does not let a string literal be written to. */
 #ifndef REGIONS_H
 #define REGIONS_H
 
