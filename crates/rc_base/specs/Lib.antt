@@ -1,6 +1,8 @@
 pub mod Acts
+pub mod BitSets
 pub mod Causes
 pub mod Files
+pub mod Limits
 pub mod Memory
 pub mod Shelves
 pub mod Sinks

@@ -34,15 +34,12 @@ impl Buffer {
     pub fn new(alloc: Global, room: u32, fails: Vec<u64>) -> Result<Buffer, NoMemory>
         ensures { IfOk result (λ b. b ≡ record { taken = []; flushed = 0; room = room; calls = no_calls fails.items }) }
     {
-        match Vec::with_capacity(alloc, room as usize) {
-            Ok(bytes) => Ok(Buffer {
-                bytes,
-                flushed: 0,
-                room,
-                calls: CallCount::new(fails),
-            }),
-            Err(_) => Err(NoMemory),
-        }
+        Ok(Buffer {
+            bytes: Vec::with_capacity(alloc, room as usize)?,
+            flushed: 0,
+            room,
+            calls: CallCount::new(fails),
+        })
     }
 
     /// The bytes that it took, in their order.

@@ -130,10 +130,7 @@ impl Shelf for Drawer {
         let Some(file) = find(&self.files, name) else {
             return Err(ShelfFault::Absent);
         };
-        match front(alloc, file, most) {
-            Ok(piece) => Ok(piece),
-            Err(_) => Err(ShelfFault::Memory),
-        }
+        Ok(front(alloc, file, most)?)
     }
 
     #[tactic(auto, using(crate::proofs::Held::held_with_same, crate::proofs::Held::held_with_other))]
@@ -146,9 +143,7 @@ impl Shelf for Drawer {
         if self.calls.fails_now() {
             return Err(ShelfFault::Failed);
         }
-        match put(alloc, &mut self.files, name, bytes) {
-            Ok(()) => Ok(()),
-            Err(_) => Err(ShelfFault::Memory),
-        }
+        put(alloc, &mut self.files, name, bytes)?;
+        Ok(())
     }
 }

@@ -1,6 +1,6 @@
 // The outside: what gives bytes, what takes them, and what keeps files.
 use crate::Octets;
-use std::alloc::Global;
+use std::alloc::{AllocError, AllocFailed, Global};
 
 /// A call on the outside failed, and its count of faults rose.
 #[derive(Clone, Copy, Debug, PartialEq, Eq)]
@@ -9,6 +9,22 @@ pub struct Failed;
 /// There was no memory.
 #[derive(Clone, Copy, Debug, PartialEq, Eq)]
 pub struct NoMemory;
+
+impl From<AllocError> for NoMemory {
+    ghost from_gives = { λ _ _. Unit {0} };
+
+    fn from(_error: AllocError) -> NoMemory {
+        NoMemory
+    }
+}
+
+impl<T: Drop> From<AllocFailed<T>> for NoMemory {
+    ghost from_gives = { λ _ _. Unit {0} };
+
+    fn from(_error: AllocFailed<T>) -> NoMemory {
+        NoMemory
+    }
+}
 
 /// What gives bytes, as standard input does.
 pub trait Source {
@@ -51,6 +67,17 @@ pub enum ShelfFault {
     Absent,
     Failed,
     Memory,
+}
+
+impl From<AllocError> for ShelfFault {
+    ghost use Rattle.std.specs.Prelude.{◌≡◌};
+    ghost use Rattle.rc_base.specs.declared.outside.ShelfFault.TheVariants.{Memory};
+
+    ghost from_gives = { λ _ fault. fault ≡ Memory };
+
+    fn from(_error: AllocError) -> ShelfFault {
+        ShelfFault::Memory
+    }
 }
 
 /// What keeps files by name.

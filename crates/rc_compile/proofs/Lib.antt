@@ -1,3 +1,5 @@
+pub mod EveryText
 pub mod Found
+pub mod InPlace
 pub mod Limits
 pub mod OneAnswer

@@ -1,6 +1,7 @@
 -- Which texts are programs, and why another is refused. A text goes through its words, its tree, the rules of types and the
 -- counts of what it needs, and is refused by the first of these that it fails.
 use Rattle.std.specs.Prelude.{◌≡◌, ◌<◌, ◌≤◌, ℕ, List, length, Some}
+use Rattle.rc_base.specs.Limits.{most_text_bytes}
 use Rattle.rc_syntax.specs.Tokens.{Token}
 use Rattle.rc_syntax.specs.Words.{Words, UnreadByte, UnreadToken}
 use Rattle.rc_syntax.specs.Tree.{Tree}
@@ -16,7 +17,7 @@ use Rattle.rc_compile.specs.declared.refusal.Refusal.TheVariants.{TooLong, Byte,
 
 -- it is no longer than a text may be, and these are its words
 pub record HasWords (text : List ℕ) (tokens : List Token) : Type 0 where
-  pub short : length text ≤ 1048576
+  pub short : length text ≤ most_text_bytes
   pub words : Words text tokens
 
 -- this is the tree of its words, none of which is too deep
@@ -66,8 +67,8 @@ pub data TooMuch (program : Program) : Refusal → Type 0 where
 
 -- why a text is no program
 pub data Refused (text : List ℕ) (refusal : Refusal) : Type 0 where
-  too_long : 1048576 < length text → refusal ≡ TooLong → Refused text refusal
-  in_words : length text ≤ 1048576 → Unread text refusal → Refused text refusal
+  too_long : most_text_bytes < length text → refusal ≡ TooLong → Refused text refusal
+  in_words : length text ≤ most_text_bytes → Unread text refusal → Refused text refusal
   in_tree : (tokens : List Token) → HasWords text tokens → NoTree tokens refusal → Refused text refusal
   in_rules : (tree : Tree) (fault : rules.Refused) → HasTree text tree → rules.refusal tree ≡ Some fault → refusal ≡ rule_refusal fault → Refused text refusal
   in_counts : (program : Program) → HasProgram text program → TooMuch program refusal → Refused text refusal

@@ -1,4 +1,5 @@
 mod Paths
+mod Points
 pub mod Computed
 pub mod ShapeRows
 pub mod LayoutLaws
@@ -8,3 +9,5 @@ mod Follows
 mod Grows
 mod SourceFollows
 mod RunLaws
+pub mod Entries
+pub mod Laying

@@ -2,18 +2,19 @@
 use Rattle.std.proofs.Common.{◌≡◌, ℕ, Bool, true, false, ◌||◌, ◌&&◌, not, [], ◌∷◌, refl, sym, ap, ◌∙◌, ◌⊎◌, inl, inr, ⊎_elim, subst}
 use Rattle.std.specs.Prelude.{nat_eq, ◌↔◌, Option, Some, None, is_some, IsTrue, IsFalse, IsSome}
 use Rattle.rc_core.specs.Programs.{Expr, Stmt, block, declare, assign, store, update, copy, evaluate, delete, branch, while, repeat, for, break, continue, return, Stmts, done, then}
-use Rattle.rc_core.specs.Live.{uses, place_uses, optional_uses, Ways, round, then_live, unless_set, before, before_all, while_head, repeat_head, for_head, while_body, repeat_test, repeat_body, for_third, for_body, at_end, either}
+use Rattle.rc_core.specs.Live.{uses, place_uses, optional_uses, Ways, round, then_live, unless_set, before, before_all, while_head, repeat_head, for_head, while_body, repeat_test, repeat_body, for_third, for_body, either}
+use Rattle.rc_core.specs.Points.{ways_of, live_at as At}
 use Rattle.rc_core.specs.Flow.{Loop, while_loop, for_loop, Item, statement, condition, round_end, Point, statements, out_of, back_of, Leads, item_uses, item_sets, IsLive, used, later, IsLiveBehind, AreLive}
 
-or_left : (a b : Bool) → IsTrue a → IsTrue (a || b)
+pub or_left : (a b : Bool) → IsTrue a → IsTrue (a || b)
 or_left true b h = refl
 or_left false b h = cc
 
-or_right : (a b : Bool) → IsTrue b → IsTrue (a || b)
+pub or_right : (a b : Bool) → IsTrue b → IsTrue (a || b)
 or_right true b h = refl
 or_right false b h = h
 
-or_cases : (a b : Bool) → IsTrue (a || b) → (IsTrue a) ⊎ (IsTrue b)
+pub or_cases : (a b : Bool) → IsTrue (a || b) → (IsTrue a) ⊎ (IsTrue b)
 or_cases true b h = inl refl
 or_cases false b h = inr h
 
@@ -25,7 +26,7 @@ or_ends : (a b c : Bool) → IsTrue (a || (b || c)) → (IsTrue (a || b)) ⊎ (I
 or_ends true b c h = inl refl
 or_ends false b c h = or_cases b c h
 
-or_cong : (a b c d : Bool) → a ≡ c → b ≡ d → (a || b) ≡ (c || d)
+pub or_cong : (a b c d : Bool) → a ≡ c → b ≡ d → (a || b) ≡ (c || d)
 or_cong a b c d e f = cc
 
 unset_true : (y x : ℕ) (c : Bool) → IsTrue (unless_set y x c) → IsFalse (nat_eq y x) × IsTrue c
@@ -43,14 +44,14 @@ unset y x c e h = by_test (nat_eq y x) e
     by_test false e = h
 
 -- the ways that agree at a local
-record Agree (x : ℕ) (k l : Ways) : Type 0 where
-  next : k.next x ≡ l.next x
-  broken : k.broken x ≡ l.broken x
-  continued : k.continued x ≡ l.continued x
+pub record Agree (x : ℕ) (k l : Ways) : Type 0 where
+  pub next : k.next x ≡ l.next x
+  pub broken : k.broken x ≡ l.broken x
+  pub continued : k.continued x ≡ l.continued x
 
 -- what is live before a statement at a local goes by what is live behind it at that local
 mutual
-  before_agrees : (s : Stmt) (k l : Ways) (x : ℕ) → Agree x k l → before s k x ≡ before s l x
+  pub before_agrees : (s : Stmt) (k l : Ways) (x : ℕ) → Agree x k l → before s k x ≡ before s l x
   before_agrees (block body) k l x a = all_agree body k l x a
   before_agrees (declare line y value) k l x a = ap (λ b. optional_uses value x || unless_set y x b) a.next
   before_agrees (assign line y e) k l x a = ap (λ b. uses e x || unless_set y x b) a.next
@@ -73,21 +74,11 @@ mutual
   before_agrees (continue line) k l x a = a.continued
   before_agrees (return line value) k l x a = refl
 
-  all_agree : (body : Stmts) (k l : Ways) (x : ℕ) → Agree x k l → before_all body k x ≡ before_all body l x
+  pub all_agree : (body : Stmts) (k l : Ways) (x : ℕ) → Agree x k l → before_all body k x ≡ before_all body l x
   all_agree done k l x a = a.next
   all_agree (then s rest) k l x a = before_agrees s (then_live (before_all rest k) k) (then_live (before_all rest l) l) x (record { next = all_agree rest k l x a; broken = a.broken; continued = a.continued })
 
--- the ways to a point, as an execution makes them
-abbrev pub ways_of : Point → Ways
-ways_of [] = at_end
-ways_of (statement s ∷ rest) = then_live (before s (ways_of rest)) (ways_of rest)
-ways_of (condition loop ∷ rest) = for_third loop.test loop.third loop.body (ways_of rest)
-ways_of (round_end loop ∷ rest) = for_body loop.test loop.third loop.body (ways_of rest)
-
-abbrev At : Point → ℕ → Bool
-At p x = (ways_of p).next x
-
-all_ways : (body : Stmts) (rest : Point) (x : ℕ) → Agree x (ways_of (statements body rest)) (then_live (before_all body (ways_of rest)) (ways_of rest))
+pub all_ways : (body : Stmts) (rest : Point) (x : ℕ) → Agree x (ways_of (statements body rest)) (then_live (before_all body (ways_of rest)) (ways_of rest))
 all_ways done rest x = record { next = refl; broken = refl; continued = refl }
 all_ways (then s more) rest x =
     let a = all_ways more rest x in
@@ -125,11 +116,11 @@ condition_again loop rest x h = by_condition (At (condition loop ∷ rest) x) re
         let b = before_agrees loop.body (round (before loop.third (then_live (λ _. false) k)) k) (for_body loop.test loop.third loop.body k) x (record { next = t; broken = refl; continued = t }) in
         or_right (optional_uses loop.test x) _ (or_right (is_some loop.test && k.next x) _ (b ∙ h))
 
-and_next : (o : Option Expr) (b : Bool) → IsSome o → IsTrue b → IsTrue (is_some o && b)
+pub and_next : (o : Option Expr) (b : Bool) → IsSome o → IsTrue b → IsTrue (is_some o && b)
 and_next None b s h = cc
 and_next (Some e) b s h = h
 
-and_cases : (o : Option Expr) (b : Bool) → IsTrue (is_some o && b) → IsSome o × IsTrue b
+pub and_cases : (o : Option Expr) (b : Bool) → IsTrue (is_some o && b) → IsSome o × IsTrue b
 and_cases None b h = cc
 and_cases (Some e) b h = (refl, h)
 
@@ -276,13 +267,13 @@ ways_sound (round_end loop ∷ rest) x =
     again r h = later (round_end loop) rest (statement loop.third ∷ condition loop ∷ rest) refl refl (paths loop.third x (condition loop ∷ rest) (for_third loop.test loop.third loop.body (ways_of rest)) (record { next = at_condition r; broken = r.broken; continued = r.continued }) h)
 
 -- the function is the paths
-at_is : (p : Point) (x : ℕ) → IsTrue (At p x) ↔ IsLive x p
+pub at_is : (p : Point) (x : ℕ) → IsTrue (At p x) ↔ IsLive x p
 at_is p x = ((ways_sound p x).next, path_live x p)
 
 pub ways_live : (p : Point) → AreLive (ways_of p) p
 ways_live p = record { next = λ x. at_is p x; broken = λ x. ((ways_sound p x).broken, λ h. broken_is p x ∙ path_live x (out_of p) h); continued = λ x. ((ways_sound p x).continued, λ h. continued_is p x ∙ path_live x (back_of p) h) }
 
-same_truth : (a b : Bool) → (IsTrue a → IsTrue b) → (IsTrue b → IsTrue a) → a ≡ b
+pub same_truth : (a b : Bool) → (IsTrue a → IsTrue b) → (IsTrue b → IsTrue a) → a ≡ b
 same_truth true b f g = sym (f refl)
 same_truth false true f g = g refl
 same_truth false false f g = refl
@@ -295,7 +286,7 @@ agree_if k l p a b x = record {
   continued = same_truth _ _ (λ h. (b.continued x).1 ((a.continued x).0 h)) (λ h. (a.continued x).1 ((b.continued x).0 h));
 }
 
-live_if : (k l : Ways) (p : Point) → ((x : ℕ) → Agree x k l) → AreLive l p → AreLive k p
+pub live_if : (k l : Ways) (p : Point) → ((x : ℕ) → Agree x k l) → AreLive l p → AreLive k p
 live_if k l p e a = record {
   next = λ x. ((λ h. (a.next x).0 (sym (e x).next ∙ h)), (λ h. (e x).next ∙ (a.next x).1 h));
   broken = λ x. ((λ h. (a.broken x).0 (sym (e x).broken ∙ h)), (λ h. (e x).broken ∙ (a.broken x).1 h));
@@ -321,7 +312,7 @@ while_body_live test body k p a = live_if _ (ways_of (round_end (while_loop test
     agree_at x e = let h = before_agrees (while 0 test body) k (ways_of p) x e in record { next = h; broken = e.next; continued = h }
 
 -- before the condition of a `do` the same is live as before that of a `while`
-repeat_test_is : (body : Stmt) (test : Expr) (k : Ways) (x : ℕ) → repeat_test body test k x ≡ while_head test body k x
+pub repeat_test_is : (body : Stmt) (test : Expr) (k : Ways) (x : ℕ) → repeat_test body test k x ≡ while_head test body k x
 repeat_test_is body test k x =
     by_test (uses test x || k.next x) refl
   where

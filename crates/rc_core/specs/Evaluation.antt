@@ -75,16 +75,20 @@ module _ {W : Type 0} (ops : Ops W) (program : Program) where
     eval (local line x) calls env w = Go (local_at env x) w
     eval (read line place) calls env w = bind (target place calls env w) (ops.load line)
     eval (address line g) calls env w = Go (static g) w
+    -- p + i, p - i, &p[i]: p, i, and then the tests of the step
     eval (step line direction p i) calls env w =
         bind (eval p calls env w) (λ v w1. bind (eval i calls env w1) (λ n w2. ops.step line v (toward direction (number_in n)) w2))
+    -- i + p: i, p, and then the step
     eval (step_from line i p) calls env w =
         bind (eval i calls env w) (λ n w1. bind (eval p calls env w1) (λ v w2. ops.step line v (number_in n) w2))
     eval (unary line operator s e) calls env w =
         bind (eval e calls env w) (λ v w1. bind (computed line (calculate_one operator s (number_in v)) w1) give_number)
+    -- a + b and the like: a, b, and then the operation, which may trap
     eval (binary line operator s a b) calls env w =
         bind (eval a calls env w) (λ v w1. bind (eval b calls env w1) (λ u w2. bind (computed line (calculate operator s (number_in v) (number_in u)) w2) give_number))
     eval (convert line from to e) calls env w = bind (eval e calls env w) (λ v w1. Go (Number (converted to (number_in v))) w1)
     eval (not_zero line e) calls env w = bind (eval e calls env w) (λ v w1. Go (as_wanted false (is_true v)) w1)
+    -- a && b, a || b: b only where a leaves it open; test ? a : b: one of both
     eval (and line a b) calls env w =
         bind (eval a calls env w) (λ v. branching (is_true v) (λ w1. bind (eval b calls env w1) (λ u w2. Go (as_wanted true (is_true u)) w2)) (Go (Number (pos 0))))
     eval (or line a b) calls env w =
@@ -92,15 +96,19 @@ module _ {W : Type 0} (ops : Ops W) (program : Program) where
     eval (choose line test a b) calls env w =
         bind (eval test calls env w) (λ v. branching (is_true v) (eval a calls env) (eval b calls env))
     eval (is_null line wanted e) calls env w = bind (eval e calls env w) (λ v w1. Go (as_wanted wanted (not (is_true v))) w1)
+    -- a == b, a != b, of pointers and regions
     eval (same line wanted a b) calls env w =
         bind (eval a calls env w) (λ v w1. bind (eval b calls env w1) (λ u w2. Go (as_wanted wanted (same_value v u)) w2))
+    -- f(a, b): the arguments, and then the call, which takes its turn
     eval (call line f arguments) calls env w = bind (eval_all arguments calls env w) (calls f)
     eval (new_region line) calls env w = ops.new_region line w
     eval (new_subregion line r) calls env w = bind (eval r calls env w) (ops.new_subregion line)
     eval (region_of line p) calls env w = bind (eval p calls env w) (region_named line)
     eval (allocate line r ty) calls env w = bind (eval r calls env w) (λ v w1. ops.allocate line v (pos 1) (cells program.structs ty) w1)
+    -- rarrayalloc(r, n, ty): the region, the number, and then the tests of the allocation
     eval (allocate_array line r n ty) calls env w =
         bind (eval r calls env w) (λ v w1. bind (eval n calls env w1) (λ m w2. ops.allocate line v (number_in m) (cells program.structs ty) w2))
+    -- putchar(e): the byte that is written is also the result
     eval (putchar line e) calls env w =
         bind (eval e calls env w) (λ v w1. bind (ops.put_byte (byte_of (number_in v)) w1) (λ _ w2. Go (Number (pos (byte_of (number_in v)))) w2))
     eval (getchar line) calls env w = bind (ops.get_byte w) give_number
@@ -109,6 +117,7 @@ module _ {W : Type 0} (ops : Ops W) (program : Program) where
     eval_all none calls env w = Go [] w
     eval_all (more e rest) calls env w = bind (eval e calls env w) (λ v w1. bind (eval_all rest calls env w1) (λ vs w2. Go (v ∷ vs) w2))
 
+    -- of p->f, a[i].g and the like: the pointer, the index, and the indices of array fields, from left to right; nothing is tested
     pub target : Place → Calls W → List Value → W → Run W Target
     target (global g path) calls env w = along path (aimed (static g) (pos 0)) calls env w
     target (pointed p path) calls env w = bind (eval p calls env w) (λ v w1. along path (aimed v (pos 0)) calls env w1)

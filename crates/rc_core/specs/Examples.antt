@@ -20,28 +20,28 @@ limits turns = record { turns = turns; regions = 10; blocks = 10 }
 abbrev pub Runs : Program → (turns : ℕ) → List Act → End → Type 0
 Runs program turns acts end = meaning program [] (limits turns) ≡ record { acts = acts; taken = 0; end = Ends end }
 
-abbrev number : ℤ → Expr
+abbrev pub number : ℤ → Expr
 number n = constant 1 Signed n
 
-abbrev one : Ty → Field
+abbrev pub one : Ty → Field
 one ty = record { ty = ty; count = None }
 
-abbrev to_node : Ty
+abbrev pub to_node : Ty
 to_node = pointer Plain (struct 0)
 
-abbrev function_with : (parameters : ℕ) → List Ty → Stmts → Function
+abbrev pub function_with : (parameters : ℕ) → List Ty → Stmts → Function
 function_with parameters locals body = record { parameters = parameters; locals = locals; result = Some int; deletes = true; line = 1; body = block body }
 
-abbrev program_with : List Struct → List Global → List Function → Program
+abbrev pub program_with : List Struct → List Global → List Function → Program
 program_with structs globals functions = record { structs = structs; globals = globals; strings = []; functions = functions; main = 0 }
 
-abbrev give : ℕ → Stmts
+abbrev pub give : ℕ → Stmts
 give line = then (return line (Some (number (pos 0)))) done
 
-abbrev new : (line x : ℕ) → Stmt
+abbrev pub new : (line x : ℕ) → Stmt
 new line x = declare line x (Some (new_region line))
 
-abbrev allocate_in : (line x region : ℕ) → Stmt
+abbrev pub allocate_in : (line x region : ℕ) → Stmt
 allocate_in line x r = declare line x (Some (allocate line (local line r) (struct 0)))
 
 -- putchar(72); return 0;

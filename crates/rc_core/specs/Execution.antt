@@ -83,6 +83,7 @@ module _ {W : Type 0} (ops : Ops W) (program : Program) where
   abbrev pub value_of : Calls W → (live : ℕ → Bool) → Expr → List Value → W → Run W Value
   value_of calls live e env w = eval ops program e (calling calls live env) env w
 
+  -- x = e; the value, and then the local is set. It is not held in the value's calls: what was in it is not used again.
   abbrev pub set_local : Calls W → (live : ℕ → Bool) → ℕ → Expr → List Value → W → Run W Flow
   set_local calls live x e env w = bind (value_of calls (λ y. unless_set x y (live y)) e env w) (λ v w1. Go (Next (with_local env x v)) w1)
 
@@ -92,7 +93,8 @@ module _ {W : Type 0} (ops : Ops W) (program : Program) where
       bind (computed line (calculate operator s (converted (type_of s) (number_in old)) (number_in v)) w) (λ n w1. Go (Number (converted from n)) w1)
   changed line (Step direction) old v w = ops.step line old (toward direction (number_in v)) w
 
-  -- a loop whose condition stands before its body; behind a round it takes a turn
+  -- a loop whose condition stands before its body; behind a round it takes a turn. The number only makes this a function: it is one
+  -- more than the turns that are left, and each round takes one of them, so they end first (laws `spent` and `enough`).
   abbrev pub rounds : ℕ → (test : List Value → W → Run W Value) → (body : (List Value → W → Run W Flow) → List Value → W → Run W Flow) → List Value → W → Run W Flow
   rounds zero test body env w = spent w
   rounds (suc n) test body env w =
@@ -100,7 +102,7 @@ module _ {W : Type 0} (ops : Ops W) (program : Program) where
       (body (λ env1 w1. bind (ops.take_turn w1) (λ _ w2. rounds n test body env1 w2)) env)
       (Go (Next env)))
 
-  -- a loop whose condition stands behind its body
+  -- a loop whose condition stands behind its body; a step back takes a turn. The number is as in `rounds`.
   abbrev pub rounds_first : ℕ → (test : List Value → W → Run W Value) → (body : (List Value → W → Run W Flow) → List Value → W → Run W Flow) → List Value → W → Run W Flow
   rounds_first zero test body env w = spent w
   rounds_first (suc n) test body env w =
@@ -116,39 +118,49 @@ module _ {W : Type 0} (ops : Ops W) (program : Program) where
   abbrev mutual
     pub exec : Stmt → Function → Calls W → Ways → List Value → W → Run W Flow
     exec (block body) f calls k env w = exec_all body f calls k env w
+    -- int x; zero or null, each time that it is come to
     exec (declare line x None) f calls k env w = Go (Next (with_local env x (zero_of (local_type f x)))) w
     exec (declare line x (Some e)) f calls k env w = set_local calls k.next x e env w
     exec (assign line x e) f calls k env w = set_local calls k.next x e env w
+    -- p->f = e; the operands of the place, the value, and then the place's tests and the store
     exec (store line place e) f calls k env w =
         bind (target ops program place (calling calls k.next env) env w) (λ t w1.
         bind (value_of calls k.next e env w1) (λ v w2.
         bind (ops.store line t v w2) (λ _ w3. Go (Next env) w3)))
+    -- p->f += e; the operands of the place, the right side, the place's tests and its old value, the new value, and the store
     exec (update line place change e) f calls k env w =
         bind (target ops program place (calling calls k.next env) env w) (λ t w1.
         bind (value_of calls k.next e env w1) (λ v w2.
         bind (ops.load line t w2) (λ old w3.
         bind (changed line change old v w3) (λ new w4.
         bind (ops.store line t new w4) (λ _ w5. Go (Next env) w5)))))
+    -- *p = *q; the operands of the left place, those of the right, all cells of the right, and then those of the left are tested
+    -- and set
     exec (copy line s left right) f calls k env w =
         bind (target ops program left (calling calls k.next env) env w) (λ to w1.
         bind (target ops program right (calling calls k.next env) env w1) (λ from w2.
         bind (ops.load_all line from (size program.structs (struct s)) w2) (λ vs w3.
         bind (ops.store_all line to vs w3) (λ _ w4. Go (Next env) w4))))
     exec (evaluate line e) f calls k env w = bind (value_of calls k.next e env w) (λ _ w1. Go (Next env) w1)
+    -- deleteregion(e); the region, and then the deletion, with the values of what is live behind it
     exec (delete line e) f calls k env w =
         bind (value_of calls k.next e env w) (λ v w1. bind (ops.delete line (held k.next env) v w1) (λ _ w2. Go (Next env) w2))
+    -- if (test) a else b; in the condition's calls what is live on either way is held
     exec (branch line test a b) f calls k env w =
         bind (value_of calls (either (before a k) (before b k)) test env w) (λ v. branching (is_true v) (exec a f calls k env) (exec b f calls k env))
+    -- while (test) body
     exec (while line test body) f calls k env w =
         rounds (suc (ops.turns_left w))
         (value_of calls (either k.next (before body (while_body test body k))) test)
         (λ again env1 w1. bind (exec body f calls (while_body test body k) env1 w1) (behind_body again))
         env w
+    -- do body while (test);
     exec (repeat line body test) f calls k env w =
         rounds_first (suc (ops.turns_left w))
         (value_of calls (either k.next (repeat_head body test k)) test)
         (λ again env1 w1. bind (exec body f calls (repeat_body body test k) env1 w1) (behind_body again))
         env w
+    -- for (first; test; third) body; behind a round the third part, and then the turn. A `continue` leads to the third part.
     exec (for line first test third body) f calls k env w =
         bind (exec first f calls (then_live (for_head test third body k) k) env w) (behind (λ env1 w1.
         rounds (suc (ops.turns_left w1))
@@ -159,6 +171,7 @@ module _ {W : Type 0} (ops : Ops W) (program : Program) where
     exec (break line) f calls k env w = Go (Broke env) w
     exec (continue line) f calls k env w = Go (Continued env) w
     exec (return line None) f calls k env w = Go (Returned Null) w
+    -- return e; no local is live behind it
     exec (return line (Some e)) f calls k env w = bind (value_of calls (λ _. false) e env w) (λ v w1. Go (Returned v) w1)
 
     pub exec_all : Stmts → Function → Calls W → Ways → List Value → W → Run W Flow
@@ -170,7 +183,8 @@ module _ {W : Type 0} (ops : Ops W) (program : Program) where
   run_function calls None arguments w = Go Null w
   run_function calls (Some f) arguments w = bind (exec f.body f calls at_end (first_locals f arguments) w) (result_of f.result)
 
-  -- at most so many calls stand inside one another; no run has more than its turns allow
+  -- a call takes its turn, behind its arguments. At most so many calls stand inside one another. The number only makes this a
+  -- function: each call takes a turn, so where it is more than the turns that are left, they end first.
   abbrev pub calls_within : ℕ → Calls W
   calls_within zero f arguments w = spent w
   calls_within (suc n) f arguments w =

@@ -25,6 +25,10 @@ pub record Object : Type 0 where
   pub count : ℕ
   pub values : List Value
 
+-- the kinds of an object's cells, one after another
+abbrev pub kinds_of : Object → Layout
+kinds_of o = flat_map (λ layout. layout) (replicate o.count o.layout)
+
 pub record Region : Type 0 where
   pub parent : ℕ
   pub alive : Bool
@@ -77,7 +81,8 @@ names r value = of_region false (λ q. nat_eq q r) value
 abbrev pub is_fresh : (live : ℕ → Bool) → Value → Bool
 is_fresh live value = of_region true live value
 
--- a is above b where a is b, or above b's parent; a parent has the smaller number, so b steps up reach region 0
+-- a is above b where a is b, or above b's parent. The steps only make this a function: a parent has the smaller number, so b
+-- steps up reach region 0
 abbrev pub is_above_within : (parent : ℕ → ℕ) → (steps a b : ℕ) → Bool
 is_above_within parent zero a b = nat_eq a b
 is_above_within parent (suc steps) a b = nat_eq a b || (not (nat_eq b 0) && is_above_within parent steps a (parent b))

@@ -50,7 +50,6 @@ fields_of structs structure = get_or structs structure []
 abbrev pub offset : List Struct → (structure field : ℕ) → ℕ
 offset structs structure field = length (fields_cells (layouts_of structs) (take field (fields_of structs structure)))
 
--- a field's length, where it is an array, and the cells of one of its elements
 abbrev pub field_at : List Struct → (structure field : ℕ) → Option Field
 field_at structs structure field = slice_get (fields_of structs structure) field
 
@@ -62,9 +61,11 @@ abbrev pub stride_in : List Struct → Option Field → ℕ
 stride_in structs None = 0
 stride_in structs (Some f) = size structs f.ty
 
+-- a field's length, where it is an array
 abbrev pub count_of : List Struct → (structure field : ℕ) → ℕ
 count_of structs structure field = count_in (field_at structs structure field)
 
+-- the cells of one element of an array field
 abbrev pub stride : List Struct → (structure field : ℕ) → ℕ
 stride structs structure field = stride_in structs (field_at structs structure field)
 

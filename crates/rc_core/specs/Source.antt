@@ -57,11 +57,12 @@ is_index z count = int_le (pos 0) z && int_lt z (pos count)
 abbrev pub chosen_in_range : Chosen → Bool
 chosen_in_range c = is_index c.index c.count
 
--- the cell of the element that the target names
+-- the cells that stand before the chosen elements, within their array fields
 abbrev pub cells_chosen : List Chosen → ℕ
 cells_chosen [] = 0
 cells_chosen (c ∷ cs) = unsigned_abs c.index * c.stride + cells_chosen cs
 
+-- the cell in the element that the target names
 abbrev pub cell_of : Target → ℕ
 cell_of t = t.offset + cells_chosen t.chosen
 
@@ -165,6 +166,7 @@ abbrev pub is_empty : List Value → Bool
 is_empty [] = true
 is_empty (v ∷ vs) = false
 
+-- it keeps its objects, though nothing looks at them again: a value that still leads to one keeps its type
 abbrev pub killed : Heap → ℕ → Heap
 killed heap r = update heap r (λ g. record g { alive = false })
 
@@ -180,6 +182,9 @@ abbrev pub first_of : List Value → Value
 first_of [] = Null
 first_of (v ∷ vs) = v
 
+-- A deleted region is touched, and the run would stop there as Stale, by these alone, where they meet it: `new_subregion` of its
+-- handle, `allocate` in it, `step` of a pointer into it, `load`, `load_all`, `store` and `store_all` through one, the last two also
+-- with a value that names it, and `delete` of it. `regionof`, `==`, tests for null and passing a value on touch nothing.
 abbrev pub source : Ops World
 source = record {
   turns_left = λ w. w.turns;

@@ -1,9 +1,10 @@
--- The store model: what a heap has to keep. Of the regions that were made only the live ones have a parent and objects; the
--- values of waiting callers are pinned. What names a region from outside is counted, over cells that count alone.
-use Rattle.std.specs.Prelude.{ℕ, suc, ◌+◌, ◌&&◌, nat_eq, List, [], ◌∷◌, zip, flat_map, replicate, Option, Some, None, count_by, sum_by, if◌then◌else◌}
+-- The store model: what the heaps of compiled programs will keep. Neither the meaning nor a law speaks of it yet. Of the
+-- regions that were made only the live ones have a parent and objects; the values of waiting callers are pinned. What names a
+-- region from outside is counted, over cells that count alone.
+use Rattle.std.specs.Prelude.{ℕ, suc, ◌+◌, ◌&&◌, nat_eq, List, [], ◌∷◌, zip, Option, Some, None, count_by, sum_by, if◌then◌else◌}
 use Rattle.rc_core.specs.Types.{CellKind}
-use Rattle.rc_core.specs.Layout.{Layout, is_counted}
-use Rattle.rc_core.specs.Heap.{Value, Object, names}
+use Rattle.rc_core.specs.Layout.{is_counted}
+use Rattle.rc_core.specs.Heap.{Value, Object, kinds_of, names}
 
 pub record View : Type 0 where
   pub parent : ℕ
@@ -17,10 +18,6 @@ pub record Store : Type 0 where
   pub spare : ℕ
   pub region_limit : ℕ
   pub block_limit : ℕ
-
--- the kinds of an object's cells, one after another
-abbrev pub kinds_of : Object → Layout
-kinds_of o = flat_map (λ layout. layout) (replicate o.count o.layout)
 
 -- the counted cells of an object that name r
 abbrev pub object_refs : (r : ℕ) → Object → ℕ

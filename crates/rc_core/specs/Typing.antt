@@ -1,6 +1,7 @@
 -- Types of expressions, places and statements. A value's type has no annotation on its last star; a cell, a local and a
 -- parameter take each value of their type, whatever their own last star says.
 use Rattle.std.specs.Prelude.{◌≡◌, ◌<◌, ◌≤◌, ℤ, pos, negsuc, Bool, true, false, not, nat_lt, IsTrue, IsSome, IfSome, List, [], ◌∷◌, length, take, slice_get, Some, None, option_map, ◌⊎◌}
+use Rattle.rc_base.specs.Limits.{most_copied_cells}
 use Rattle.rc_core.specs.declared.ty.Note.TheVariants.{Plain}
 use Rattle.rc_core.specs.declared.ty.NumberType.{NumberType}
 use Rattle.rc_core.specs.declared.ty.NumberType.TheVariants.{Int, Unsigned, Char}
@@ -170,6 +171,36 @@ module _ (program : Program) (locals : List Ty) where
   Takes t (Compute from op s) e = (t ≡ number from) × IsTrue (not (is_comparison op)) × IsLeft op (promoted from) s × ((r : Signedness) × (IsRight op s r × HasType e (arithmetic r)))
   Takes t (Step direction) e = IsTrue (is_pointer t) × ((s : Signedness) × HasType e (arithmetic s))
 
+-- what may stand between the parentheses of a `for`: an assignment, an expression, a deletion, or nothing. It runs straight
+-- through: no loop, jump or `return` is one
+abbrev pub IsSimple : Stmt → Type 0
+IsSimple (block done) = Unit {0}
+IsSimple (block (then s rest)) = ⊥
+IsSimple (declare line x value) = ⊥
+IsSimple (assign line x e) = Unit {0}
+IsSimple (store line place e) = Unit {0}
+IsSimple (update line place change e) = Unit {0}
+IsSimple (copy line s left right) = Unit {0}
+IsSimple (evaluate line e) = Unit {0}
+IsSimple (delete line e) = Unit {0}
+IsSimple (branch line test a b) = ⊥
+IsSimple (while line test a) = ⊥
+IsSimple (repeat line a test) = ⊥
+IsSimple (for line first test third a) = ⊥
+IsSimple (break line) = ⊥
+IsSimple (continue line) = ⊥
+IsSimple (return line value) = ⊥
+
+abbrev pub AreDeclarations : Stmts → Type 0
+AreDeclarations done = Unit {0}
+AreDeclarations (then (declare line x value) rest) = AreDeclarations rest
+AreDeclarations (then s rest) = ⊥
+
+-- the first part of a `for` may also be declarations, in a block
+abbrev pub IsStart : Stmt → Type 0
+IsStart (block body) = AreDeclarations body
+IsStart s = IsSimple s
+
 module _ (program : Program) (f : Function) where
   -- in a loop, or not
   abbrev mutual
@@ -179,13 +210,13 @@ module _ (program : Program) (f : Function) where
     IsTyped loop (assign line x e) = (t : Ty) × ((slice_get f.locals x ≡ Some t) × HasType program f.locals e (value_type t))
     IsTyped loop (store line place e) = (t : Ty) × (IsPlace program f.locals place t × IsTrue (not (is_struct t)) × HasType program f.locals e (value_type t))
     IsTyped loop (update line place change e) = (t : Ty) × (IsPlace program f.locals place t × Takes program f.locals t change e)
-    IsTyped loop (copy line s left right) = IsPlace program f.locals left (struct s) × IsPlace program f.locals right (struct s) × (s < length program.structs) × (size program.structs (struct s) ≤ 256)
+    IsTyped loop (copy line s left right) = IsPlace program f.locals left (struct s) × IsPlace program f.locals right (struct s) × (s < length program.structs) × (size program.structs (struct s) ≤ most_copied_cells)
     IsTyped loop (evaluate line e) = Runs program f.locals e
     IsTyped loop (delete line e) = HasType program f.locals e region
     IsTyped loop (branch line test a b) = IsValue program f.locals test × IsTyped loop a × IsTyped loop b
     IsTyped loop (while line test a) = IsValue program f.locals test × IsTyped true a
     IsTyped loop (repeat line a test) = IsTyped true a × IsValue program f.locals test
-    IsTyped loop (for line first test third a) = IsTyped loop first × IfSome test (IsValue program f.locals) × IsTyped loop third × IsTyped true a
+    IsTyped loop (for line first test third a) = IsTyped loop first × IfSome test (IsValue program f.locals) × IsTyped loop third × IsTyped true a × IsStart first × IsSimple third
     IsTyped loop (break line) = IsTrue loop
     IsTyped loop (continue line) = IsTrue loop
     IsTyped loop (return line None) = f.result ≡ None

@@ -1,8 +1,11 @@
 -- The test of a program by itself: that its parts fit together.
 use Rattle.std.specs.Prelude.{◌≡◌, ℕ, ◌<◌, ◌≤◌, ◌*◌, ℤ, pos, false, not, IsTrue, IfSome, List, length, map, sum, slice_get, Option, Some, None}
+use Rattle.std.specs.List.{AllByRecursion as Every}
+use Rattle.rc_base.specs.Limits.{most_global_cells, most_program_words, most_string_bytes, most_struct_cells}
 use Rattle.rc_core.specs.declared.ty.NumberType.TheVariants.{Int, Unsigned, Char}
 use Rattle.rc_core.specs.Types.{Ty, int, unsigned, char, region, struct, pointer}
 use Rattle.rc_core.specs.Programs.{Field, Struct, Global, Function, Program}
+use Rattle.rc_core.specs.Numbers.{IsByte}
 use Rattle.rc_core.specs.Layout.{size}
 use Rattle.rc_core.specs.Typing.{fits, is_struct, IsDefined, IsTyped}
 use Rattle.rc_core.specs.Deletes.{DeletesInPlace}
@@ -27,7 +30,7 @@ pub record FieldFits (structs : List Struct) (structure : ℕ) (f : Field) : Typ
 pub record StructFits (structs : List Struct) (structure : ℕ) (fields : Struct) : Type 0 where
   pub some_field : 1 ≤ length fields
   pub fields_fit : (k : ℕ) (f : Field) → slice_get fields k ≡ Some f → FieldFits structs structure f
-  pub small : size structs (struct structure) ≤ 4096
+  pub small : size structs (struct structure) ≤ most_struct_cells
 
 abbrev pub StructsFit : List Struct → Type 0
 StructsFit structs = (k : ℕ) (fields : Struct) → slice_get structs k ≡ Some fields → StructFits structs k fields
@@ -66,9 +69,10 @@ pub record FunctionFits (program : Program) (f : Function) : Type 0 where
 pub record IsWellTyped (program : Program) : Type 0 where
   pub structs : StructsFit program.structs
   pub globals : (k : ℕ) (g : Global) → slice_get program.globals k ≡ Some g → GlobalFits program.structs g
-  pub all_globals : sum (map (global_size program.structs) program.globals) ≤ 1048576
-  pub number_of_strings : length program.strings ≤ 16777216
-  pub strings : (k : ℕ) (bytes : List ℕ) → slice_get program.strings k ≡ Some bytes → length bytes ≤ 1048576
+  pub all_globals : sum (map (global_size program.structs) program.globals) ≤ most_global_cells
+  pub number_of_strings : length program.strings ≤ most_program_words
+  pub strings : (k : ℕ) (bytes : List ℕ) → slice_get program.strings k ≡ Some bytes → length bytes ≤ most_string_bytes
+  pub bytes : Every (Every IsByte) program.strings
   pub functions : (k : ℕ) (f : Function) → slice_get program.functions k ≡ Some f → FunctionFits program f
   pub deleting : DeletesInPlace program
   pub main : (f : Function) × ((slice_get program.functions program.main ≡ Some f) × (f.parameters ≡ 0) × (f.result ≡ Some int))

@@ -40,7 +40,7 @@ pub fn regions_keep_their_numbers()
 {}
 
 /// A program that doesn't spend its turns does the same under any larger limit of turns.
-pub fn larger_limits_change_nothing()
+pub fn more_turns_change_nothing()
     ensures same { (program : Program) (input : List ℕ) (limits : Limits) (turns : ℕ) → limits.turns ≤ turns → (meaning program input limits).end ≢ Ends Spent → meaning program input (record limits { turns = turns }) ≡ meaning program input limits }
     ensures left { (program : Program) (input : List ℕ) (limits : Limits) (turns : ℕ) → limits.turns ≤ turns → (meaning program input limits).end ≢ Ends Spent → left program input (record limits { turns = turns }) ≡ left program input limits }
 {}

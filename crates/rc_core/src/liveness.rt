@@ -1,7 +1,10 @@
-// The locals that are live as `specs/Live.antt` computes them are those of the paths of `specs/Flow.antt`.
+// The locals that are live as `specs/Live.antt` computes them, and that `specs/Execution.antt` holds at
+// deletions, are those of the paths of `specs/Flow.antt`.
 
-ghost use Rattle.std.specs.Prelude.{ℕ, [], ◌∷◌, ◌↔◌, Option, Some, IsTrue};
-ghost use Rattle.rc_core.specs.Programs.{Expr, Stmt, Stmts, branch};
+ghost use Rattle.std.specs.Prelude.{◌≡◌, ℕ, List, [], ◌∷◌, ◌↔◌, Option, Some, IsTrue};
+ghost use Rattle.rc_core.specs.Programs.{Expr, Function, Program, Stmt, Stmts, branch};
+ghost use Rattle.rc_core.specs.Heap.{Value};
+ghost use Rattle.rc_core.specs.Runs.{Calls, Ops, bind};
 ghost use Rattle.rc_core.specs.Live.{
   Ways,
   at_end,
@@ -17,7 +20,9 @@ ghost use Rattle.rc_core.specs.Live.{
 };
 ghost use Rattle.rc_core.specs.Flow.{
   AreLive,
+  IsLive,
   IsLiveBehind,
+  Item,
   Point,
   condition,
   for_loop,
@@ -26,6 +31,9 @@ ghost use Rattle.rc_core.specs.Flow.{
   statements,
   while_loop,
 };
+ghost use Rattle.rc_core.specs.Execution.{exec, first_locals, result_of, run_function};
+ghost use Rattle.rc_core.specs.Source.{World};
+ghost use Rattle.rc_core.specs.Points.{exec_at, live_at, live_behind, ways_of};
 
 /// What is computed as live is what some way on uses before it sets it: at the end of a body
 /// nothing; from what is live at a point, what is live before each statement there and at each part
@@ -42,4 +50,18 @@ pub fn liveness_is_a_path()
     ensures behind_while { (test : Expr) (body : Stmt) (k : Ways) (p : Point) → AreLive k p → (x : ℕ) → IsTrue (either k.next (before body (while_body test body k)) x) ↔ IsLiveBehind x (condition (while_loop test body)) p }
     ensures behind_do { (test : Expr) (body : Stmt) (k : Ways) (p : Point) → AreLive k p → (x : ℕ) → IsTrue (either k.next (repeat_head body test k) x) ↔ IsLiveBehind x (condition (while_loop test body)) p }
     ensures behind_for { (test : Expr) (third body : Stmt) (k : Ways) (p : Point) → AreLive k p → (x : ℕ) → IsTrue (either k.next (before body (for_body (Some test) third body k)) x) ↔ IsLiveBehind x (condition (for_loop (Some test) third body)) p }
+{}
+
+/// An execution holds, at each deletion and at each call of a function that deletes, the values of
+/// exactly those locals that are live where the node leads by the paths, the assigned one excepted.
+/// `live_at` and `live_behind` are what the paths say of a point, and of where an item leads. With
+/// what is live at a point, a statement in front of it runs as by `exec_at`, which gives each node
+/// what is live behind it in the point where it stands; and so does a function's body, behind which
+/// nothing is left to do.
+pub fn execution_holds_what_is_live()
+    ensures at { (p : Point) (x : ℕ) → IsTrue (live_at p x) ↔ IsLive x p }
+    ensures behind { (i : Item) (rest : Point) (x : ℕ) → IsTrue (live_behind i rest x) ↔ IsLiveBehind x i rest }
+    ensures ways { (p : Point) → AreLive (ways_of p) p }
+    ensures runs { (ops : Ops World) (program : Program) (s : Stmt) (f : Function) (calls : Calls World) (p : Point) (locals : List Value) (w : World) → exec ops program s f calls (ways_of p) locals w ≡ exec_at ops program s f calls p locals w }
+    ensures bodies { (ops : Ops World) (program : Program) (f : Function) (calls : Calls World) (arguments : List Value) (w : World) → run_function ops program calls (Some f) arguments w ≡ bind (exec_at ops program f.body f calls [] (first_locals f arguments) w) (result_of f.result) }
 {}

@@ -3,7 +3,7 @@
 use Rattle.std.specs.Prelude.{ℕ, List, [], ◌∷◌, ◌++◌, Option, Some, None, Bool, true, false, not, nat_eq, length, map, is_some, is_none, unwrap_or, option_map, ◌&&◌, ◌||◌, if◌then◌else◌}
 use Rattle.rc_syntax.specs.declared.tree.Spot.{Spot}
 use Rattle.rc_core.specs.declared.ty.Note.TheVariants.{Plain}
-use Rattle.rc_core.specs.Types.{Ty, region, pointer}
+use Rattle.rc_core.specs.Types.{Ty, pointer}
 use Rattle.rc_core.specs.Programs as p
 use Rattle.rc_core.specs.Shapes.{arguments_listed}
 use Rattle.rc_core.specs.Typing.{value_type}
@@ -11,11 +11,12 @@ use Rattle.rc_deletes.specs.declared.fault.Refusal.{Refusal}
 use Rattle.rc_deletes.specs.declared.fault.Refusal.TheVariants.{Unknown, Mistyped, Arity}
 use Rattle.rc_deletes.specs.declared.builtin.Builtin.{Builtin}
 use Rattle.rc_deletes.specs.declared.builtin.Builtin.TheVariants.{NewRegion, NewSubregion, DeleteRegion, RegionOf, Putchar, Getchar}
+use Rattle.rc_deletes.specs.Builtins.{Parameter, of_type, any_pointer, row}
 use Rattle.rc_deletes.specs.declared.sort.Sort.{Sort}
 use Rattle.rc_deletes.specs.declared.sort.Sort.TheVariants.{Pointer}
 use Rattle.rc_deletes.specs.Judged.{Judged, Holds, with_part, fails, failing, ruled}
 use Rattle.rc_deletes.specs.Kinds.{sort_of, number_or}
-use Rattle.rc_deletes.specs.Scopes.{Meaning, a_local, a_global, a_function, a_builtin, Signature, builtin_signature}
+use Rattle.rc_deletes.specs.Scopes.{Meaning, a_local, a_global, a_function, a_builtin, Signature}
 use Rattle.rc_deletes.specs.Values.{Typed, fitted}
 
 -- what is called: a function, which has no number where the text only declares it, or what is none
@@ -41,28 +42,14 @@ is_function (the_function number s) = true
 is_function (the_builtin b) = true
 is_function no_function = false
 
--- a parameter takes what its type takes, that of `regionof` every pointer
-pub data Parameter : Type 0 where
-  of_type : Ty → Parameter
-  any_pointer : Parameter
-
--- by the signature of a built-in function, which `regionof` alone lacks
-abbrev pub parameters_by : Option Signature → List Parameter
-parameters_by (Some s) = map of_type s.takes
-parameters_by None = any_pointer ∷ []
-
 abbrev pub parameters : Callee → List Parameter
 parameters (the_function number s) = map of_type s.takes
-parameters (the_builtin b) = parameters_by (builtin_signature b)
+parameters (the_builtin b) = (row b).takes
 parameters no_function = []
-
-abbrev pub gives_by : Option Signature → Option Ty
-gives_by (Some s) = s.gives
-gives_by None = Some region
 
 abbrev pub gives : Callee → Option Ty
 gives (the_function number s) = s.gives
-gives (the_builtin b) = gives_by (builtin_signature b)
+gives (the_builtin b) = (row b).gives
 gives no_function = None
 
 abbrev pub if_pointer : Sort → p.Expr → Option p.Expr

@@ -1,6 +1,7 @@
 -- The rules of what stands outside of functions, and the program of a whole text.
 use Rattle.std.specs.Prelude.{◌≡◌, ◌⊎◌, ℕ, suc, max, flat_map, ◌+◌, ℤ, pos, neg_ℤ, List, [], ◌∷◌, ◌++◌, Option, Some, None, Bool, true, false, not, ◌&&◌, ◌||◌, nat_eq, nat_lt, length, map, option_map, is_some, is_none, codes, if◌then◌else◌}
 use Rattle.std.specs.Str.{bytes_eq}
+use Rattle.rc_base.specs.Limits.{most_global_cells, most_struct_cells}
 use Rattle.rc_syntax.specs.declared.tree.Spot.{Spot}
 use Rattle.rc_syntax.specs.declared.tree.Name.{Name}
 use Rattle.rc_syntax.specs.declared.tree.Base.{Base}
@@ -19,10 +20,11 @@ use Rattle.rc_deletes.specs.declared.fault.Refusal.{Refusal}
 use Rattle.rc_deletes.specs.declared.fault.Refusal.TheVariants.{Unknown, Twice, Mistyped, TooBig}
 use Rattle.rc_deletes.specs.declared.sort.Sort.{Sort}
 use Rattle.rc_deletes.specs.declared.sort.Sort.TheVariants.{Number, Region, Pointer}
-use Rattle.rc_deletes.specs.declared.builtin.Builtin.TheVariants.{NewRegion, NewSubregion, DeleteRegion, RegionOf, Putchar, Getchar}
+use Rattle.rc_deletes.specs.declared.builtin.Builtin.{Builtin}
+use Rattle.rc_deletes.specs.Builtins.{Parameter, of_type, any_pointer, row, every_builtin}
 use Rattle.rc_deletes.specs.Judged.{Judged, Holds, with_part, with_parts, in_front, both, faults, fails, failing, ruled}
 use Rattle.rc_deletes.specs.Kinds.{place_of, number_or, same_type, written_type, sort_of_type}
-use Rattle.rc_deletes.specs.Scopes.{Context, Shape, struct_names, structs_in, Scope, Meaning, a_local, a_global, a_function, a_builtin, Signature, builtin_signature, meaning_in}
+use Rattle.rc_deletes.specs.Scopes.{Context, Shape, struct_names, structs_in, Scope, Meaning, a_local, a_global, a_function, a_builtin, Signature, meaning_in}
 use Rattle.rc_deletes.specs.Expressions.{base_rule}
 use Rattle.rc_deletes.specs.Statements.{Here, with_local, new_name, behind_stmts, stmts}
 
@@ -112,13 +114,7 @@ context_of items = record {
 }
 
 abbrev pub builtins : Scope
-builtins =
-    (codes "newregion", a_builtin NewRegion)
-    ∷ (codes "newsubregion", a_builtin NewSubregion)
-    ∷ (codes "deleteregion", a_builtin DeleteRegion)
-    ∷ (codes "regionof", a_builtin RegionOf)
-    ∷ (codes "putchar", a_builtin Putchar)
-    ∷ (codes "getchar", a_builtin Getchar) ∷ []
+builtins = map (λ b. ((row b).name, a_builtin b)) every_builtin
 
 -- where an item stands: the names so far, how many structs, globals and functions were defined, how many cells the globals
 -- have, and the strings
@@ -298,7 +294,7 @@ made_both a b = record { globals = a.globals ++ b.globals; functions = a.functio
 
 abbrev pub global_made : Context → Spot → t.TypeName → Option ℕ → (cells : ℕ) → Option ℤ → Judged Made
 global_made context at n count cells initial =
-    ruled at (failing (is_none initial) Mistyped ++ failing (is_empty count || nat_lt 1048576 cells) TooBig)
+    ruled at (failing (is_none initial) Mistyped ++ failing (is_empty count || nat_lt most_global_cells cells) TooBig)
     (record { globals = global_of context n count (value_or_zero initial) ∷ []; functions = [] })
 
 abbrev pub same_result : Option Ty → Option Ty → Bool
@@ -318,9 +314,19 @@ same_bool false b = not b
 abbrev pub agrees : Signature → Signature → Bool
 agrees a b = same_takes a.takes b.takes && (same_result a.gives b.gives && same_bool a.deletes b.deletes)
 
-abbrev pub agrees_with : Option Signature → Signature → Bool
-agrees_with None s = false
-agrees_with (Some a) s = agrees a s
+-- a declaration can't say that a parameter takes pointers of every type
+abbrev pub is_taken : Parameter → Ty → Bool
+is_taken (of_type t) u = same_type t u
+is_taken any_pointer u = false
+
+abbrev pub are_taken : List Parameter → List Ty → Bool
+are_taken [] [] = true
+are_taken (q ∷ qs) (u ∷ us) = is_taken q u && are_taken qs us
+are_taken qs us = false
+
+-- a declaration and a built-in function
+abbrev pub agrees_with : Builtin → Signature → Bool
+agrees_with b s = are_taken (row b).takes s.takes && (same_result (row b).gives s.gives && same_bool (row b).deletes s.deletes)
 
 abbrev pub declared_again : Name → (twice agrees : Bool) → Judged (Unit {0})
 declared_again name true agrees = fails name.spot Twice
@@ -332,7 +338,7 @@ abbrev pub function_name : Name → (has_body : Bool) → (functions : ℕ) → 
 function_name name has_body functions None s = Holds tt
 function_name name has_body functions (Some (a_local x t)) s = Holds tt
 function_name name has_body functions (Some (a_global g t count)) s = fails name.spot Twice
-function_name name has_body functions (Some (a_builtin b)) s = declared_again name has_body (agrees_with (builtin_signature b) s)
+function_name name has_body functions (Some (a_builtin b)) s = declared_again name has_body (agrees_with b s)
 function_name name has_body functions (Some (a_function number first)) s = declared_again name (has_body && is_defined_before functions number) (agrees first s)
 
 -- a parameter has a name in a definition, no name twice, and no struct type
@@ -373,7 +379,7 @@ function_made context at deletes result params end body = ruled at (failing (is_
 abbrev pub item : Context → Outside → t.Item → Judged Made
 item context o (t.struct at name fields) =
     with_parts (once name (is_defined_before o.structs (place_of (struct_names context) name.text))) (fields_rule context o.structs [] fields)
-    (λ u v. ruled at (failing (nat_lt 4096 (cells_of_struct context (place_of (struct_names context) name.text))) TooBig) nothing_made)
+    (λ u v. ruled at (failing (nat_lt most_struct_cells (cells_of_struct context (place_of (struct_names context) name.text))) TooBig) nothing_made)
 item context o (t.global at n name count c) =
     with_parts (cell_type context o.structs n) (once name (is_some (meaning_in o.names name.text)))
     (λ u v. global_made context at n count (o.cells + cells_of_global context n count) (initial_of (written_type context.types n) count c))

@@ -2,7 +2,7 @@
 --
 --   what a name stands for, and where                Scopes; Statements (`Here`), Items (`Outside`)
 --   names that are declared twice                    Statements (`new_name`), Items (`once`, `function_name`)
---   the built-in functions                           Scopes (`builtin_signature`), Items (`builtins`), Calls
+--   the built-in functions                           Builtins; Items (`builtins`, `agrees_with`), Calls
 --   structs that are named, and defined              Expressions (`base_rule`), Items (`value_base`, `cell_type`)
 --   declarations of one function that agree          Items (`agrees`, `function_name`)
 --   globals, fields, parameters and results          Items
@@ -21,6 +21,7 @@
 -- Ranges and Limits say what a tree keeps so that its program fits together, and Examples what is answered of small texts.
 pub mod Judged
 pub mod Kinds
+pub mod Builtins
 pub mod Scopes
 pub mod Values
 pub mod Operators

@@ -1,6 +1,7 @@
 -- What a tree keeps so that its program fits together: numbers as words have them, some field in every struct, and the limits of
 -- strings.
 use Rattle.std.specs.Prelude.{◌≡◌, ℕ, ◌≤◌, List, [], ◌∷◌, Some, length, slice_get}
+use Rattle.rc_base.specs.Limits.{most_program_words, most_string_bytes}
 use Rattle.rc_syntax.specs.Tokens as w
 use Rattle.rc_syntax.specs.Tokens.{Word}
 use Rattle.rc_syntax.specs.Tree as t
@@ -21,12 +22,12 @@ strings_of tree = (behind_items (context_of tree.items) at_the_start tree.items)
 pub record KeepsLimits (tree : t.Tree) : Type 0 where
   pub numbers : ItemsInRange tree.items
   pub fields : HasFields tree.items
-  pub number_of_strings : length (strings_of tree) ≤ 16777216
-  pub strings : (k : ℕ) (bytes : List ℕ) → slice_get (strings_of tree) k ≡ Some bytes → length bytes ≤ 1048576
+  pub number_of_strings : length (strings_of tree) ≤ most_program_words
+  pub strings : (k : ℕ) (bytes : List ℕ) → slice_get (strings_of tree) k ≡ Some bytes → length bytes ≤ most_string_bytes
 
 -- the bytes of each string literal among the words are few enough
 abbrev pub IsShort : Word → Type 0
-IsShort (w.string bytes) = length bytes ≤ 1048576
+IsShort (w.string bytes) = length bytes ≤ most_string_bytes
 IsShort i = Unit {0}
 
 abbrev pub AreShort : List Placed → Type 0

@@ -4,7 +4,7 @@ use Rattle.std.specs.Prelude.{ℕ, List, [], ◌∷◌, ◌++◌, Option, Some, 
 use Rattle.rc_syntax.specs.declared.tree.Spot.{Spot}
 use Rattle.rc_syntax.specs.declared.tree.Name.{Name}
 use Rattle.rc_syntax.specs.Tree as t
-use Rattle.rc_deletes.specs.declared.builtin.Builtin.TheVariants.{DeleteRegion}
+use Rattle.rc_deletes.specs.Builtins.{row}
 use Rattle.rc_deletes.specs.declared.deletes.DeletesFault.{DeletesFault}
 use Rattle.rc_deletes.specs.declared.deletes.DeletesFault.TheVariants.{AnnotationPlace, NotDeletes, DeletesPlace}
 use Rattle.rc_deletes.specs.Scopes.{Context, Scope, Meaning, a_local, a_function, a_builtin, meaning_in}
@@ -57,7 +57,7 @@ deletion false false at = fault at not_allowed ∷ fault at not_whole ∷ []
 -- a call of what a name stands for deletes regions
 abbrev pub deletes_regions : Option Meaning → Bool
 deletes_regions (Some (a_function number s)) = s.deletes
-deletes_regions (Some (a_builtin DeleteRegion)) = true
+deletes_regions (Some (a_builtin b)) = (row b).deletes
 deletes_regions meaning = false
 
 abbrev pub is_of_local : Option Meaning → Bool

@@ -1,10 +1,9 @@
 -- What names stand for.
-use Rattle.std.specs.Prelude.{ℕ, List, [], ◌∷◌, Option, Some, None, Bool, true, false, map, take, length, if◌then◌else◌}
+use Rattle.std.specs.Prelude.{ℕ, List, [], ◌∷◌, Option, Some, None, Bool, map, take, length, if◌then◌else◌}
 use Rattle.std.specs.Str.{bytes_eq}
-use Rattle.rc_core.specs.Types.{Ty, int, region}
+use Rattle.rc_core.specs.Types.{Ty}
 use Rattle.rc_core.specs.Programs.{Field, Struct}
 use Rattle.rc_deletes.specs.declared.builtin.Builtin.{Builtin}
-use Rattle.rc_deletes.specs.declared.builtin.Builtin.TheVariants.{NewRegion, NewSubregion, DeleteRegion, RegionOf, Putchar, Getchar}
 
 -- what declarations of a function agree in
 pub record Signature : Type 0 where
@@ -48,12 +47,3 @@ fields_in s = map (λ f. f.1) s
 
 abbrev pub structs_in : Context → List Struct
 structs_in context = map fields_in context.shapes
-
--- the signature of a built-in function; `regionof` has none, since it takes pointers of every type
-abbrev pub builtin_signature : Builtin → Option Signature
-builtin_signature NewRegion = Some (record { takes = []; gives = Some region; deletes = false })
-builtin_signature NewSubregion = Some (record { takes = region ∷ []; gives = Some region; deletes = false })
-builtin_signature DeleteRegion = Some (record { takes = region ∷ []; gives = None; deletes = true })
-builtin_signature RegionOf = None
-builtin_signature Putchar = Some (record { takes = int ∷ []; gives = Some int; deletes = false })
-builtin_signature Getchar = Some (record { takes = []; gives = Some int; deletes = false })

@@ -1,5 +1,6 @@
 -- The rules of statements: one equation for each node.
 use Rattle.std.specs.Prelude.{ℕ, pos, List, [], ◌∷◌, ◌++◌, Option, Some, None, Bool, true, false, ◌&&◌, nat_eq, nat_le, length, option_map, is_none, if◌then◌else◌}
+use Rattle.rc_base.specs.Limits.{most_copied_cells}
 use Rattle.rc_syntax.specs.declared.tree.Spot.{Spot}
 use Rattle.rc_syntax.specs.declared.tree.Name.{Name}
 use Rattle.rc_syntax.specs.declared.tree.BinaryOp.{BinaryOp}
@@ -122,7 +123,7 @@ right_side at m = with_part (as_value at m) (λ v. Holds (one_value v))
 
 -- structs of one type are assigned whole, up to a size
 abbrev pub copy_of : Context → ℕ → p.Place → (left : ℕ) → p.Place → (right : ℕ) → Option p.Stmt
-copy_of context line place s from k = if nat_eq s k && nat_le (size (structs_in context) (struct s)) 256 then Some (p.copy line s place from) else None
+copy_of context line place s from k = if nat_eq s k && nat_le (size (structs_in context) (struct s)) most_copied_cells then Some (p.copy line s place from) else None
 
 abbrev pub assignment : Context → ℕ → Meant → RightSide → Option p.Stmt
 assignment context line (a_variable x t) (one_value v) = option_map (p.assign line x) (fitted t v)

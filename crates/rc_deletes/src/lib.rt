@@ -5,10 +5,9 @@ pub mod builtin;
 mod check;
 pub mod deletes;
 pub mod fault;
-pub mod laws;
 pub mod sort;
 
-pub use builtin::Builtin;
+pub use builtin::{Builtin, Parameter};
 pub use check::check_deletes;
 pub use deletes::DeletesFault;
 pub use fault::{Fault, Refusal};

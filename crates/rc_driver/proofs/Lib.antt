@@ -1,8 +1,12 @@
 mod EmptyLines
-mod HeadlineLaws
+mod Fronts
 mod Numbers
-mod PerformLaws
+mod OneOutcome
+mod Reports
+mod RunFiles
 mod RunLaws
+mod Served
 mod TextLaws
 mod ToldLaws
+mod Ways
 mod Written

@@ -1,5 +1,5 @@
 -- Running a program: an evaluation, and a flush behind it.
-use Rattle.std.proofs.Common.{◌≡◌, ◌≤◌, ◌⊎◌, ℕ, List, [], Ok, Err, refl, sym, subst, inl, inr, arith, append-nil}
+use Rattle.std.proofs.Common.{◌≡◌, ◌≤◌, ◌∙◌, ℕ, List, [], Ok, Err, refl, sym, subst, inl, inr, arith, append-nil}
 use Rattle.rc_base.specs.Acts.{Act, output}
 use Rattle.rc_base.specs.Causes.{Rose}
 use Rattle.rc_base.specs.Sinks.{Flushes, SinkState, Took}
@@ -14,7 +14,7 @@ use Rattle.rc_slow.specs.Evaluates.{Did, Evaluates}
 use Rattle.rc_safety.specs.Safety.{NeverTouchesDeleted}
 use Rattle.rc_driver.specs.Outcome.{Performed}
 use Rattle.rc_driver.specs.Running.{RanProgram}
-use Rattle.rc_driver.specs.declared.answer.Fault.TheVariants.{ReadFault, WriteFault, Memory}
+use Rattle.rc_driver.specs.declared.answer.Fault.TheVariants.{WriteFault}
 
 -- a count that rose later rose
 rose_later : (a b c : ℕ) → a ≤ b → Rose b c → Rose a c
@@ -46,7 +46,8 @@ flush_failed program limits input input' a b c end failed never e flush = record
     at_write = λ is. inr refl;
     at_error = λ is. refl;
     unflushed = λ is next. absurd next;
-    flushed = λ is. absurd (not_write is);
+    flushed_at_read = λ is. cc;
+    flushed_at_memory = λ is. cc;
   };
   never_stale = never;
   flushed = tt;
@@ -55,9 +56,8 @@ flush_failed program limits input input' a b c end failed never e flush = record
   out_later = omega (arith, e.cause.out_later, flush.cause.never_falls);
   read = λ is. cc;
   write = λ is. rose_later a.faults b.faults c.faults e.cause.out_later (flush.cause.failed refl);
-  input_kept = λ is. cc;
+  input_tells = e.cause.input_tells;
+  out_tells = flush.tells ∙ e.cause.out_tells;
+  input_kept = λ other. e.cause.input_kept (λ is. cc);
   out_kept = λ is. cc;
-} where
-  not_write : (WriteFault ≡ ReadFault) ⊎ (WriteFault ≡ Memory) → ⊥
-  not_write (inl is) = cc
-  not_write (inr is) = cc
+}

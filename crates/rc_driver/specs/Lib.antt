@@ -1,11 +1,16 @@
 pub mod Adapters
+pub mod Answers
 pub mod Asking
+pub mod FaultCauses
+pub mod Footprint
 pub mod Headline
 pub mod LineBytes
 pub mod Lines
 pub mod Outcome
+pub mod Outside
 pub mod Performing
 pub mod Pieces
+pub mod Reporting
 pub mod Request
 pub mod Running
 pub mod Status

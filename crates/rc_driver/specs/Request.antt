@@ -5,6 +5,7 @@ use Rattle.std.specs.Fmt.{decimal}
 use Rattle.std.specs.Str.{bytes_eq}
 use Rattle.std.specs.Str.Parse.{digits_value}
 use Rattle.rc_base.specs.declared.ends.Limits.{Limits}
+use Rattle.rc_base.specs.Limits.{most_turns, usual_turns, most_regions, most_blocks}
 
 pub data Request : Type 0 where
   -- to run the program of this file within these limits
@@ -38,9 +39,9 @@ at_end limits (word ∷ words) = None
 -- the options in their order, each at most once
 abbrev pub limits_of : List (List ℕ) → Option Limits
 limits_of words =
-    choosing (option (codes "--turns") 1000000000000 100000000 words) (λ turns words.
-    choosing (option (codes "--regions") 4294967295 4294967295 words) (λ regions words.
-    choosing (option (codes "--blocks") 4294967295 4294967295 words) (λ blocks words.
+    choosing (option (codes "--turns") most_turns usual_turns words) (λ turns words.
+    choosing (option (codes "--regions") most_regions most_regions words) (λ regions words.
+    choosing (option (codes "--blocks") most_blocks most_blocks words) (λ blocks words.
     at_end (record { turns = turns; regions = regions; blocks = blocks }) words)))
 
 -- a verb, any word as the name of a file, and options; none for every other list of words

@@ -1,6 +1,7 @@
 -- What it comes to to run a program, a text, and the piece of a file that was loaded.
-use Rattle.std.specs.Prelude.{◌≡◌, ◌≤◌, ℕ, true, false, List, Result, Ok, Err, IfOk, IfErr, OnOk, IsErrOf, IsOk, IsTrue}
+use Rattle.std.specs.Prelude.{◌≡◌, ◌≤◌, ℕ, true, false, List, Option, Result, Ok, Err, IfOk, IfErr, OnOk, IsErrOf, IsOk, IsTrue}
 use Rattle.rc_base.specs.Causes.{Rose}
+use Rattle.rc_base.specs.Shelves.{Names}
 use Rattle.rc_base.specs.Sinks.{IsFlushed, SinkState}
 use Rattle.rc_base.specs.Sources.{SourceState}
 use Rattle.rc_base.specs.declared.ends.End.{End}
@@ -12,7 +13,10 @@ use Rattle.rc_compile.specs.declared.refusal.Refusal.TheVariants.{TooLong}
 use Rattle.rc_core.specs.Meaning.{meaning}
 use Rattle.rc_core.specs.Programs.{Program}
 use Rattle.rc_core.specs.Runs.{Ends}
-use Rattle.rc_driver.specs.Outcome.{Performed, StoppedShort}
+use Rattle.rc_driver.specs.Answers.{MayAnswer}
+use Rattle.rc_driver.specs.Footprint.{Reads, footprint}
+use Rattle.rc_driver.specs.Outcome.{IsOutcome, Outcome, Performed, RunsFile, StoppedShort, Untouched}
+use Rattle.rc_driver.specs.Request.{Request}
 use Rattle.rc_driver.specs.declared.answer.Done.{Done}
 use Rattle.rc_driver.specs.declared.answer.Done.TheVariants.{Ended, Refused}
 use Rattle.rc_driver.specs.declared.answer.Fault.{Fault}
@@ -39,13 +43,10 @@ pub record RanProgram (program : Program) (limits : Limits) (input input' : Sour
   pub out_later : out.faults ≤ out'.faults
   pub read : IsErrOf result ReadFault → Rose input.faults input'.faults
   pub write : IsErrOf result WriteFault → Rose out.faults out'.faults
-  pub input_kept : IsOk result → input'.faults ≡ input.faults
+  pub input_tells : input'.tells ≡ input.tells
+  pub out_tells : out'.tells ≡ out.tells
+  pub input_kept : ¬ IsErrOf result ReadFault → input'.faults ≡ input.faults
   pub out_kept : IsOk result → out'.faults ≡ out.faults
-
--- neither was called
-pub record Untouched (input input' : SourceState) (out out' : SinkState) : Type 0 where
-  pub input_same : input' ≡ input
-  pub out_same : out' ≡ out
 
 -- a text is a program that was run, or is refused
 pub data RanText (text : List ℕ) (limits : Limits) (input input' : SourceState) (out out' : SinkState) : Result Done Fault → Type 0 where
@@ -58,3 +59,14 @@ pub data RanText (text : List ℕ) (limits : Limits) (input input' : SourceState
 pub data RanPiece (piece : Piece) (limits : Limits) (input input' : SourceState) (out out' : SinkState) : Result Done Fault → Type 0 where
   too_long : piece.whole ≡ false → Untouched input input' out out' → RanPiece piece limits input input' out out' (Ok (Refused TooLong))
   whole : (result : Result Done Fault) → piece.whole ≡ true → RanText piece.bytes limits input input' out out' result → RanPiece piece limits input input' out out' result
+
+-- the rows of the tables say of a request that it runs the program of this file
+pub record RunsTextOf (request : Option Request) (name : List ℕ) (limits : Limits) : Type 0 where
+  pub reads : Reads (footprint request) name
+  pub only : (other : List ℕ) → Reads (footprint request) other → name ≡ other
+  pub takes : IsTrue (footprint request).takes_input
+  pub writes : IsTrue (footprint request).writes_out
+  pub may_end : (end : End) → MayAnswer request (Ended end)
+  pub may_refuse : (refusal : Refusal) → MayAnswer request (Refused refusal)
+  pub is_outcome : (files : Names) (input : List ℕ) (outcome : Outcome) → RunsFile name limits files input outcome → IsOutcome request files input outcome
+  pub outcome_is : (files : Names) (input : List ℕ) (outcome : Outcome) → IsOutcome request files input outcome → RunsFile name limits files input outcome

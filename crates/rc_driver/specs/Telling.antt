@@ -3,7 +3,7 @@ use Rattle.std.specs.Prelude.{◌≡◌, ◌≤◌, [], Result, Ok, Err}
 use Rattle.rc_base.specs.Causes.{Rose}
 use Rattle.rc_base.specs.Sinks.{IsFlushed, SinkState, Took, TookFront}
 use Rattle.rc_driver.specs.Lines.{done_line, fault_line}
-use Rattle.rc_driver.specs.Outcome.{HasLine}
+use Rattle.rc_driver.specs.Answers.{HasLine}
 use Rattle.rc_driver.specs.declared.answer.Done.{Done}
 use Rattle.rc_driver.specs.declared.answer.Fault.{Fault}
 use Rattle.rc_driver.specs.declared.answer.Fault.TheVariants.{ErrFault}

@@ -1,10 +1,10 @@
 // A shelf over the files of the system.
 ghost use Rattle.std.specs.Prelude.{◌≡◌, ◌≤◌, ◌≢◌, IfErr, IfOk, length};
 ghost use Rattle.rc_base.specs.declared.outside.ShelfFault.TheVariants.{Absent};
-ghost use Rattle.rc_driver.specs.Adapters.{untold_shelf};
+ghost use Rattle.rc_driver.specs.Adapters.{IsFrontOf, untold_shelf};
 
 use crate::write_front::write_front;
-use rc_base::{Octets, Piece, Shelf, ShelfFault};
+use rc_base::{BUFFER_BYTES, Octets, Piece, Shelf, ShelfFault};
 use std::alloc::Global;
 use std::io::{ErrorKind, Read};
 use std::rt::Files;
@@ -29,21 +29,21 @@ impl<R: Files + Drop> Folder<R> {
     }
 }
 
-/// The first `most` bytes that are read.
+/// The first `most` bytes that are read, and whether these are all.
+#[tactic(auto, using(crate::proofs::Fronts::consumes_nothing))]
 fn read_front<R: Read>(alloc: Global, reader: &mut R, most: usize) -> Result<Piece, ShelfFault>
+    ensures front { IfOk result (IsFrontOf (R.remaining reader.old) most) }
     ensures bound { IfOk result (λ piece. length piece.bytes ≤ most) }
     ensures never_absent { IfErr result (λ fault. fault ≢ Absent) }
 {
     let mut bytes = Vec::new(alloc);
-    let mut buffer = [0; 4096];
+    let mut buffer = [0; BUFFER_BYTES];
     loop {
         let Ok(count) = reader.read(&mut buffer) else {
             return Err(ShelfFault::Failed);
         };
         let room = most - bytes.len();
-        let Ok(()) = bytes.extend_from_slice(&buffer[..count.min(room)]) else {
-            return Err(ShelfFault::Memory);
-        };
+        bytes.extend_from_slice(&buffer[..count.min(room)])?;
         if count == 0 || count > room {
             return Ok(Piece {
                 bytes: Octets::new(bytes),

@@ -4,6 +4,7 @@
 mod answer;
 mod folder;
 mod image_refusal;
+mod laws;
 mod line;
 mod numbered;
 mod program;
@@ -18,6 +19,7 @@ mod write_front;
 pub use answer::{Done, Fault, status_of};
 pub use folder::Folder;
 pub use image_refusal::ImageRefusal;
+pub use laws::{a_request_has_one_outcome, an_accepted_text_never_touches_deleted};
 pub use program::rc_main;
 pub use std_sink::StdSink;
 pub use std_source::StdSource;

@@ -7,7 +7,7 @@ ghost use Rattle.rc_driver.specs.Asking.{asks, bytes_of, chosen};
 ghost use Rattle.rc_driver.specs.Request.{limits_of, number_within, option, request_of};
 
 use itoa::Buffer;
-use rc_base::Limits;
+use rc_base::{Limits, MOST_BLOCKS, MOST_REGIONS, MOST_TURNS, USUAL_TURNS};
 
 /// What the words ask, with the file's name.
 #[derive(Clone, Copy)]
@@ -76,21 +76,15 @@ fn option<'a>(name: &str, most: u64, default: u64, words: &'a [String]) -> Optio
     Some(Chosen { number, rest })
 }
 
-/// The most turns that may be asked for, and how many there are where none are.
-const MOST_TURNS: u64 = 1_000_000_000_000;
-
-const TURNS: u64 = 100_000_000;
-
-/// The most regions, or objects of a region, that may be asked for. Where none are, there are as many.
-const MOST: u64 = 4_294_967_295;
-
 /// The limits that the options set, which stand in this order.
 fn limits_of(words: &[String]) -> Option<Limits>
     ensures { result ≡ limits_of (bytes_of words.now) }
 {
-    let turns = option("--turns", MOST_TURNS, TURNS, words)?;
-    let regions = option("--regions", MOST, MOST, turns.rest)?;
-    let blocks = option("--blocks", MOST, MOST, regions.rest)?;
+    let turns = option("--turns", MOST_TURNS, USUAL_TURNS, words)?;
+    let most_regions = MOST_REGIONS as u64;
+    let regions = option("--regions", most_regions, most_regions, turns.rest)?;
+    let most_blocks = MOST_BLOCKS as u64;
+    let blocks = option("--blocks", most_blocks, most_blocks, regions.rest)?;
     if !blocks.rest.is_empty() {
         return None;
     }

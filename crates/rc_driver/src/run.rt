@@ -1,13 +1,14 @@
 // Runs a file.
-ghost use Rattle.std.specs.Prelude.{Some};
+ghost use Rattle.std.specs.Prelude.{Option};
+ghost use Rattle.rc_base.specs.Sinks.{SinkState};
 ghost use Rattle.rc_core.specs.Shapes.{program_of};
-ghost use Rattle.rc_driver.specs.Headline.{given};
+ghost use Rattle.rc_driver.specs.Outside.{outside};
 ghost use Rattle.rc_driver.specs.Performing.{Performs};
-ghost use Rattle.rc_driver.specs.Request.{Run};
-ghost use Rattle.rc_driver.specs.Running.{RanPiece, RanProgram, RanText};
+ghost use Rattle.rc_driver.specs.Request.{Request};
+ghost use Rattle.rc_driver.specs.Running.{RanPiece, RanProgram, RanText, RunsTextOf};
 
 use crate::{Done, Fault};
-use rc_base::{End, Limits, Piece, RunFault, Shelf, ShelfFault, Sink, Source};
+use rc_base::{End, Limits, MOST_TEXT_BYTES, Piece, RunFault, Shelf, ShelfFault, Sink, Source};
 use rc_compile::{CompileFault, Refusal};
 use rc_core::program::Program;
 use rc_safety::never_touches_deleted;
@@ -79,9 +80,9 @@ fn run_piece<S: Source, O: Sink>(
 }
 
 /// How many bytes of a text are loaded: one more than it may have.
-const MOST: u32 = 1_048_577;
+const MOST: u32 = MOST_TEXT_BYTES + 1;
 
-/// Loads the text of a file and runs it.
+/// Loads the text of a file and runs it, for a request that asks that.
 pub(crate) fn run_file<F: Shelf, S: Source, O: Sink>(
     alloc: Global,
     name: &str,
@@ -90,7 +91,7 @@ pub(crate) fn run_file<F: Shelf, S: Source, O: Sink>(
     input: &mut S,
     out: &mut O,
 ) -> Result<Done, Fault>
-    ensures { Performs (Some (Run name.now limits)) (given (F.state files.old) (S.state input.old)) (F.state files.new) (S.state input.new) (O.state out.old) (O.state out.new) result }
+    ensures { (request : Option Request) (err : SinkState) → RunsTextOf request name.now limits → Performs request (outside (F.state files.old) (S.state input.old) (O.state out.old) err) (outside (F.state files.new) (S.state input.new) (O.state out.new) err) result }
 {
     match files.load(alloc, name, MOST) {
         Ok(piece) => run_piece(alloc, &piece, limits, input, out),

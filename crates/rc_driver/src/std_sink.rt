@@ -1,14 +1,12 @@
 // A sink over a writer.
 ghost use Rattle.std.specs.Prelude.{◌≡◌, ◌≤◌, OnOk};
 ghost use Rattle.rc_base.specs.Causes.{HasCause};
+ghost use Rattle.rc_base.specs.Limits.{buffer_bytes};
 ghost use Rattle.rc_driver.specs.Adapters.{untold_sink};
 
 use crate::write_front::write_front;
-use rc_base::{Failed, Sink};
+use rc_base::{BUFFER_BYTES, Failed, Sink};
 use std::io::Write;
-
-/// How many bytes are written at once.
-const SIZE: usize = 4096;
 
 /// A sink over a writer, such as standard output. It doesn't tell its bytes.
 ///
@@ -17,13 +15,13 @@ const SIZE: usize = 4096;
 #[derive(Drop)]
 pub struct StdSink<W: Write + Drop> {
     writer: W,
-    buffer: [u8; SIZE],
+    buffer: [u8; BUFFER_BYTES],
     /// The first byte of the buffer that wasn't written.
     start: usize,
     end: usize,
     faults: u64,
     ghost within: { start ≤ end },
-    ghost bound: { end ≤ 4096 },
+    ghost bound: { end ≤ buffer_bytes },
 }
 
 impl<W: Write + Drop> StdSink<W> {
@@ -33,7 +31,7 @@ impl<W: Write + Drop> StdSink<W> {
     {
         StdSink {
             writer,
-            buffer: [0; SIZE],
+            buffer: [0; BUFFER_BYTES],
             start: 0,
             end: 0,
             faults: 0,
@@ -64,7 +62,7 @@ impl<W: Write + Drop> Sink for StdSink<W> {
     ghost state = { λ s. untold_sink s.faults };
 
     fn put(&mut self, byte: u8) -> Result<(), Failed> {
-        if self.end == SIZE {
+        if self.end == BUFFER_BYTES {
             self.empty()?;
         }
         self.buffer[self.end] = byte;

@@ -1,12 +1,10 @@
 // A source over a reader.
 ghost use Rattle.std.specs.Prelude.{◌≡◌, ◌≤◌, false};
+ghost use Rattle.rc_base.specs.Limits.{buffer_bytes};
 ghost use Rattle.rc_driver.specs.Adapters.{untold_source};
 
-use rc_base::{Failed, Source};
+use rc_base::{BUFFER_BYTES, Failed, Source};
 use std::io::Read;
-
-/// How many bytes are read at once.
-const SIZE: usize = 4096;
 
 /// A source over a reader, such as standard input. It doesn't tell its bytes.
 ///
@@ -14,14 +12,14 @@ const SIZE: usize = 4096;
 #[derive(Drop)]
 pub struct StdSource<R: Read + Drop> {
     reader: R,
-    buffer: [u8; SIZE],
+    buffer: [u8; BUFFER_BYTES],
     /// The first byte of the buffer that wasn't given.
     start: usize,
     end: usize,
     ended: bool,
     faults: u64,
     ghost within: { start ≤ end },
-    ghost bound: { end ≤ 4096 },
+    ghost bound: { end ≤ buffer_bytes },
 }
 
 impl<R: Read + Drop> StdSource<R> {
@@ -31,7 +29,7 @@ impl<R: Read + Drop> StdSource<R> {
     {
         StdSource {
             reader,
-            buffer: [0; SIZE],
+            buffer: [0; BUFFER_BYTES],
             start: 0,
             end: 0,
             ended: false,

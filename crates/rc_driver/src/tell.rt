@@ -1,5 +1,5 @@
 // Tells an answer on the error stream.
-ghost use Rattle.std.specs.Prelude.{IsErrOf, OnErr, OnOk};
+ghost use Rattle.std.specs.Prelude.{◌≡◌, IsErrOf, OnErr, OnOk};
 ghost use Rattle.rc_base.specs.Causes.{HasCause};
 ghost use Rattle.rc_base.specs.Sinks.{IsFlushed, Took, TookFront, Writes};
 ghost use Rattle.rc_driver.specs.LineBytes.{line_bytes};
@@ -48,6 +48,7 @@ fn flush_line<E: Sink>(err: &mut E, line: Line) -> Result<(), Failed>
     ensures ok { OnOk result (Took (line_bytes line) (E.state err.old) (E.state err.new)) }
     ensures flushed { OnOk result (IsFlushed (E.state err.new)) }
     ensures failed { OnErr result (TookFront (line_bytes line) (E.state err.old) (E.state err.new)) }
+    ensures tells { (E.state err.new).tells ≡ (E.state err.old).tells }
     ensures cause { HasCause (E.state err.old).faults (E.state err.new).faults result }
 {
     write_line(err, line)?;
@@ -58,7 +59,8 @@ fn flush_line<E: Sink>(err: &mut E, line: Line) -> Result<(), Failed>
 /// lost, and a fault stays.
 pub(crate) fn tell<E: Sink>(err: &mut E, answer: Result<Done, Fault>) -> Result<Done, Fault>
     requires { ¬ IsErrOf answer ErrFault }
-    ensures { Tells answer (E.state err.old) (E.state err.new) result }
+    ensures told { Tells answer (E.state err.old) (E.state err.new) result }
+    ensures tells { (E.state err.new).tells ≡ (E.state err.old).tells }
 {
     let line = line_of(&answer);
     if line.is_empty() {

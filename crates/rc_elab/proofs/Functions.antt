@@ -1,14 +1,13 @@
 -- The functions of a program, one by one.
-use Rattle.std.proofs.Common.{◌≡◌, ◌<◌, ◌≤◌, ◌+◌, ℕ, zero, suc, refl, ap, sym, ◌∙◌, subst, arith, List, [], ◌∷◌, length, drop, map, slice_get, Option, Some, None, ◌⊎◌, inl, inr, ◌++◌, length-append}
-use Rattle.std.specs.Prelude.{get_or, sum, sum_by}
-use Rattle.std.proofs.Math.ListN.{get_or-map, get_or-eq_default, length-map}
+use Rattle.std.proofs.Common.{◌≡◌, ◌<◌, ◌≤◌, ◌+◌, ℕ, zero, suc, refl, ap, sym, ◌∙◌, subst, arith, List, [], ◌∷◌, length, drop, map, slice_get, Some, None, ◌⊎◌, inl, inr}
+use Rattle.std.specs.Prelude.{get_or, sum}
+use Rattle.std.proofs.Math.ListN.{length-map}
 use Rattle.std.proofs.lemmas.List.Sums.{sum_by-cons}
 use Rattle.rc_core.specs.declared.parts.Function.{Function}
 use Rattle.rc_core.specs.declared.parts.Parts.{Parts}
 use Rattle.rc_core.specs.Programs.{Struct, Function as CleanFunction}
-use Rattle.rc_core.specs.Layout.{Layout, fields_cells, layouts_after, layouts_of}
 use Rattle.rc_core.specs.WellTyped.{IsWellTyped}
-use Rattle.rc_core.specs.Shapes.{ty_of, function_of, struct_of, program_of}
+use Rattle.rc_core.specs.Shapes.{ty_of, function_of, program_of}
 use Rattle.rc_rlang.specs.Points.{function_points}
 use Rattle.rc_rlang.specs.Variables.{region_variables}
 use Rattle.rc_rlang.specs.Bounds.{IsNarrow, AllNarrow, FirstWide}
@@ -90,24 +89,3 @@ pub parameters_fit : (p : Parts) → IsWellTyped (program_of p) → (k : ℕ) (f
 parameters_fit p typed k f there =
     let fits = (typed.functions k (function_of f) (found function_of p.functions.items k f there)).parameters in
     subst (λ n. f.parameters ≤ n) (length-map f.locals.items ty_of) fits
-
-layouts_length : (layouts : List Layout) (structs : List Struct) → length (layouts_after layouts structs) ≡ length layouts + length structs
-layouts_length layouts [] = omega arith
-layouts_length layouts (fields ∷ structs) =
-    layouts_length (layouts ++ fields_cells layouts fields ∷ []) structs ∙ ap (λ n. n + length structs) (length-append layouts (fields_cells layouts fields ∷ [])) ∙ omega arith
-
-struct_small : (structs : List Struct) → ((k : ℕ) (fields : Struct) → slice_get structs k ≡ Some fields → length (get_or (layouts_of structs) k []) ≤ 4096) → (k : ℕ) (o : Option Struct) → slice_get structs k ≡ o → length (get_or (layouts_of structs) k []) ≤ 4096
-struct_small structs small k (Some fields) e = small k fields e
-struct_small structs small k None e =
-    subst (λ (cells : Layout). length cells ≤ 4096) (sym (get_or-eq_default (layouts_of structs) [] {n = k} (subst (λ n. n ≤ k) (sym (layouts_length [] structs)) (beyond structs k e)))) (omega arith) where
-      beyond : (structs : List Struct) (k : ℕ) → slice_get structs k ≡ None → length {A = Layout} [] + length structs ≤ k
-      beyond [] k h = omega arith
-      beyond (s ∷ structs) zero h = absurd (some_none h) where
-        some_none : {A : Type 0} {a : A} → Some a ≡ None → ⊥
-        some_none h = cc
-      beyond (s ∷ structs) (suc k) h = let l = beyond structs k h in omega arith
-
-pub sizes_fit : (p : Parts) → IsWellTyped (program_of p) → (k : ℕ) → get_or (map length (layouts_of (map struct_of p.structs.items))) k 0 ≤ 4096
-sizes_fit p typed k =
-    let structs = map struct_of p.structs.items in
-    subst (λ n. n ≤ 4096) (sym (get_or-map length (layouts_of structs) k [])) (struct_small structs (λ k fields e. (typed.structs k fields e).small) k (slice_get structs k) refl)

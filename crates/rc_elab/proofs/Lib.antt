@@ -1,4 +1,3 @@
 pub mod Totals
 pub mod Greatest
-pub mod FieldSums
 pub mod Functions

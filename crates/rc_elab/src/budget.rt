@@ -7,3 +7,13 @@ pub(crate) fn spend(left: u32, number: u32) -> Option<u32>
 {
     left.checked_sub(number)
 }
+
+/// What is left behind a point for each of these cells, and None where it isn't enough.
+pub(crate) fn spend_cells(left: u32, cells: u64) -> Option<u32>
+    ensures { MatchOption result (left < cells) (λ r. r + cells ≡ left) }
+{
+    if cells > left as u64 {
+        return None;
+    }
+    Some(left - cells as u32)
+}

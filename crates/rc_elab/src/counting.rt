@@ -1,8 +1,8 @@
 // Whether a program keeps within what it may need.
 ghost use Rattle.std.specs.Prelude.{◌≡◌, ◌<◌, ◌≤◌, ◌+◌, ℕ, List, length, map, sum, slice_get, Some, MatchOption, option_map};
+ghost use Rattle.rc_core.specs.Laid.{AreLaidOut};
 ghost use Rattle.rc_core.specs.Programs.{Struct};
 ghost use Rattle.rc_core.specs.declared.parts.Function.{Function};
-ghost use Rattle.rc_core.specs.Layout.{layouts_of};
 ghost use Rattle.rc_core.specs.Shapes.{ty_of, function_of, program_of};
 ghost use Rattle.rc_rlang.specs.Points.{end_points, function_points};
 ghost use Rattle.rc_rlang.specs.Bounds.{AllNarrow, FirstWide};
@@ -10,17 +10,13 @@ ghost use Rattle.rc_elab.specs.Counting.{Counts};
 
 use crate::budget::spend;
 use crate::fault::ElabFault;
-use crate::sizes::sizes_of;
 use crate::statements::statement;
 use crate::variables::is_narrow;
-use rc_base::NoMemory;
+use rc_core::Layouts;
 use rc_core::parts::Function;
 use rc_core::program::Program;
 use rc_core::ty::Ty;
 use std::alloc::Global;
-
-/// How many points a program may have.
-const MOST_POINTS: u32 = 65_536;
 
 fn behind_body(given: &Option<Ty>) -> u32
     ensures { result ≡ end_points (option_map ty_of given.now) }
@@ -31,22 +27,22 @@ fn behind_body(given: &Option<Ty>) -> u32
     }
 }
 
-fn function_points_left(f: &Function, sizes: &[u32], left: u32) -> Option<u32>
-    ensures { (structs : List Struct) → map length (layouts_of structs) ≡ sizes.now → MatchOption result (left < function_points structs (function_of f.now)) (λ r. r + function_points structs (function_of f.now) ≡ left) }
+fn function_points_left(f: &Function, layouts: &Layouts, left: u32) -> Option<u32>
+    ensures { (structs : List Struct) → AreLaidOut structs layouts.now → MatchOption result (left < function_points structs (function_of f.now)) (λ r. r + function_points structs (function_of f.now) ≡ left) }
 {
     let behind_entry = spend(left, 1)?;
-    let behind_statements = statement(&f.body, sizes, behind_entry)?;
+    let behind_statements = statement(&f.body, layouts, behind_entry)?;
     spend(behind_statements, behind_body(&f.result))
 }
 
 /// The points of all functions, taken from those that a program may have.
 #[tactic(auto, using(crate::proofs::Functions::points_step, crate::proofs::Functions::points_end))]
-fn points_left(functions: &[Function], sizes: &[u32]) -> Option<u32>
-    ensures { (structs : List Struct) → map length (layouts_of structs) ≡ sizes.now → MatchOption result (65536 < sum (map (function_points structs) (map function_of functions.now))) (λ r. r + sum (map (function_points structs) (map function_of functions.now)) ≡ 65536) }
+fn points_left(functions: &[Function], layouts: &Layouts) -> Option<u32>
+    ensures { (structs : List Struct) → AreLaidOut structs layouts.now → MatchOption result (65536 < sum (map (function_points structs) (map function_of functions.now))) (λ r. r + sum (map (function_points structs) (map function_of functions.now)) ≡ 65536) }
 {
-    let mut left = MOST_POINTS;
+    let mut left = rc_base::MOST_POINTS;
     for f in functions {
-        left = function_points_left(f, sizes, left)?;
+        left = function_points_left(f, layouts, left)?;
     }
     Some(left)
 }
@@ -67,7 +63,7 @@ fn first_wide(functions: &[Function]) -> Option<u32>
 
 /// Whether the translation of the program keeps within its bounds: each function within 128 region
 /// variables, and else the line of the first that doesn't; and then all within 65,536 points.
-#[tactic(auto, using(crate::proofs::Functions::parameters_fit, crate::proofs::Functions::sizes_fit))]
+#[tactic(auto, using(crate::proofs::Functions::parameters_fit))]
 pub fn count(alloc: Global, program: &Program) -> Result<(), ElabFault>
     ensures { Counts (program_of program.now) result }
 {
@@ -75,11 +71,8 @@ pub fn count(alloc: Global, program: &Program) -> Result<(), ElabFault>
     if let Some(line) = first_wide(parts.functions.as_slice()) {
         return Err(ElabFault::Variables(line));
     }
-    let sizes = match sizes_of(alloc, parts.structs.as_slice()) {
-        Ok(sizes) => sizes,
-        Err(NoMemory) => return Err(ElabFault::Memory),
-    };
-    match points_left(parts.functions.as_slice(), sizes.as_slice()) {
+    let layouts = Layouts::new(alloc, parts.structs.as_slice())?;
+    match points_left(parts.functions.as_slice(), &layouts) {
         None => Err(ElabFault::Points),
         Some(_) => Ok(()),
     }

@@ -1,4 +1,7 @@
 // Why a program isn't translated.
+ghost use Rattle.std.specs.Prelude.{◌≡◌};
+
+use std::alloc::AllocError;
 
 /// Why a program isn't translated.
 #[derive(Clone, Copy, Debug, PartialEq, Eq)]
@@ -9,4 +12,14 @@ pub enum ElabFault {
     Points,
     /// There is no memory.
     Memory,
+}
+
+impl From<AllocError> for ElabFault {
+    ghost use Rattle.rc_elab.specs.declared.fault.ElabFault.TheVariants.{Memory};
+
+    ghost from_gives = { λ _ fault. fault ≡ Memory };
+
+    fn from(_error: AllocError) -> ElabFault {
+        ElabFault::Memory
+    }
 }

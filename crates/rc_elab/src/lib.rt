@@ -6,7 +6,6 @@ mod budget;
 mod counting;
 mod fault;
 mod points;
-mod sizes;
 mod statements;
 mod temporaries;
 mod variables;

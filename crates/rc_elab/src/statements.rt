@@ -1,18 +1,16 @@
 // The points of statements, taken from what is left.
-ghost use Rattle.std.specs.Prelude.{◌≡◌, ◌<◌, ◌+◌, ◌*◌, List, length, map, MatchOption, get_or};
+ghost use Rattle.std.specs.Prelude.{◌≡◌, ◌<◌, ◌+◌, List, MatchOption, option_map};
+ghost use Rattle.rc_core.specs.Laid.{AreLaidOut};
 ghost use Rattle.rc_core.specs.Programs.{Struct};
-ghost use Rattle.rc_core.specs.Layout.{layouts_of, size};
-ghost use Rattle.rc_core.specs.Types.{struct};
-ghost use Rattle.rc_core.specs.Arithmetic.{type_of};
 ghost use Rattle.rc_core.specs.Shapes.{expr_of, stmt_of, stmts_of};
-ghost use Rattle.std.specs.Prelude.{option_map};
 ghost use Rattle.rc_rlang.specs.Points.{points, condition_points, conversion_points, change_points, optional_points, statement_points, body_points};
 
-use crate::budget::spend;
+use crate::budget::{spend, spend_cells};
 use crate::points::{expression, place};
 use rc_core::expr::Expr;
 use rc_core::stmt::{Change, Stmt};
-use rc_core::ty::{NumberType, Signedness};
+use rc_core::ty::NumberType;
+use rc_core::{Layouts, type_of};
 
 /// A condition, with its branch.
 fn condition(e: &Expr, left: u32) -> Option<u32>
@@ -43,15 +41,6 @@ fn optional_expression(value: &Option<Expr>, left: u32) -> Option<u32>
     }
 }
 
-fn arithmetic_type(signedness: Signedness) -> NumberType
-    ensures { result ≡ type_of signedness }
-{
-    match signedness {
-        Signedness::Signed => NumberType::Int,
-        Signedness::Unsigned => NumberType::Unsigned,
-    }
-}
-
 fn conversion(from: NumberType, to: NumberType) -> u32
     ensures { result ≡ conversion_points from to }
 {
@@ -72,30 +61,20 @@ fn change_of(change: Change) -> u32
             signedness,
             ..
         } => {
-            let own = arithmetic_type(signedness);
+            let own = type_of(signedness);
             3 + conversion(from, own) + conversion(own, from)
         }
         Change::Step { .. } => 3,
     }
 }
 
-/// The cells of a struct, where `sizes` has those of each.
-fn size_of(sizes: &[u32], structure: u32) -> u32
-    ensures { (structs : List Struct) → map length (layouts_of structs) ≡ sizes.now → result ≡ size structs (struct structure) }
-{
-    match sizes.get(structure as usize) {
-        None => 0,
-        Some(size) => *size,
-    }
-}
-
 #[cycle(statements)]
 #[tactic(auto, using(rc_core::proofs::ShapeRows::block_is))]
-pub(crate) fn statement(s: &Stmt, sizes: &[u32], left: u32) -> Option<u32>
-    ensures { (structs : List Struct) → map length (layouts_of structs) ≡ sizes.now → MatchOption result (left < statement_points structs (stmt_of s.now)) (λ r. r + statement_points structs (stmt_of s.now) ≡ left) }
+pub(crate) fn statement(s: &Stmt, layouts: &Layouts, left: u32) -> Option<u32>
+    ensures { (structs : List Struct) → AreLaidOut structs layouts.now → MatchOption result (left < statement_points structs (stmt_of s.now)) (λ r. r + statement_points structs (stmt_of s.now) ≡ left) }
 {
     match s {
-        Stmt::Block { body } => self::body(body, sizes, left),
+        Stmt::Block { body } => self::body(body, layouts, left),
         Stmt::Declare { value: None, .. } => spend(left, 1),
         Stmt::Declare { value: Some(e), .. } => spend(expression(e, left)?, 1),
         Stmt::Assign { value, .. } => spend(expression(value, left)?, 1),
@@ -117,22 +96,22 @@ pub(crate) fn statement(s: &Stmt, sizes: &[u32], left: u32) -> Option<u32>
             ..
         } => {
             let behind_places = place(from, place(to, left)?)?;
-            let behind_loads = spend(behind_places, size_of(sizes, *structure))?;
-            spend(behind_loads, size_of(sizes, *structure))
+            let behind_loads = spend_cells(behind_places, layouts.size_of(*structure))?;
+            spend_cells(behind_loads, layouts.size_of(*structure))
         }
         Stmt::Evaluate { value, .. } => expression(value, left),
         Stmt::Delete { region, .. } => spend(expression(region, left)?, 1),
         Stmt::If { test, yes, no, .. } => {
             let behind_test = condition(test, left)?;
-            let behind_yes = statement(yes, sizes, behind_test)?;
-            statement(no, sizes, behind_yes)
+            let behind_yes = statement(yes, layouts, behind_test)?;
+            statement(no, layouts, behind_yes)
         }
         Stmt::While { test, body, .. } => {
             let behind_test = condition(test, spend(left, 1)?)?;
-            statement(body, sizes, behind_test)
+            statement(body, layouts, behind_test)
         }
         Stmt::Do { body, test, .. } => {
-            let behind_body = statement(body, sizes, spend(left, 1)?)?;
+            let behind_body = statement(body, layouts, spend(left, 1)?)?;
             condition(test, behind_body)
         }
         Stmt::For {
@@ -142,10 +121,10 @@ pub(crate) fn statement(s: &Stmt, sizes: &[u32], left: u32) -> Option<u32>
             body,
             ..
         } => {
-            let behind_first = statement(first, sizes, left)?;
+            let behind_first = statement(first, layouts, left)?;
             let behind_test = optional_condition(test, spend(behind_first, 1)?)?;
-            let behind_body = statement(body, sizes, behind_test)?;
-            statement(third, sizes, behind_body)
+            let behind_body = statement(body, layouts, behind_test)?;
+            statement(third, layouts, behind_body)
         }
         Stmt::Break { .. } => spend(left, 1),
         Stmt::Continue { .. } => spend(left, 1),
@@ -155,12 +134,12 @@ pub(crate) fn statement(s: &Stmt, sizes: &[u32], left: u32) -> Option<u32>
 
 #[cycle(statements)]
 #[tactic(auto, using(crate::proofs::Totals::body_step, crate::proofs::Totals::body_end))]
-fn body(body: &[Stmt], sizes: &[u32], left: u32) -> Option<u32>
-    ensures { (structs : List Struct) → map length (layouts_of structs) ≡ sizes.now → MatchOption result (left < body_points structs (stmts_of body.now)) (λ r. r + body_points structs (stmts_of body.now) ≡ left) }
+fn body(body: &[Stmt], layouts: &Layouts, left: u32) -> Option<u32>
+    ensures { (structs : List Struct) → AreLaidOut structs layouts.now → MatchOption result (left < body_points structs (stmts_of body.now)) (λ r. r + body_points structs (stmts_of body.now) ≡ left) }
 {
     let mut rest = left;
     for s in body {
-        rest = statement(s, sizes, rest)?;
+        rest = statement(s, layouts, rest)?;
     }
     Some(rest)
 }

@@ -1,25 +1,28 @@
 // The temporaries of expressions: one more than the greatest that is used, where it is no more than
 // a function may have.
 ghost use Rattle.std.specs.Prelude.{◌≡◌, ◌<◌, ◌≤◌, ◌+◌, MatchOption, IfSome, suc, max, ℕ, ◌⊎◌};
+ghost use Rattle.rc_base.specs.Limits.{most_variables};
 ghost use Rattle.rc_core.specs.Shapes.{expr_of, place_of, path_of, arguments_of};
 ghost use Rattle.rc_rlang.specs.Variables.{temporaries, arguments_temporaries, place_temporaries, path_temporaries, place_next, path_next};
 
+use rc_base::MOST_VARIABLES;
 use rc_core::expr::{Expr, PathStep, Place};
-
-/// How many region variables a function may have.
-pub(crate) const MOST: u32 = 128;
 
 /// The temporary itself.
 fn one(h: u32) -> Option<u32>
-    ensures { MatchOption result (128 < suc h) (λ r. r ≡ suc h × (h < r) × (r ≤ 128)) }
+    ensures { MatchOption result (most_variables < suc h) (λ r. r ≡ suc h × (h < r) × (r ≤ most_variables)) }
 {
-    if h < MOST { Some(h + 1) } else { None }
+    if h < MOST_VARIABLES {
+        Some(h + 1)
+    } else {
+        None
+    }
 }
 
 #[cycle(temporaries)]
 #[tactic(auto, using(rc_core::proofs::ShapeRows::call_is))]
 pub(crate) fn expression(e: &Expr, h: u32) -> Option<u32>
-    ensures { MatchOption result (128 < temporaries (expr_of e.now) h) (λ r. (r ≡ temporaries (expr_of e.now) h) × (h < r) × (r ≤ 128)) }
+    ensures { MatchOption result (most_variables < temporaries (expr_of e.now) h) (λ r. (r ≡ temporaries (expr_of e.now) h) × (h < r) × (r ≤ most_variables)) }
 {
     match e {
         Expr::Constant { .. } => one(h),
@@ -90,8 +93,8 @@ pub(crate) fn expression(e: &Expr, h: u32) -> Option<u32>
 #[cycle(temporaries)]
 #[tactic(auto, using(crate::proofs::Greatest::arguments_step, crate::proofs::Greatest::arguments_end))]
 fn arguments(arguments: &[Expr], h: u32) -> Option<u32>
-    requires { h ≤ 128 }
-    ensures { MatchOption result (128 < arguments_temporaries (arguments_of arguments.now) h) (λ r. (r ≡ arguments_temporaries (arguments_of arguments.now) h) × (r ≤ 128)) }
+    requires { h ≤ most_variables }
+    ensures { MatchOption result (most_variables < arguments_temporaries (arguments_of arguments.now) h) (λ r. (r ≡ arguments_temporaries (arguments_of arguments.now) h) × (r ≤ most_variables)) }
 {
     let mut most = 0;
     let mut next = h;
@@ -112,7 +115,7 @@ pub(crate) struct Taken {
 #[cycle(temporaries)]
 #[tactic(auto, using(rc_core::proofs::ShapeRows::global_is, rc_core::proofs::ShapeRows::pointed_is, rc_core::proofs::ShapeRows::indexed_is))]
 pub(crate) fn place(place: &Place, h: u32) -> Option<Taken>
-    ensures most { MatchOption result (128 < place_temporaries (place_of place.now) h) (λ r. (r.most ≡ place_temporaries (place_of place.now) h) × (h < r.most) × (r.most ≤ 128)) }
+    ensures most { MatchOption result (most_variables < place_temporaries (place_of place.now) h) (λ r. (r.most ≡ place_temporaries (place_of place.now) h) × (h < r.most) × (r.most ≤ most_variables)) }
     ensures next { IfSome result (λ r. (r.next ≡ place_next (place_of place.now) h) × (r.next ≤ r.most)) }
 {
     match place {
@@ -151,9 +154,9 @@ pub(crate) fn place(place: &Place, h: u32) -> Option<Taken>
 #[cycle(temporaries)]
 #[tactic(auto, using(crate::proofs::Greatest::path_step, crate::proofs::Greatest::path_end, crate::proofs::Greatest::next_step, crate::proofs::Greatest::next_end))]
 fn path(path: &[PathStep], h: u32) -> Option<Taken>
-    requires { h ≤ 128 }
-    ensures most { MatchOption result (128 < path_temporaries (path_of path.now) h) (λ r. (r.most ≡ path_temporaries (path_of path.now) h) × (r.most ≤ 128)) }
-    ensures next { IfSome result (λ r. (r.next ≡ path_next (path_of path.now) h) × ((r.next ≡ h) ⊎ (r.next ≤ r.most)) × (r.next ≤ 128)) }
+    requires { h ≤ most_variables }
+    ensures most { MatchOption result (most_variables < path_temporaries (path_of path.now) h) (λ r. (r.most ≡ path_temporaries (path_of path.now) h) × (r.most ≤ most_variables)) }
+    ensures next { IfSome result (λ r. (r.next ≡ path_next (path_of path.now) h) × ((r.next ≡ h) ⊎ (r.next ≤ r.most)) × (r.next ≤ most_variables)) }
 {
     let mut most = 0;
     let mut next = h;

@@ -1,18 +1,20 @@
 // The region variables of a function.
 ghost use Rattle.std.specs.Prelude.{◌≡◌, ◌<◌, ◌≤◌, ◌+◌, ◌*◌, MatchOption, IfSome, length, Decides, suc, max, ℕ, Option, option_map, count_by, take, drop, map, List};
+ghost use Rattle.rc_base.specs.Limits.{most_variables};
 ghost use Rattle.rc_core.specs.Shapes.{expr_of, stmt_of, stmts_of, ty_of, function_of};
 ghost use Rattle.rc_rlang.specs.Bounds.{IsNarrow};
 ghost use Rattle.rc_rlang.specs.Variables.{temporaries, optional_temporaries, statement_temporaries, body_temporaries, end_temporaries, function_temporaries, is_reference, region_variables};
 
 use crate::budget::spend;
-use crate::temporaries::{MOST, expression, place};
+use crate::temporaries::{expression, place};
+use rc_base::MOST_VARIABLES;
 use rc_core::expr::Expr;
 use rc_core::parts::Function;
 use rc_core::stmt::Stmt;
 use rc_core::ty::Ty;
 
 fn optional(value: &Option<Expr>) -> Option<u32>
-    ensures { MatchOption result (128 < optional_temporaries (option_map expr_of value.now)) (λ r. (r ≡ optional_temporaries (option_map expr_of value.now)) × (r ≤ 128)) }
+    ensures { MatchOption result (most_variables < optional_temporaries (option_map expr_of value.now)) (λ r. (r ≡ optional_temporaries (option_map expr_of value.now)) × (r ≤ most_variables)) }
 {
     match value {
         None => Some(0),
@@ -22,16 +24,20 @@ fn optional(value: &Option<Expr>) -> Option<u32>
 
 /// One more than a temporary that comes behind others.
 fn behind(h: u32) -> Option<u32>
-    requires { h ≤ 128 }
-    ensures { MatchOption result (128 < suc h) (λ r. (r ≡ suc h) × (r ≤ 128)) }
+    requires { h ≤ most_variables }
+    ensures { MatchOption result (most_variables < suc h) (λ r. (r ≡ suc h) × (r ≤ most_variables)) }
 {
-    if h < MOST { Some(h + 1) } else { None }
+    if h < MOST_VARIABLES {
+        Some(h + 1)
+    } else {
+        None
+    }
 }
 
 #[cycle(variables)]
 #[tactic(auto, using(rc_core::proofs::ShapeRows::block_is))]
 fn statement(s: &Stmt) -> Option<u32>
-    ensures { MatchOption result (128 < statement_temporaries (stmt_of s.now)) (λ r. (r ≡ statement_temporaries (stmt_of s.now)) × (r ≤ 128)) }
+    ensures { MatchOption result (most_variables < statement_temporaries (stmt_of s.now)) (λ r. (r ≡ statement_temporaries (stmt_of s.now)) × (r ≤ most_variables)) }
 {
     match s {
         Stmt::Block { body } => self::body(body),
@@ -102,7 +108,7 @@ fn statement(s: &Stmt) -> Option<u32>
 #[cycle(variables)]
 #[tactic(auto, using(crate::proofs::Greatest::body_step, crate::proofs::Greatest::body_end))]
 fn body(body: &[Stmt]) -> Option<u32>
-    ensures { MatchOption result (128 < body_temporaries (stmts_of body.now)) (λ r. (r ≡ body_temporaries (stmts_of body.now)) × (r ≤ 128)) }
+    ensures { MatchOption result (most_variables < body_temporaries (stmts_of body.now)) (λ r. (r ≡ body_temporaries (stmts_of body.now)) × (r ≤ most_variables)) }
 {
     let mut most = 0;
     for s in body {
@@ -156,11 +162,11 @@ pub(crate) fn is_narrow(f: &Function) -> bool
 #[tactic(auto, using(crate::proofs::Totals::first_types, crate::proofs::Totals::other_types))]
 fn variables_left(f: &Function) -> Option<u32>
     requires { f.now.parameters ≤ length f.now.locals.items }
-    ensures { MatchOption result (128 < region_variables (function_of f.now)) (λ r. r + region_variables (function_of f.now) ≡ 128) }
+    ensures { MatchOption result (most_variables < region_variables (function_of f.now)) (λ r. r + region_variables (function_of f.now) ≡ most_variables) }
 {
     let of_body = statement(&f.body)?;
     let most = of_body.max(behind_body(&f.result));
-    let behind_temporaries = spend(MOST, most + 2)?;
+    let behind_temporaries = spend(MOST_VARIABLES, most + 2)?;
     let (parameters, others) = f.locals.as_slice().split_at(f.parameters as usize);
     let behind_parameters = locals(parameters, 2, behind_temporaries)?;
     locals(others, 1, behind_parameters)

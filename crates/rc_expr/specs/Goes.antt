@@ -1,5 +1,6 @@
 -- How code that reads a symbol goes along with the reader of one word at a time, whatever is open round the symbol.
 use Rattle.std.specs.Prelude.{ℕ, ◌≡◌, ◌+◌, ◌-◌, ◌<◌, ◌≤◌, List, [], ◌∷◌, Option, Some, None, Result, Ok, Err, drop, length, nat_lt, nat_le, cond, Bool, true, false}
+use Rattle.rc_base.specs.Limits.{most_reach}
 use Rattle.std.specs.declared.boxed.Box.{Box}
 use Rattle.std.specs.declared.alloc.Global.{Global}
 use Rattle.rc_syntax.specs.declared.fault.ParseFault.{ParseFault}
@@ -102,12 +103,12 @@ inside tokens i q h k = frame (spot_of tokens i) (q - i) h k
 -- The symbol begins at the place; what is open round it is so deep; its words are too far from a place on.
 pub record Around (round depth far : ℕ) (tokens : List CodeToken) (i : ℕ) {root s : Symbol} (k : Stack root s) : Type 0 where
   pub nested : round + opened k ≡ depth
-  pub reach : (n : ℕ) → i + n ≤ length tokens → nat_lt 1024 (reached k n 0) ≡ nat_lt far (i + n)
+  pub reach : (n : ℕ) → i + n ≤ length tokens → nat_lt most_reach (reached k n 0) ≡ nat_lt far (i + n)
 
 -- The same of a symbol inside an expression, whose words are counted whatever is inside the symbol.
 pub record Within (round depth far : ℕ) (tokens : List CodeToken) (i : ℕ) {root s : Symbol} (k : Stack root s) : Type 0 where
   pub nested : round + opened k ≡ depth
-  pub reach : (n r : ℕ) → i + n ≤ length tokens → nat_lt 1024 (reached k n r) ≡ nat_lt far (i + n)
+  pub reach : (n r : ℕ) → i + n ≤ length tokens → nat_lt most_reach (reached k n r) ≡ nat_lt far (i + n)
 
 -- The fault is what the reader answers.
 abbrev pub Faults : {root : Symbol} → List CodeToken → Answer root → ParseFault → Type 0

@@ -1,5 +1,6 @@
 // Names, calls and allocations (ISO C 6.5.1, 6.5.2.2, and RC's allocations).
 ghost use Rattle.std.specs.Prelude.{◌≡◌, ◌<◌, ◌≤◌, ◌+◌, IfOk, length};
+ghost use Rattle.rc_base.specs.Limits.{most_depth, most_words};
 ghost use Rattle.rc_syntax.specs.declared.word.Key.TheVariants.{Ralloc, RarrayAlloc};
 ghost use Rattle.rc_syntax.specs.declared.word.Mark.TheVariants as m;
 ghost use Rattle.rc_syntax.specs.Tokens as w;
@@ -30,9 +31,9 @@ pub fn named(
     depth: u32,
     far: u32,
 ) -> Result<(Box<Expr>, u32), ParseFault>
-    requires few { length tokens.now ≤ 1048576 }
+    requires few { length tokens.now ≤ most_words }
     requires within { at < length tokens.now }
-    requires shallow { depth < 200 }
+    requires shallow { depth < most_depth }
     ensures reads { Continues g.Unary depth far tokens.now at (at + 1) (r.unary_in (spot_of tokens.now at) (w.name text.now)) boxed_of result }
     ensures place { IfOk result (λ r. (at < r.1) × (r.1 ≤ length tokens.now)) }
 {
@@ -57,10 +58,10 @@ fn call(
     depth: u32,
     far: u32,
 ) -> Result<(Box<Expr>, u32), ParseFault>
-    requires few { length tokens.now ≤ 1048576 }
+    requires few { length tokens.now ≤ most_words }
     requires within { place ≤ length tokens.now }
     requires behind { at < place }
-    requires shallow { depth < 200 }
+    requires shallow { depth < most_depth }
     ensures reads { Continues g.Unary depth far tokens.now at place (r.call name) boxed_of result }
     ensures place { IfOk result (λ r. (at < r.1) × (r.1 ≤ length tokens.now)) }
 {
@@ -84,9 +85,9 @@ fn arguments(
     depth: u32,
     far: u32,
 ) -> Result<(Vec<Expr>, u32), ParseFault>
-    requires few { length tokens.now ≤ 1048576 }
+    requires few { length tokens.now ≤ most_words }
     requires within { at ≤ length tokens.now }
-    requires shallow { depth ≤ 200 }
+    requires shallow { depth ≤ most_depth }
     ensures reads { Reads g.Arguments depth far tokens.now at (λ v. exprs_of v.items) result }
     ensures place { IfOk result (λ r. (at < r.1) × (r.1 ≤ length tokens.now)) }
     ensures quiet { IfOk result (λ r. Misses tokens.now r.1 (mark m.Comma)) }
@@ -114,9 +115,9 @@ pub fn ralloc(
     depth: u32,
     far: u32,
 ) -> Result<(Box<Expr>, u32), ParseFault>
-    requires few { length tokens.now ≤ 1048576 }
+    requires few { length tokens.now ≤ most_words }
     requires within { at < length tokens.now }
-    requires shallow { depth < 200 }
+    requires shallow { depth < most_depth }
     ensures reads { Continues g.Unary depth far tokens.now at (at + 1) (r.unary_in (spot_of tokens.now at) (w.key Ralloc)) boxed_of result }
     ensures place { IfOk result (λ r. (at < r.1) × (r.1 ≤ length tokens.now)) }
 {
@@ -137,9 +138,9 @@ pub fn rarrayalloc(
     depth: u32,
     far: u32,
 ) -> Result<(Box<Expr>, u32), ParseFault>
-    requires few { length tokens.now ≤ 1048576 }
+    requires few { length tokens.now ≤ most_words }
     requires within { at < length tokens.now }
-    requires shallow { depth < 200 }
+    requires shallow { depth < most_depth }
     ensures reads { Continues g.Unary depth far tokens.now at (at + 1) (r.unary_in (spot_of tokens.now at) (w.key RarrayAlloc)) boxed_of result }
     ensures place { IfOk result (λ r. (at < r.1) × (r.1 ≤ length tokens.now)) }
 {
@@ -161,10 +162,10 @@ fn type_argument(
     depth: u32,
     far: u32,
 ) -> Result<(TypeName, u32), ParseFault>
-    requires few { length tokens.now ≤ 1048576 }
+    requires few { length tokens.now ≤ most_words }
     requires within { place ≤ length tokens.now }
     requires behind { at < place }
-    requires shallow { depth < 200 }
+    requires shallow { depth < most_depth }
     ensures reads { (f : t.TypeName → t.Expr) → Continues g.Unary depth far tokens.now at place (typed_rest f) (λ ty. f (type_of ty)) result }
     ensures place { IfOk result (λ r. (place < r.1) × (r.1 ≤ length tokens.now)) }
 {

@@ -1,5 +1,6 @@
 // The types of casts (ISO C 6.5.4).
 ghost use Rattle.std.specs.Prelude.{◌≡◌, ◌<◌, ◌≤◌, ◌+◌, IfOk, MatchOption, length};
+ghost use Rattle.rc_base.specs.Limits.{most_depth, most_words};
 ghost use Rattle.rc_syntax.specs.Tokens.{key};
 ghost use Rattle.rc_syntax.specs.reader.Todo.{read, sees};
 ghost use Rattle.rc_syntax.specs.reader.Reading as r;
@@ -32,9 +33,9 @@ pub fn cast_type(
     depth: u32,
     far: u32,
 ) -> Result<(CastType, u32), ParseFault>
-    requires few { length tokens.now ≤ 1048576 }
+    requires few { length tokens.now ≤ most_words }
     requires here { Stands tokens.now (at + 1) (key (key_of first)) }
-    requires shallow { depth < 200 }
+    requires shallow { depth < most_depth }
     ensures reads { ReadsCast depth far tokens.now at (at + 1) (r.parenthesized (spot_of tokens.now at)) result }
     ensures place { IfOk result (λ r. (at < r.1) × (r.1 ≤ length tokens.now)) }
 {
@@ -54,10 +55,10 @@ fn unsigned_end(
     depth: u32,
     far: u32,
 ) -> Result<(CastType, u32), ParseFault>
-    requires few { length tokens.now ≤ 1048576 }
+    requires few { length tokens.now ≤ most_words }
     requires within { place ≤ length tokens.now }
     requires behind { at < place }
-    requires shallow { depth < 200 }
+    requires shallow { depth < most_depth }
     ensures reads { ReadsCast depth far tokens.now at place (unsigned_rest (spot_of tokens.now at)) result }
     ensures place { IfOk result (λ r. (at < r.1) × (r.1 ≤ length tokens.now)) }
 {
@@ -77,10 +78,10 @@ fn cast_end(
     depth: u32,
     far: u32,
 ) -> Result<(CastType, u32), ParseFault>
-    requires few { length tokens.now ≤ 1048576 }
+    requires few { length tokens.now ≤ most_words }
     requires within { place ≤ length tokens.now }
     requires behind { at < place }
-    requires shallow { depth < 200 }
+    requires shallow { depth < most_depth }
     ensures reads { ReadsCast depth far tokens.now at place (read (sees r.is_close (r.cast_to (spot_of tokens.now at) to))) result }
     ensures place { IfOk result (λ r. (at < r.1) × (r.1 ≤ length tokens.now)) }
 {

@@ -1,5 +1,6 @@
 // Expressions: conditionals, and operands with the operators between them (ISO C 6.5.5 to 6.5.15).
 ghost use Rattle.std.specs.Prelude.{◌≡◌, ◌<◌, ◌≤◌, ◌+◌, IfOk, length, None, true};
+ghost use Rattle.rc_base.specs.Limits.{most_depth, most_reach, most_words};
 ghost use Rattle.rc_syntax.specs.declared.word.Mark.TheVariants as m;
 ghost use Rattle.rc_syntax.specs.Tokens.{mark};
 ghost use Rattle.rc_syntax.specs.WordShapes.{tokens_of};
@@ -13,7 +14,8 @@ ghost use Rattle.rc_expr.specs.Goes.{boxed_of, unboxed, word_at, ReaderAnswers, 
 use crate::nodes::{binary_node, conditional_node};
 use crate::operands::operand;
 use crate::operators::{operator_at, tightness};
-use crate::words::{MOST_REACH, expect_mark, is_mark, spot_at, taken};
+use crate::words::{expect_mark, is_mark, spot_at, taken};
+use rc_base::MOST_REACH;
 use rc_syntax::fault::ParseFault;
 use rc_syntax::tree::{BinaryOp, Expr};
 use rc_syntax::word::{Mark, Token};
@@ -28,12 +30,12 @@ pub fn expression(
     at: u32,
     depth: u32,
 ) -> Result<(Box<Expr>, u32), ParseFault>
-    requires few { length tokens.now ≤ 1048576 }
+    requires few { length tokens.now ≤ most_words }
     requires within { at ≤ length tokens.now }
-    requires shallow { depth ≤ 200 }
+    requires shallow { depth ≤ most_depth }
     ensures grammar { Answers depth (g.Level 0) expr_of (tokens_of tokens.now) at (unboxed result) }
     ensures answers { ReaderAnswers (g.Level 0) depth tokens.now at boxed_of result }
-    ensures reads { Reads (g.Level 0) depth (at + 1024) tokens.now at boxed_of result }
+    ensures reads { Reads (g.Level 0) depth (at + most_reach) tokens.now at boxed_of result }
     ensures place { IfOk result (λ r. (at < r.1) × (r.1 ≤ length tokens.now)) }
     ensures quiet { IfOk result (λ r. (operator_from 0 (word_at tokens.now r.1) ≡ None) × Misses tokens.now r.1 (mark m.Question)) }
 {
@@ -48,12 +50,12 @@ pub fn unary(
     at: u32,
     depth: u32,
 ) -> Result<(Box<Expr>, u32), ParseFault>
-    requires few { length tokens.now ≤ 1048576 }
+    requires few { length tokens.now ≤ most_words }
     requires within { at ≤ length tokens.now }
-    requires shallow { depth ≤ 200 }
+    requires shallow { depth ≤ most_depth }
     ensures grammar { Answers depth g.Unary expr_of (tokens_of tokens.now) at (unboxed result) }
     ensures answers { ReaderAnswers g.Unary depth tokens.now at boxed_of result }
-    ensures reads { Reads g.Unary depth (at + 1024) tokens.now at boxed_of result }
+    ensures reads { Reads g.Unary depth (at + most_reach) tokens.now at boxed_of result }
     ensures place { IfOk result (λ r. (at < r.1) × (r.1 ≤ length tokens.now)) }
     ensures quiet { IfOk result (λ r. no_postfix (word_at tokens.now r.1) ≡ true) }
 {
@@ -70,11 +72,11 @@ pub fn conditional(
     depth: u32,
     far: u32,
 ) -> Result<(Box<Expr>, u32), ParseFault>
-    requires few { length tokens.now ≤ 1048576 }
+    requires few { length tokens.now ≤ most_words }
     requires within { at ≤ length tokens.now }
-    requires shallow { depth ≤ 200 }
+    requires shallow { depth ≤ most_depth }
     ensures reads { Reads (g.Level 0) depth far tokens.now at boxed_of result }
-    ensures place { IfOk result (λ r. (at < r.1) × (r.1 ≤ length tokens.now) × (depth < 200)) }
+    ensures place { IfOk result (λ r. (at < r.1) × (r.1 ≤ length tokens.now) × (depth < most_depth)) }
     ensures quiet { IfOk result (λ r. (operator_from 0 (word_at tokens.now r.1) ≡ None) × Misses tokens.now r.1 (mark m.Question)) }
 {
     let (test, place) = binary(alloc, tokens, at, 0, depth, far)?;
@@ -95,10 +97,10 @@ fn choice(
     depth: u32,
     far: u32,
 ) -> Result<(Box<Expr>, u32), ParseFault>
-    requires few { length tokens.now ≤ 1048576 }
+    requires few { length tokens.now ≤ most_words }
     requires here { Stands tokens.now place (mark m.Question) }
     requires behind { at < place }
-    requires shallow { depth < 200 }
+    requires shallow { depth < most_depth }
     ensures reads { Continues (g.Level 0) depth far tokens.now at place (build (boxed_of test)) boxed_of result }
     ensures place { IfOk result (λ r. (place < r.1) × (r.1 ≤ length tokens.now)) }
     ensures quiet { IfOk result (λ r. (operator_from 0 (word_at tokens.now r.1) ≡ None) × Misses tokens.now r.1 (mark m.Question)) }
@@ -122,12 +124,12 @@ fn binary(
     depth: u32,
     far: u32,
 ) -> Result<(Box<Expr>, u32), ParseFault>
-    requires few { length tokens.now ≤ 1048576 }
+    requires few { length tokens.now ≤ most_words }
     requires within { at ≤ length tokens.now }
-    requires shallow { depth ≤ 200 }
+    requires shallow { depth ≤ most_depth }
     requires tight { level ≤ 11 }
     ensures reads { Reads (g.Level level) depth far tokens.now at boxed_of result }
-    ensures place { IfOk result (λ r. (at < r.1) × (r.1 ≤ length tokens.now) × (depth < 200)) }
+    ensures place { IfOk result (λ r. (at < r.1) × (r.1 ≤ length tokens.now) × (depth < most_depth)) }
     ensures quiet { IfOk result (λ r. operator_from level (word_at tokens.now r.1) ≡ None) }
 {
     let (first, after) = operand(alloc, tokens, at, depth, far)?;
@@ -154,10 +156,10 @@ fn beside(
     depth: u32,
     far: u32,
 ) -> Result<(Box<Expr>, u32), ParseFault>
-    requires few { length tokens.now ≤ 1048576 }
+    requires few { length tokens.now ≤ most_words }
     requires here { Stands tokens.now place (mark (g.mark_of op)) }
     requires behind { at < place }
-    requires shallow { depth < 200 }
+    requires shallow { depth < most_depth }
     requires tight { level ≤ level_of op }
     ensures reads { Continues (g.Level level) depth far tokens.now at place (build (boxed_of left)) boxed_of result }
     ensures place { IfOk result (λ r. (place < r.1) × (r.1 ≤ length tokens.now)) }

@@ -16,6 +16,5 @@ pub use nodes::{add, boxed};
 pub use rc_syntax::fault::ParseFault;
 pub use types::{base, base_begins, stars, type_name};
 pub use words::{
-    MOST_DEPTH, deep_at, is_key, is_mark, key_at, mark_at, name, refused_at, shared, spot_at,
-    word_here,
+    deep_at, is_key, is_mark, key_at, mark_at, name, refused_at, shared, spot_at, word_here,
 };

@@ -17,10 +17,7 @@ pub fn add<T: Drop>(values: &mut Vec<T>, value: T) -> Result<(), ParseFault>
     ensures ok { OnOk result (values.new.items ≡ values.old.items ++ value ∷ []) }
     ensures err { IfErr result (λ f. f ≡ Memory) }
 {
-    let Ok(()) = values.push(value) else {
-        return Err(ParseFault::Memory);
-    };
-    Ok(())
+    Ok(values.push(value)?)
 }
 
 /// The value in memory of its own.
@@ -31,10 +28,7 @@ pub fn boxed<T: Drop>(alloc: Global, value: T) -> Result<Box<T>, ParseFault>
     ensures ok { IfOk result (λ b. b.value ≡ value) }
     ensures err { IfErr result (λ f. f ≡ Memory) }
 {
-    let Ok(value) = Box::new(alloc, value) else {
-        return Err(ParseFault::Memory);
-    };
-    Ok(value)
+    Ok(Box::new(alloc, value)?)
 }
 
 /// The value in memory of its own, and the place after it.

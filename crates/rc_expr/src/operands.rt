@@ -1,5 +1,6 @@
 // Operands: unaries, and what they begin with (ISO C 6.5.1 to 6.5.4).
 ghost use Rattle.std.specs.Prelude.{◌≡◌, ◌<◌, ◌≤◌, ◌+◌, IfOk, MatchResult, OnOk, ◌⊎◌, length, true};
+ghost use Rattle.rc_base.specs.Limits.{most_depth, most_words};
 ghost use Rattle.rc_syntax.specs.declared.fault.ParseFault.TheVariants.{Deep};
 ghost use Rattle.rc_syntax.specs.Tokens as w;
 ghost use Rattle.rc_syntax.specs.Tokens.{key};
@@ -15,7 +16,8 @@ use crate::expressions::conditional;
 use crate::nodes::{cast_node, leaf, unary_node};
 use crate::operators::prefix_of;
 use crate::postfixes::postfixes;
-use crate::words::{MOST_DEPTH, deep_at, expect_mark, refused_at, shared, spot_at, word_here};
+use crate::words::{deep_at, expect_mark, refused_at, shared, spot_at, word_here};
+use rc_base::MOST_DEPTH;
 use rc_syntax::fault::ParseFault;
 use rc_syntax::tree::{CastType, Expr, UnaryOp};
 use rc_syntax::word::{Key, Mark, Token, Word};
@@ -48,8 +50,8 @@ fn begins(word: &Word) -> bool
 /// Takes the first word of an operand, unless it is nested too deep or too far.
 fn enter(tokens: &[Token], at: u32, depth: u32, far: u32) -> Result<(), ParseFault>
     requires { at < length tokens.now }
-    ensures ok { OnOk result ((depth < 200) × (at < far)) }
-    ensures err { MatchResult result (λ e. Unit {0}) (λ f. ((200 ≤ depth) ⊎ (far ≤ at)) × (f ≡ Deep (line_of tokens.now at))) }
+    ensures ok { OnOk result ((depth < most_depth) × (at < far)) }
+    ensures err { MatchResult result (λ e. Unit {0}) (λ f. ((most_depth ≤ depth) ⊎ (far ≤ at)) × (f ≡ Deep (line_of tokens.now at))) }
 {
     if depth >= MOST_DEPTH {
         return Err(deep_at(tokens, at));
@@ -71,11 +73,11 @@ pub fn operand(
     depth: u32,
     far: u32,
 ) -> Result<(Box<Expr>, u32), ParseFault>
-    requires few { length tokens.now ≤ 1048576 }
+    requires few { length tokens.now ≤ most_words }
     requires within { at ≤ length tokens.now }
-    requires shallow { depth ≤ 200 }
+    requires shallow { depth ≤ most_depth }
     ensures reads { Reads g.Unary depth far tokens.now at boxed_of result }
-    ensures place { IfOk result (λ r. (at < r.1) × (r.1 ≤ length tokens.now) × (depth < 200)) }
+    ensures place { IfOk result (λ r. (at < r.1) × (r.1 ≤ length tokens.now) × (depth < most_depth)) }
     ensures quiet { IfOk result (λ r. no_postfix (word_at tokens.now r.1) ≡ true) }
 {
     let Some(word) = word_here(tokens, at) else {
@@ -103,9 +105,9 @@ fn core(
     depth: u32,
     far: u32,
 ) -> Result<(Box<Expr>, u32), ParseFault>
-    requires few { length tokens.now ≤ 1048576 }
+    requires few { length tokens.now ≤ most_words }
     requires within { at < length tokens.now }
-    requires shallow { depth < 200 }
+    requires shallow { depth < most_depth }
     requires begun { starts (word_of word.now) ≡ true }
     ensures reads { Continues g.Unary depth far tokens.now at (at + 1) (r.unary_in (spot_of tokens.now at) (word_of word.now)) boxed_of result }
     ensures place { IfOk result (λ r. (at < r.1) × (r.1 ≤ length tokens.now)) }
@@ -139,9 +141,9 @@ fn keyed(
     depth: u32,
     far: u32,
 ) -> Result<(Box<Expr>, u32), ParseFault>
-    requires few { length tokens.now ≤ 1048576 }
+    requires few { length tokens.now ≤ most_words }
     requires within { at < length tokens.now }
-    requires shallow { depth < 200 }
+    requires shallow { depth < most_depth }
     requires begun { starts (w.key key) ≡ true }
     ensures reads { Continues g.Unary depth far tokens.now at (at + 1) (r.unary_in (spot_of tokens.now at) (w.key key)) boxed_of result }
     ensures place { IfOk result (λ r. (at < r.1) × (r.1 ≤ length tokens.now)) }
@@ -165,9 +167,9 @@ fn marked(
     depth: u32,
     far: u32,
 ) -> Result<(Box<Expr>, u32), ParseFault>
-    requires few { length tokens.now ≤ 1048576 }
+    requires few { length tokens.now ≤ most_words }
     requires within { at < length tokens.now }
-    requires shallow { depth < 200 }
+    requires shallow { depth < most_depth }
     requires begun { starts (w.mark first) ≡ true }
     ensures reads { Continues g.Unary depth far tokens.now at (at + 1) (r.unary_in (spot_of tokens.now at) (w.mark first)) boxed_of result }
     ensures place { IfOk result (λ r. (at < r.1) × (r.1 ≤ length tokens.now)) }
@@ -189,9 +191,9 @@ fn prefixed(
     depth: u32,
     far: u32,
 ) -> Result<(Box<Expr>, u32), ParseFault>
-    requires few { length tokens.now ≤ 1048576 }
+    requires few { length tokens.now ≤ most_words }
     requires within { at < length tokens.now }
-    requires shallow { depth < 200 }
+    requires shallow { depth < most_depth }
     ensures reads { Continues g.Unary depth far tokens.now at (at + 1) (r.prefixed (spot_of tokens.now at) op) boxed_of result }
     ensures place { IfOk result (λ r. (at < r.1) × (r.1 ≤ length tokens.now)) }
 {
@@ -209,9 +211,9 @@ fn parenthesis(
     depth: u32,
     far: u32,
 ) -> Result<(Box<Expr>, u32), ParseFault>
-    requires few { length tokens.now ≤ 1048576 }
+    requires few { length tokens.now ≤ most_words }
     requires within { at < length tokens.now }
-    requires shallow { depth < 200 }
+    requires shallow { depth < most_depth }
     ensures reads { Continues g.Unary depth far tokens.now at (at + 1) (r.parenthesized (spot_of tokens.now at)) boxed_of result }
     ensures place { IfOk result (λ r. (at < r.1) × (r.1 ≤ length tokens.now)) }
 {
@@ -231,9 +233,9 @@ fn cast(
     depth: u32,
     far: u32,
 ) -> Result<(Box<Expr>, u32), ParseFault>
-    requires few { length tokens.now ≤ 1048576 }
+    requires few { length tokens.now ≤ most_words }
     requires here { Stands tokens.now (at + 1) (key (key_of first)) }
-    requires shallow { depth < 200 }
+    requires shallow { depth < most_depth }
     ensures reads { Continues g.Unary depth far tokens.now at (at + 1) (r.parenthesized (spot_of tokens.now at)) boxed_of result }
     ensures place { IfOk result (λ r. (at < r.1) × (r.1 ≤ length tokens.now)) }
 {
@@ -252,9 +254,9 @@ fn grouped(
     depth: u32,
     far: u32,
 ) -> Result<(Box<Expr>, u32), ParseFault>
-    requires few { length tokens.now ≤ 1048576 }
+    requires few { length tokens.now ≤ most_words }
     requires within { at < length tokens.now }
-    requires shallow { depth < 200 }
+    requires shallow { depth < most_depth }
     ensures reads { Continues g.Unary depth far tokens.now at (at + 1) (enter (g.Level 0) (λ e. read (sees r.is_close (build e)))) boxed_of result }
     ensures place { IfOk result (λ r. (at < r.1) × (r.1 ≤ length tokens.now)) }
 {

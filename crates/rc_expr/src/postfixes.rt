@@ -1,5 +1,6 @@
 // Postfixes: indexes and fields (ISO C 6.5.2.1, 6.5.2.3).
 ghost use Rattle.std.specs.Prelude.{◌≡◌, ◌<◌, ◌≤◌, ◌+◌, IfOk, length, true};
+ghost use Rattle.rc_base.specs.Limits.{most_depth, most_words};
 ghost use Rattle.rc_syntax.specs.declared.word.Mark.TheVariants as m;
 ghost use Rattle.rc_syntax.specs.Tokens.{mark};
 ghost use Rattle.rc_syntax.specs.Grammar as g;
@@ -26,10 +27,10 @@ pub fn postfixes(
     depth: u32,
     far: u32,
 ) -> Result<(Box<Expr>, u32), ParseFault>
-    requires few { length tokens.now ≤ 1048576 }
+    requires few { length tokens.now ≤ most_words }
     requires within { after ≤ length tokens.now }
     requires behind { at < after }
-    requires shallow { depth < 200 }
+    requires shallow { depth < most_depth }
     ensures reads { Continues g.Unary depth far tokens.now at after (build (boxed_of first)) boxed_of result }
     ensures place { IfOk result (λ r. (after ≤ r.1) × (r.1 ≤ length tokens.now)) }
     ensures quiet { IfOk result (λ r. no_postfix (word_at tokens.now r.1) ≡ true) }
@@ -59,10 +60,10 @@ fn index(
     depth: u32,
     far: u32,
 ) -> Result<(Box<Expr>, u32), ParseFault>
-    requires few { length tokens.now ≤ 1048576 }
+    requires few { length tokens.now ≤ most_words }
     requires here { Stands tokens.now place (mark m.OpenBracket) }
     requires behind { at < place }
-    requires shallow { depth < 200 }
+    requires shallow { depth < most_depth }
     ensures reads { Continues g.Unary depth far tokens.now at place (build (boxed_of value)) boxed_of result }
     ensures place { IfOk result (λ r. (place < r.1) × (r.1 ≤ length tokens.now)) }
 {
@@ -83,10 +84,10 @@ fn member(
     depth: u32,
     far: u32,
 ) -> Result<(Box<Expr>, u32), ParseFault>
-    requires few { length tokens.now ≤ 1048576 }
+    requires few { length tokens.now ≤ most_words }
     requires here { Stands tokens.now place (mark m.Dot) }
     requires behind { at < place }
-    requires shallow { depth < 200 }
+    requires shallow { depth < most_depth }
     ensures reads { Continues g.Unary depth far tokens.now at place (build (boxed_of value)) boxed_of result }
     ensures place { IfOk result (λ r. (place < r.1) × (r.1 ≤ length tokens.now)) }
 {
@@ -106,10 +107,10 @@ fn arrow(
     depth: u32,
     far: u32,
 ) -> Result<(Box<Expr>, u32), ParseFault>
-    requires few { length tokens.now ≤ 1048576 }
+    requires few { length tokens.now ≤ most_words }
     requires here { Stands tokens.now place (mark m.Arrow) }
     requires behind { at < place }
-    requires shallow { depth < 200 }
+    requires shallow { depth < most_depth }
     ensures reads { Continues g.Unary depth far tokens.now at place (build (boxed_of value)) boxed_of result }
     ensures place { IfOk result (λ r. (place < r.1) × (r.1 ≤ length tokens.now)) }
 {

@@ -1,5 +1,6 @@
 // Types as they are written (ISO C 6.7.2, 6.7.6, and RC's annotations).
 ghost use Rattle.std.specs.Prelude.{◌≡◌, ◌<◌, ◌≤◌, ◌+◌, ◌++◌, ◌∷◌, [], List, IfOk, length};
+ghost use Rattle.rc_base.specs.Limits.{most_depth, most_words};
 ghost use Rattle.rc_syntax.specs.declared.word.Mark.TheVariants as m;
 ghost use Rattle.rc_syntax.specs.Tokens.{mark};
 ghost use Rattle.rc_syntax.specs.Grammar as g;
@@ -9,9 +10,8 @@ ghost use Rattle.rc_syntax.specs.Shape.{type_of};
 ghost use Rattle.rc_expr.specs.Goes.{spot_of, word_at, Stands, Misses, ReadsAnywhere, ContinuesAnywhere, begins_base};
 
 use crate::nodes::add;
-use crate::words::{
-    MOST_DEPTH, deep_at, is_key, is_mark, key_at, name, refused_at, spot_at, taken,
-};
+use crate::words::{deep_at, is_key, is_mark, key_at, name, refused_at, spot_at, taken};
+use rc_base::MOST_DEPTH;
 use rc_syntax::fault::ParseFault;
 use rc_syntax::tree::{Base, Note, TypeName};
 use rc_syntax::word::{Key, Mark, Token};
@@ -33,9 +33,9 @@ pub fn base_begins(tokens: &[Token], at: u32) -> bool
 
 /// Reads a base type. Words from `far` on are too far.
 pub fn base(tokens: &[Token], at: u32, depth: u32, far: u32) -> Result<(Base, u32), ParseFault>
-    requires few { length tokens.now ≤ 1048576 }
+    requires few { length tokens.now ≤ most_words }
     requires within { at ≤ length tokens.now }
-    requires shallow { depth ≤ 200 }
+    requires shallow { depth ≤ most_depth }
     ensures reads { ReadsAnywhere g.Base depth far tokens.now at (λ b. b) result }
     ensures place { IfOk result (λ r. (at < r.1) × (r.1 ≤ length tokens.now)) }
 {
@@ -78,9 +78,9 @@ pub fn stars(
     depth: u32,
     far: u32,
 ) -> Result<(Vec<Note>, u32), ParseFault>
-    requires few { length tokens.now ≤ 1048576 }
+    requires few { length tokens.now ≤ most_words }
     requires within { at ≤ length tokens.now }
-    requires shallow { depth ≤ 200 }
+    requires shallow { depth ≤ most_depth }
     ensures reads { ContinuesAnywhere g.Stars depth far tokens.now at at (build []) (λ v. v.items) result }
     ensures place { IfOk result (λ r. (at ≤ r.1) × (r.1 ≤ length tokens.now)) }
     ensures quiet { IfOk result (λ r. Misses tokens.now r.1 (mark m.Star)) }
@@ -104,10 +104,10 @@ fn star(
     depth: u32,
     far: u32,
 ) -> Result<(Note, u32), ParseFault>
-    requires few { length tokens.now ≤ 1048576 }
+    requires few { length tokens.now ≤ most_words }
     requires here { Stands tokens.now place (mark m.Star) }
     requires behind { at ≤ place }
-    requires shallow { depth ≤ 200 }
+    requires shallow { depth ≤ most_depth }
     ensures reads { (ns : List Note) → length ns ≡ count → ContinuesAnywhere g.Stars depth far tokens.now at place (build ns) (λ n. ns ++ n ∷ []) result }
     ensures place { IfOk result (λ r. (place < r.1) × (r.1 ≤ length tokens.now)) }
 {
@@ -126,10 +126,10 @@ fn note(
     depth: u32,
     far: u32,
 ) -> Result<(Note, u32), ParseFault>
-    requires few { length tokens.now ≤ 1048576 }
+    requires few { length tokens.now ≤ most_words }
     requires within { place ≤ length tokens.now }
     requires behind { at < place }
-    requires shallow { depth ≤ 200 }
+    requires shallow { depth ≤ most_depth }
     ensures reads { (ns : List Note) → ContinuesAnywhere g.Stars depth far tokens.now at place (r.starred ns tt) (λ n. ns ++ n ∷ []) result }
     ensures place { IfOk result (λ r. (place ≤ r.1) × (r.1 ≤ length tokens.now)) }
 {
@@ -158,9 +158,9 @@ pub fn type_name(
     depth: u32,
     far: u32,
 ) -> Result<(TypeName, u32), ParseFault>
-    requires few { length tokens.now ≤ 1048576 }
+    requires few { length tokens.now ≤ most_words }
     requires within { at ≤ length tokens.now }
-    requires shallow { depth ≤ 200 }
+    requires shallow { depth ≤ most_depth }
     ensures reads { ReadsAnywhere g.TypeName depth far tokens.now at type_of result }
     ensures place { IfOk result (λ r. (at < r.1) × (r.1 ≤ length tokens.now)) }
 {

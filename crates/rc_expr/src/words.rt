@@ -1,5 +1,6 @@
 // The words of a list, one at a time. A place is the number of a word, from 0.
 ghost use Rattle.std.specs.Prelude.{◌≡◌, ◌<◌, ◌≤◌, ◌+◌, IfOk, IfErr, OnErr, MatchOption, MatchResult, length, None, true, false, []};
+ghost use Rattle.rc_base.specs.Limits.{most_words};
 ghost use Rattle.rc_syntax.specs.declared.fault.ParseFault.TheVariants.{Deep, Memory, Syntax};
 ghost use Rattle.rc_syntax.specs.Tokens.{mark, key};
 ghost use Rattle.rc_syntax.specs.WordShapes.{word_of};
@@ -8,12 +9,6 @@ ghost use Rattle.rc_expr.specs.Goes.{from, line_of, spot_of, word_at, mark_in, k
 use rc_syntax::fault::ParseFault;
 use rc_syntax::tree::{Name, Spot};
 use rc_syntax::word::{Key, Mark, Text, Token, Word};
-
-/// How deep a word may be nested.
-pub const MOST_DEPTH: u32 = 200;
-
-/// How many words an expression may have.
-pub const MOST_REACH: u32 = 1024;
 
 /// The word at a place, where one stands there.
 #[tactic(auto, using(crate::proofs::Standing::from_past, crate::proofs::Standing::stands_here))]
@@ -127,7 +122,7 @@ pub fn taken(tokens: &[Token], at: u32, far: u32) -> Result<u32, ParseFault>
 
 /// Takes this mark, and answers the place after it.
 pub fn expect_mark(tokens: &[Token], at: u32, far: u32, wanted: Mark) -> Result<u32, ParseFault>
-    requires { length tokens.now ≤ 1048576 }
+    requires { length tokens.now ≤ most_words }
     ensures { Takes tokens.now at far (mark wanted) result }
 {
     if !is_mark(tokens, at, wanted) {
@@ -141,16 +136,13 @@ pub fn shared(text: &Text) -> Result<Text, ParseFault>
     ensures ok { IfOk result (λ t. t ≡ text.now) }
     ensures err { IfErr result (λ f. f ≡ Memory) }
 {
-    match text.share() {
-        Ok(text) => Ok(text),
-        Err(_) => Err(ParseFault::Memory),
-    }
+    Ok(text.share()?)
 }
 
 /// Takes a name, and answers the place after it.
 #[tactic(auto, using(crate::proofs::Standing::no_word, crate::proofs::Standing::word_stands))]
 pub fn name(tokens: &[Token], at: u32, far: u32) -> Result<(Name, u32), ParseFault>
-    requires { length tokens.now ≤ 1048576 }
+    requires { length tokens.now ≤ most_words }
     ensures { TakesName tokens.now at far result }
 {
     match word_here(tokens, at) {

@@ -1,6 +1,6 @@
-pub mod Marks
 pub mod Closes
 pub mod Sets
+pub mod Absent
 pub mod RowLoops
 pub mod RowLaws
 pub mod SetLaws

@@ -2,8 +2,8 @@
 use Rattle.std.proofs.Common.{◌≡◌, ◌≢◌, ◌∙◌, ◌⊎◌, inl, inr, ◌+◌, ◌<◌, ◌≤◌, ℕ, Bool, true, false, not, ◌||◌, ◌&&◌, ◌==◌, nat_lt, cond, List, length, get_or, set, IsTrue, refl, sym, ap, arith, length-set}
 use Rattle.std.proofs.lemmas.Bool.{cases_lt, cases_eq, eq-eqb, ne_eqb, or_cases, or_left, or_right, and_parts, and_from, both_ways, lt-ltb, le-ltb}
 use Rattle.rc_facts.specs.Facts.{replaced}
-use Rattle.rc_facts.specs.Rows.{marks, links, Chain, link, join, Reached, here, next, either_step}
-use Rattle.rc_facts.proofs.Marks.{marks_none, no_mark}
+use Rattle.rc_base.specs.BitSets.{marks}
+use Rattle.rc_facts.specs.Rows.{links, Chain, link, join, Reached, here, next, either_step}
 use Rattle.rc_facts.proofs.RowLoops.{links_beyond, links-set_same, links-set_other}
 
 pub and_never : (b : Bool) → (b && false) ≡ false
@@ -26,17 +26,17 @@ is_itself : (x : ℕ) → (x == x) ≡ true
 is_itself x = eq-eqb x x refl
 
 -- a variable is cut off
-pub cut_all : (before after : List ℕ) (gone : ℕ) → gone < length after → ((x y : ℕ) → links after x y ≡ (links before x y && not (y == gone))) → (x y : ℕ) → links (set after gone 0) x y ≡ (links before x y && not (x == gone || y == gone))
-cut_all before after gone below done x y = elim (cases_eq x gone) [
-  | inl same ↦ rw same (links-set_same after gone 0 y below ∙ marks_none y ∙ sym (ap (λ b. links before gone y && not (b || y == gone)) (is_itself gone) ∙ and_never (links before gone y)))
-  | inr other ↦ links-set_other after gone 0 x y other ∙ done x y ∙ sym (ap (λ b. links before x y && not (b || y == gone)) (ne_eqb x gone other))
+pub cut_all : (before after : List ℕ) (gone none : ℕ) → gone < length after → ((y : ℕ) → marks none y ≡ false) → ((x y : ℕ) → links after x y ≡ (links before x y && not (y == gone))) → (x y : ℕ) → links (set after gone none) x y ≡ (links before x y && not (x == gone || y == gone))
+cut_all before after gone none below is_none done x y = elim (cases_eq x gone) [
+  | inl same ↦ rw same (links-set_same after gone none y below ∙ is_none y ∙ sym (ap (λ b. links before gone y && not (b || y == gone)) (is_itself gone) ∙ and_never (links before gone y)))
+  | inr other ↦ links-set_other after gone none x y other ∙ done x y ∙ sym (ap (λ b. links before x y && not (b || y == gone)) (ne_eqb x gone other))
 ]
 
 -- one variable takes the place of another
-pub shift_all : (before after : List ℕ) (from to : ℕ) → from ≢ to → from < length after → to < length after → ((x y : ℕ) → links after x y ≡ (links before x (replaced to from y) && not (y == from))) → (x y : ℕ) → links (set (set after to (get_or after from 0)) from 0) x y ≡ (links before (replaced to from x) (replaced to from y) && not (x == from || y == from))
-shift_all before after from to apart from_below to_below done x y = elim (cases_eq x from) [
-  | inl same ↦ rw same (links-set_same swapped from 0 y from_still ∙ marks_none y ∙ sym (ap (λ b. wanted from b) (is_itself from) ∙ and_never (links before (replaced to from from) (replaced to from y))))
-  | inr other ↦ links-set_other swapped from 0 x y other ∙ elim (cases_eq x to) [
+pub shift_all : (before after : List ℕ) (from to none : ℕ) → from ≢ to → from < length after → to < length after → ((y : ℕ) → marks none y ≡ false) → ((x y : ℕ) → links after x y ≡ (links before x (replaced to from y) && not (y == from))) → (x y : ℕ) → links (set (set after to (get_or after from 0)) from none) x y ≡ (links before (replaced to from x) (replaced to from y) && not (x == from || y == from))
+shift_all before after from to none apart from_below to_below is_none done x y = elim (cases_eq x from) [
+  | inl same ↦ rw same (links-set_same swapped from none y from_still ∙ is_none y ∙ sym (ap (λ b. wanted from b) (is_itself from) ∙ and_never (links before (replaced to from from) (replaced to from y))))
+  | inr other ↦ links-set_other swapped from none x y other ∙ elim (cases_eq x to) [
     | inl same ↦ rw same (links-set_same after to (get_or after from 0) y to_below ∙ done from y ∙ sym (ap (λ b. wanted to b) (ne_eqb to from (λ e. apart (sym e))) ∙ ap (λ b. links before (cond b from to) (replaced to from y) && not (y == from)) (is_itself to)))
     | inr third ↦ links-set_other after to (get_or after from 0) x y third ∙ done x y ∙ sym (ap (λ b. wanted x b) (ne_eqb x from other) ∙ ap (λ b. links before (cond b from x) (replaced to from y) && not (y == from)) (ne_eqb x to third))
   ]
@@ -90,9 +90,9 @@ some_other true false e other = sym other
 some_other false l e other = sym other
 
 -- the code's step at a variable of `which`, and at another
-pub turned_there : (now wide : List ℕ) (i which linked single : ℕ) → marks which i ≡ true → ((x : ℕ) → marks linked x ≡ (links now i x && not (x == i))) → ((y : ℕ) → marks single y ≡ (marks 0 y || y == i)) → ((x y : ℕ) → links wide x y ≡ (links now x y || (nat_lt x (length now) && (marks linked x && marks single y)))) → (x y : ℕ) → links wide x y ≡ opened now which i x y
-turned_there now wide i which linked single there is_linked is_single extended x y =
-    let is_i = is_single y ∙ ap (λ b. b || y == i) (marks_none y) in
+pub turned_there : (now wide : List ℕ) (i which linked none single : ℕ) → ((y : ℕ) → marks none y ≡ false) → marks which i ≡ true → ((x : ℕ) → marks linked x ≡ (links now i x && not (x == i))) → ((y : ℕ) → marks single y ≡ (marks none y || y == i)) → ((x y : ℕ) → links wide x y ≡ (links now x y || (nat_lt x (length now) && (marks linked x && marks single y)))) → (x y : ℕ) → links wide x y ≡ opened now which i x y
+turned_there now wide i which linked none single is_none there is_linked is_single extended x y =
+    let is_i = is_single y ∙ ap (λ b. b || y == i) (is_none y) in
     let in_which = sym (ap (λ b. b && (links now i x && not (x == i))) there) in
     extended x y ∙ (λ j. links now x y || (nat_lt x (length now) && ((is_linked x ∙ in_which) j && is_i j)))
 
@@ -163,8 +163,8 @@ mirror_all before now which n is done x y = done x y ∙ ap (λ k. turned before
     ]
 
 -- no variable gets links
-pub extends_nothing : (rows : List ℕ) (which more x y : ℕ) → which ≡ 0 → links rows x y ≡ (links rows x y || (nat_lt x (length rows) && (marks which x && marks more y)))
-extends_nothing rows which more x y none = sym (ap (λ b. links rows x y || (nat_lt x (length rows) && (b && marks more y))) (no_mark which x none) ∙ ap (λ b. links rows x y || b) (and_never (nat_lt x (length rows))) ∙ or_never (links rows x y))
+pub extends_nothing : (rows : List ℕ) (which more x y : ℕ) → ((z : ℕ) → marks which z ≡ false) → links rows x y ≡ (links rows x y || (nat_lt x (length rows) && (marks which x && marks more y)))
+extends_nothing rows which more x y none = sym (ap (λ b. links rows x y || (nat_lt x (length rows) && (b && marks more y))) (none x) ∙ ap (λ b. links rows x y || b) (and_never (nat_lt x (length rows))) ∙ or_never (links rows x y))
 
 -- chains by one more middle
 module _ (r s : ℕ → ℕ → Bool) (m : ℕ) (passes : (x y : ℕ) → s x y ≡ (r x y || (r x m && r m y))) where

@@ -7,8 +7,8 @@ use Rattle.rc_facts.specs.declared.fact.Fact.TheVariants.{In, Up, Trad, NonNull}
 use Rattle.rc_facts.specs.Derivable.{Derivable}
 use Rattle.rc_facts.specs.Facts.{Known, holds, Drops, is_over, names, same_fact, replaced, with_replaced}
 use Rattle.rc_facts.specs.Inside.{Fields, fields, test_of, facts_over, known_by, known_of, IsSound}
-use Rattle.rc_facts.specs.Rows.{marks, links, TellsExcess, TellsLost}
-use Rattle.rc_facts.proofs.Marks.{marks_none}
+use Rattle.rc_base.specs.BitSets.{marks}
+use Rattle.rc_facts.specs.Rows.{links, TellsExcess, TellsLost}
 use Rattle.rc_facts.proofs.RowLoops.{links_beyond}
 use Rattle.rc_facts.proofs.RowLaws.{and_never, eq_swap}
 use Rattle.rc_facts.proofs.Sets.{holds_known, same_fact-true, all_over, and_implied, filter-lt}
@@ -60,11 +60,11 @@ full_set n row few is = made n row (is_over n) few (λ fact there. there) (recor
     pair : (x y : ℕ) → links (replicate n row) x y ≡ (nat_lt x n && nat_lt y n)
     pair x y = links-replicate n row x y ∙ ap (λ b. nat_lt x n && b) (is y)
 
-pub empty_set : (n : ℕ) → n ≤ 128 → (w a : List ℕ) → w ≡ replicate n 0 → a ≡ replicate n 0 → IsSound (fields w a 0 0) × ((fact : Fact) → holds (known_of (fields w a 0 0)) fact ≡ false)
-empty_set n few = made n 0 (λ fact. false) few (λ fact there. absurd (both_ways false refl there)) (record { ins = pair; ups = pair; trads = marks_none; presents = marks_none })
+pub empty_set : (n row : ℕ) → n ≤ 128 → ((x : ℕ) → marks row x ≡ false) → (w a : List ℕ) → w ≡ replicate n row → a ≡ replicate n row → IsSound (fields w a row row) × ((fact : Fact) → holds (known_of (fields w a row row)) fact ≡ false)
+empty_set n row few is_none = made n row (λ fact. false) few (λ fact there. absurd (both_ways false refl there)) (record { ins = pair; ups = pair; trads = is_none; presents = is_none })
   where
-    pair : (x y : ℕ) → links (replicate n 0) x y ≡ false
-    pair x y = links-replicate n 0 x y ∙ ap (λ b. nat_lt x n && b) (marks_none y) ∙ and_never (nat_lt x n)
+    pair : (x y : ℕ) → links (replicate n row) x y ≡ false
+    pair x y = links-replicate n row x y ∙ ap (λ b. nat_lt x n && b) (is_none y) ∙ and_never (nat_lt x n)
 
 -- the name that takes another's place is a variable, so the other was one
 replaced_below : (n from to x : ℕ) → to < n → nat_lt (replaced to from x) n ≡ true → nat_lt x n ≡ true
@@ -160,7 +160,7 @@ module _ {f g : Fields} {old : Known} (turns : Turns f g old) where
         let there : test_of f fact ≡ true = ap (λ test. test fact) old_is ∙ before in
         let out : test_of g fact ≡ false = sym (holds_of g met_sound.0 fact) ∙ after in
         let found = all_over fact (length f.within) ∙ turns.sound.over fact there in
-        let shorter = filter-lt (test_of g) (test_of f) (λ one is. (and_parts (test_of f one) _ (sym (met_tests one) ∙ is)).0) fact out there (facts_over (length f.within)) found in
+        let shorter = filter-lt (test_of g) (test_of f) (same_fact fact) (λ one is. (and_parts (test_of f one) _ (sym (met_tests one) ∙ is)).0) (λ one same. (sym (ap (test_of g) (same_fact-true fact one same)) ∙ out, sym (ap (test_of f) (same_fact-true fact one same)) ∙ there)) (facts_over (length f.within)) found in
         rw turns.same_within (rw (ap (λ known. length known.facts) turns.is) at shorter)
 
     pub met : (other_known : Known) → known_of other ≡ other_known → IsSound other → (fact : Fact) → holds (known_of g) fact ≡ (holds old fact && holds other_known fact)

@@ -61,7 +61,7 @@ any-range : (v a n : ℕ) → list_any (λ x. v == x) (range_with_len a n) ≡ (
 any-range v a zero = grind (arith, nat_tests)
 any-range v a (suc n) = ap (λ b. v == a || b) (any-range v (a + 1) n) ∙ grind (arith, nat_tests)
 
-any_below : (v n : ℕ) → list_any (λ x. v == x) (range_with_len 0 n) ≡ nat_lt v n
+pub any_below : (v n : ℕ) → list_any (λ x. v == x) (range_with_len 0 n) ≡ nat_lt v n
 any_below v n = any-range v 0 n ∙ grind (arith, nat_tests)
 
 any-pairs : (p : Fact → Bool) (fact : ℕ → ℕ → Fact) (n : ℕ) → list_any p (pairs fact n) ≡ list_any (λ x. list_any (λ y. p (fact x y)) (range_with_len 0 n)) (range_with_len 0 n)
@@ -116,27 +116,27 @@ holds_known n test f over =
     ∙ and_implied (test f) (is_over n f) (over f)
 
 -- a filter that lets fewer through leaves a shorter list
-le-cond : (x : Fact) (xs ys : List Fact) (b c : Bool) → (b ≡ true → c ≡ true) → length xs ≤ length ys → length (cond b (x ∷ xs) xs) ≤ length (cond c (x ∷ ys) ys)
+le-cond : {X : Type 0} (x : X) (xs ys : List X) (b c : Bool) → (b ≡ true → c ≡ true) → length xs ≤ length ys → length (cond b (x ∷ xs) xs) ≤ length (cond c (x ∷ ys) ys)
 le-cond x xs ys true true implies below = omega (arith, below)
 le-cond x xs ys true false implies below = absurd (both_ways false refl (implies refl))
 le-cond x xs ys false true implies below = omega (arith, below)
 le-cond x xs ys false false implies below = below
 
-lt-cond : (x : Fact) (xs ys : List Fact) (b c : Bool) → (b ≡ true → c ≡ true) → length xs < length ys → length (cond b (x ∷ xs) xs) < length (cond c (x ∷ ys) ys)
+lt-cond : {X : Type 0} (x : X) (xs ys : List X) (b c : Bool) → (b ≡ true → c ≡ true) → length xs < length ys → length (cond b (x ∷ xs) xs) < length (cond c (x ∷ ys) ys)
 lt-cond x xs ys true true implies below = omega (arith, below)
 lt-cond x xs ys true false implies below = absurd (both_ways false refl (implies refl))
 lt-cond x xs ys false true implies below = omega (arith, below)
 lt-cond x xs ys false false implies below = below
 
-filter-le : (p q : Fact → Bool) → ((f : Fact) → p f ≡ true → q f ≡ true) → (xs : List Fact) → length (filter p xs) ≤ length (filter q xs)
+filter-le : {X : Type 0} (p q : X → Bool) → ((x : X) → p x ≡ true → q x ≡ true) → (xs : List X) → length (filter p xs) ≤ length (filter q xs)
 filter-le p q less [] = omega arith
 filter-le p q less (x ∷ xs) = le-cond x (filter p xs) (filter q xs) (p x) (q x) (less x) (filter-le p q less xs)
 
-pub filter-lt : (p q : Fact → Bool) → ((f : Fact) → p f ≡ true → q f ≡ true) → (f : Fact) → p f ≡ false → q f ≡ true → (xs : List Fact) → list_any (same_fact f) xs ≡ true → length (filter p xs) < length (filter q xs)
-filter-lt p q less f out kept [] there = absurd (both_ways false refl there)
-filter-lt p q less f out kept (x ∷ xs) there = elim (or_cases (same_fact f x) _ there) [
-  | inl same ↦
-      let equal = same_fact-true f x same in
-      rw (sym (ap p equal) ∙ out, sym (ap q equal) ∙ kept) (omega (arith, filter-le p q less xs))
-  | inr later ↦ lt-cond x (filter p xs) (filter q xs) (p x) (q x) (less x) (filter-lt p q less f out kept xs later)
+pub filter-lt : {X : Type 0} (p q lost : X → Bool) → ((x : X) → p x ≡ true → q x ≡ true) → ((x : X) → lost x ≡ true → (p x ≡ false) × (q x ≡ true)) → (xs : List X) → list_any lost xs ≡ true → length (filter p xs) < length (filter q xs)
+filter-lt p q lost less is_lost [] there = absurd (both_ways false refl there)
+filter-lt p q lost less is_lost (x ∷ xs) there = elim (or_cases (lost x) _ there) [
+  | inl here ↦
+      let tests = is_lost x here in
+      rw (tests.0, tests.1) (omega (arith, filter-le p q less xs))
+  | inr later ↦ lt-cond x (filter p xs) (filter q xs) (p x) (q x) (less x) (filter-lt p q lost less is_lost xs later)
 ]

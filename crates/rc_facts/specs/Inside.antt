@@ -4,7 +4,8 @@ use Rattle.std.specs.List.{flat_map, range_with_len}
 use Rattle.rc_facts.specs.declared.fact.Fact.{Fact}
 use Rattle.rc_facts.specs.declared.fact.Fact.TheVariants.{In, Up, Trad, NonNull}
 use Rattle.rc_facts.specs.Facts.{is_over, Known}
-use Rattle.rc_facts.specs.Rows.{marks, links}
+use Rattle.rc_base.specs.BitSets.{marks}
+use Rattle.rc_facts.specs.Rows.{links}
 
 -- rows of the facts on two variables, and a row for each kind of fact on one
 pub record Fields : Type 0 where

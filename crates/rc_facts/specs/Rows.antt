@@ -1,10 +1,6 @@
--- A row is a set of variables, kept as the bits of a number. A list of rows links x to what row x has.
-use Rattle.std.specs.Prelude.{◌≡◌, ◌<◌, ℕ, Bool, false, List, length, ◌==◌, ◌||◌, slice_index, IsTrue, MatchBool}
-use Rattle.std.specs.Int.{bit_at}
-
--- whether the variable is in the row
-unfoldable pub marks : ℕ → ℕ → Bool
-marks row x = bit_at row x == 1
+-- A row is a set of variables. A list of rows links x to what row x has.
+use Rattle.std.specs.Prelude.{◌≡◌, ◌<◌, ℕ, Bool, false, List, length, ◌||◌, slice_index, IsTrue, MatchBool}
+use Rattle.rc_base.specs.BitSets.{marks}
 
 abbrev pub links : List ℕ → ℕ → ℕ → Bool
 links rows x y = marks (slice_index rows x) y

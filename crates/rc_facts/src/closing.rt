@@ -4,9 +4,9 @@ ghost use Rattle.rc_facts.specs.declared.fact.Fact.{Fact};
 ghost use Rattle.rc_facts.specs.Derivable.{Derivable};
 ghost use Rattle.rc_facts.specs.Inside.{fields, test_of, IsSound};
 
-use crate::row::{Row, common};
 use crate::rows::{chain, extend, join, mirror};
 use crate::spread::{led_back, spread};
+use rc_base::BitSet;
 
 /// Adds all that is derivable to the facts that the rows say.
 ///
@@ -16,10 +16,10 @@ use crate::spread::{led_back, spread};
 /// then traditional. Last, a traditional variable is above all that aren't null, and in one region with
 /// the traditional ones among them.
 pub(crate) fn close_rows(
-    within: &mut [Row],
-    above: &mut [Row],
-    traditional: &mut Row,
-    present: &mut Row,
+    within: &mut [BitSet],
+    above: &mut [BitSet],
+    traditional: &mut BitSet,
+    present: &mut BitSet,
 )
     requires { IsSound (fields within.old above.old traditional.old present.old) }
     ensures sound { IsSound (fields within.new above.new traditional.new present.new) }
@@ -33,5 +33,5 @@ pub(crate) fn close_rows(
     chain(above);
     *traditional = led_back(*traditional, above);
     extend(above, *traditional, *present);
-    extend(within, *traditional, common(*traditional, *present));
+    extend(within, *traditional, traditional.intersection(*present));
 }

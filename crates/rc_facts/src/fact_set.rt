@@ -6,9 +6,8 @@ ghost use Rattle.rc_facts.specs.Facts.{Drops, holds, is_over, names, same_fact, 
 
 use crate::closing::close_rows;
 use crate::fact::Fact;
-use crate::row::{Row, first, has, with, without};
 use crate::rows::{cut, keep, keep_links, link, linked, moved, shift};
-use rc_base::NoMemory;
+use rc_base::{BitSet, NoMemory};
 use std::alloc::Global;
 use std::marker::Model;
 
@@ -16,10 +15,10 @@ use std::marker::Model;
 /// changes, and no call but the two that make a set takes memory.
 #[derive(Drop)]
 pub struct FactSet {
-    within: Vec<Row>,
-    above: Vec<Row>,
-    traditional: Row,
-    present: Row,
+    within: Vec<BitSet>,
+    above: Vec<BitSet>,
+    traditional: BitSet,
+    present: BitSet,
 }
 
 impl Model for FactSet {
@@ -33,14 +32,11 @@ impl Model for FactSet {
     ghost invariant = { λ s. IsSound (fields s.within.items s.above.items s.traditional s.present) };
 }
 
-/// So many equal rows.
-fn rows_of(alloc: Global, count: u32, row: Row) -> Result<Vec<Row>, NoMemory>
+/// `count` equal rows.
+fn rows_of(alloc: Global, count: u32, row: BitSet) -> Result<Vec<BitSet>, NoMemory>
     ensures { IfOk result (λ rows. rows.items ≡ replicate count row) }
 {
-    match Vec::from_elem(alloc, row, count as usize) {
-        Ok(rows) => Ok(rows),
-        Err(_) => Err(NoMemory),
-    }
+    Ok(Vec::from_elem(alloc, row, count as usize)?)
 }
 
 impl FactSet {
@@ -50,7 +46,7 @@ impl FactSet {
         ensures variables { IfOk result (λ set. set.variables ≡ n) }
         ensures facts { IfOk result (λ set. (fact : Fact) → holds set fact ≡ is_over n fact) }
     {
-        let all = first(n as usize);
+        let all = BitSet::below(n as usize);
         Ok(FactSet {
             within: rows_of(alloc, n, all)?,
             above: rows_of(alloc, n, all)?,
@@ -65,11 +61,12 @@ impl FactSet {
         ensures variables { IfOk result (λ set. set.variables ≡ n) }
         ensures facts { IfOk result (λ set. (fact : Fact) → holds set fact ≡ false) }
     {
+        let none = BitSet::empty();
         Ok(FactSet {
-            within: rows_of(alloc, n, 0)?,
-            above: rows_of(alloc, n, 0)?,
-            traditional: 0,
-            present: 0,
+            within: rows_of(alloc, n, none)?,
+            above: rows_of(alloc, n, none)?,
+            traditional: none,
+            present: none,
         })
     }
 
@@ -82,8 +79,8 @@ impl FactSet {
         match fact {
             Fact::In(x, y) => link(&mut self.within, x as usize, y as usize),
             Fact::Up(x, y) => link(&mut self.above, x as usize, y as usize),
-            Fact::Trad(x) => self.traditional = with(self.traditional, x as usize),
-            Fact::NonNull(x) => self.present = with(self.present, x as usize),
+            Fact::Trad(x) => self.traditional = self.traditional.with(x as usize),
+            Fact::NonNull(x) => self.present = self.present.with(x as usize),
         }
     }
 
@@ -95,8 +92,8 @@ impl FactSet {
         match fact {
             Fact::In(x, y) => linked(&self.within, x as usize, y as usize),
             Fact::Up(x, y) => linked(&self.above, x as usize, y as usize),
-            Fact::Trad(x) => has(self.traditional, x as usize),
-            Fact::NonNull(x) => has(self.present, x as usize),
+            Fact::Trad(x) => self.traditional.contains(x as usize),
+            Fact::NonNull(x) => self.present.contains(x as usize),
         }
     }
 
@@ -136,8 +133,8 @@ impl FactSet {
     {
         cut(&mut self.within, x as usize);
         cut(&mut self.above, x as usize);
-        self.traditional = without(self.traditional, x as usize);
-        self.present = without(self.present, x as usize);
+        self.traditional = self.traditional.without(x as usize);
+        self.present = self.present.without(x as usize);
     }
 
     /// Drops the facts that name `to`, and lets those that name `from` speak of `to` in its place. No

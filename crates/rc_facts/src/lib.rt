@@ -4,7 +4,6 @@
 mod closing;
 mod fact;
 mod fact_set;
-mod row;
 mod rows;
 mod spread;
 

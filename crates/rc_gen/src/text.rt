@@ -101,27 +101,19 @@ impl Text {
     fn append_decimal(&mut self, number: u64) -> Result<(), NoMemory>
         ensures { OnOk result (self.new ≡ self.old ++ decimal number) }
     {
-        let Ok(digits) = number.to_string(*self.bytes.allocator()) else {
-            return Err(NoMemory);
-        };
+        let digits = number.to_string(*self.bytes.allocator())?;
         self.append(digits.as_bytes())
     }
 
     fn append(&mut self, bytes: &[u8]) -> Result<(), NoMemory>
         ensures { OnOk result (self.new ≡ self.old ++ bytes.now) }
     {
-        match self.bytes.extend_from_slice(bytes) {
-            Ok(()) => Ok(()),
-            Err(_) => Err(NoMemory),
-        }
+        Ok(self.bytes.extend_from_slice(bytes)?)
     }
 
     fn push(&mut self, byte: u8) -> Result<(), NoMemory>
         ensures { OnOk result (self.new ≡ self.old ++ byte ∷ []) }
     {
-        match self.bytes.push(byte) {
-            Ok(()) => Ok(()),
-            Err(_) => Err(NoMemory),
-        }
+        Ok(self.bytes.push(byte)?)
     }
 }

@@ -1,5 +1,6 @@
 // A whole text.
 ghost use Rattle.std.specs.Prelude.{ℕ, List, ◌≡◌, ◌==◌, ◌<◌, ◌≤◌, [], ◌++◌, length, count_by, IsErrOf, IfErr, OnOk};
+ghost use Rattle.rc_base.specs.Limits.{most_text_bytes};
 ghost use Rattle.rc_syntax.specs.Tokens.{Token};
 ghost use Rattle.rc_syntax.specs.WordShapes.{tokens_of};
 ghost use Rattle.rc_syntax.specs.Words.{with_line, Words, UnreadByte, UnreadToken};
@@ -12,12 +13,10 @@ ghost use Rattle.rc_lexer.specs.Pieces.{fault_of};
 use crate::class::{Class, class_of};
 use crate::fault::LexFault;
 use crate::piece::look;
+use rc_base::MOST_TEXT_BYTES;
 use rc_syntax::word;
 use rc_syntax::word::Word;
 use std::alloc::Global;
-
-/// How many bytes a text has at most.
-pub const MOST_BYTES: usize = 1048576;
 
 fn line_feeds(bytes: &[u8]) -> usize
     ensures count { result ≡ count_by (λ b. b == 10) bytes.now }
@@ -53,7 +52,7 @@ fn push_word(tokens: &mut Vec<word::Token>, word: Option<Word>, line: u32) -> Re
 
 /// The words of a text that is not too long.
 fn words_of(alloc: Global, text: &[u8]) -> Result<Vec<word::Token>, LexFault>
-    requires { length text.now ≤ 1048576 }
+    requires { length text.now ≤ most_text_bytes }
     ensures { Lexes text.now result }
 {
     let mut tokens = Vec::new(alloc);
@@ -79,12 +78,12 @@ fn words_of(alloc: Global, text: &[u8]) -> Result<Vec<word::Token>, LexFault>
 #[tactic(auto, using(crate::proofs::Lexed::words_given, crate::proofs::Lexed::byte_given, crate::proofs::Lexed::token_given))]
 pub fn lex(alloc: Global, text: &[u8]) -> Result<Vec<word::Token>, LexFault>
     ensures answer { Lexes text.now result }
-    ensures too_long { 1048576 < length text.now → IsErrOf result TooLong }
-    ensures words { (tokens : List Token) → length text.now ≤ 1048576 → Words text.now tokens → GivesWords tokens result }
-    ensures byte { (line : ℕ) → length text.now ≤ 1048576 → UnreadByte text.now line → Refuses (Byte line) result }
-    ensures token { (line : ℕ) → length text.now ≤ 1048576 → UnreadToken text.now line → Refuses (TokenFault line) result }
+    ensures too_long { most_text_bytes < length text.now → IsErrOf result TooLong }
+    ensures words { (tokens : List Token) → length text.now ≤ most_text_bytes → Words text.now tokens → GivesWords tokens result }
+    ensures byte { (line : ℕ) → length text.now ≤ most_text_bytes → UnreadByte text.now line → Refuses (Byte line) result }
+    ensures token { (line : ℕ) → length text.now ≤ most_text_bytes → UnreadToken text.now line → Refuses (TokenFault line) result }
 {
-    if text.len() > MOST_BYTES {
+    if text.len() > MOST_TEXT_BYTES as usize {
         return Err(LexFault::TooLong);
     }
     words_of(alloc, text)

@@ -3,8 +3,8 @@ use Rattle.std.proofs.Common.{◌≡◌, ℕ, List, map, Result, IfOk, sym, ap, 
 use Rattle.std.proofs.lemmas.Result.{IfOk-weaker}
 use Rattle.rc_core.specs.Layout.{Layout}
 use Rattle.rc_core.specs.Heap.{Object, blank}
-use Rattle.rc_memory.specs.declared.layouts.Kind.{Kind}
-use Rattle.rc_memory.specs.Values.{kind_of}
+use Rattle.rc_core.specs.declared.layouts.Kind.{Kind}
+use Rattle.rc_core.specs.Laid.{kind_of}
 use Rattle.rc_memory.specs.Kept as k
 use Rattle.rc_memory.specs.Kept.{KeptObject, kept_object}
 use Rattle.rc_memory.proofs.Keeps.{blank_kept}

@@ -12,7 +12,7 @@ use Rattle.rc_core.specs.Heap.{Value, Number, Null, Handle, Pointer, Address, Ob
 use Rattle.rc_core.specs.Runs.{Stop, Stale, Run, Go, Stopped, tested, touching, Chosen, Target}
 use Rattle.rc_core.specs.Source.{World, with_heap, turn_from, byte_from, is_index, chosen_in_range, cell_of, Spot, values_from, notes_from, at_spot, unfit, fitting, overwritten, written, stored, made, allocated, has_child, values_of, values_outside, references, is_empty, killed, first_of, source}
 use Rattle.rc_memory.specs.declared.heap.Spot.{Spot as KeptSpot}
-use Rattle.rc_memory.specs.Values.{kind_of}
+use Rattle.rc_core.specs.Laid.{kind_of}
 use Rattle.rc_memory.specs.Outcomes.{Outcome, trapped, passing, after}
 use Rattle.rc_memory.proofs.Lists.{drop_mapped}
 use Rattle.rc_memory.specs.Change.{mapped, Agree}

@@ -1,4 +1,3 @@
 pub mod Lists
 pub mod Keeps
 pub mod Blanks
-pub mod Laying

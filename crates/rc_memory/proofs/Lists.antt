@@ -137,13 +137,3 @@ named_on_at r i xs x b within read is other = sym (named_on r i xs x within (ap 
 
 pub reversed_more : {A : Type 0} (xs : List A) (x : A) → reverse (xs ++ x ∷ []) ≡ x ∷ reverse xs
 reversed_more xs x = reverse-append xs (x ∷ [])
-
-pub get_missing : {A : Type 0} (xs : List A) (i : ℕ) (d : A) → slice_get xs i ≡ None → get_or xs i d ≡ d
-get_missing [] i d is = refl
-get_missing (x ∷ xs) zero d is = absurd cc
-get_missing (x ∷ xs) (suc i) d is = get_missing xs i d is
-
-pub get_there : {A : Type 0} (xs : List A) (i : ℕ) (x d : A) → slice_get xs i ≡ Some x → get_or xs i d ≡ x
-get_there [] i x d is = absurd cc
-get_there (y ∷ xs) zero x d is = cc
-get_there (y ∷ xs) (suc i) x d is = get_there xs i x d is

@@ -8,10 +8,10 @@ use Rattle.rc_core.specs.declared.ty.Note.TheVariants.{Plain}
 use Rattle.rc_core.specs.Heap.{Value, Number, Null, Handle, Pointer, Address, Object, Region, Heap, update, is_fresh, fits, names}
 use Rattle.rc_core.specs.Runs.{Stale, Target}
 use Rattle.rc_core.specs.Source.{is_index, chosen_in_range, cell_of, unfit, overwritten}
-use Rattle.rc_memory.specs.declared.layouts.Kind.{Kind}
-use Rattle.rc_memory.specs.declared.layouts.Kind.TheVariants.{Number as NumberKind, Region as RegionKind, Pointer as PointerKind}
+use Rattle.rc_core.specs.declared.layouts.Kind.{Kind}
+use Rattle.rc_core.specs.declared.layouts.Kind.TheVariants.{Number as NumberKind, Region as RegionKind, Pointer as PointerKind}
 use Rattle.rc_memory.specs.declared.heap.Spot.{Spot}
-use Rattle.rc_memory.specs.Values.{kind_of}
+use Rattle.rc_core.specs.Laid.{kind_of}
 use Rattle.rc_memory.specs.Outcomes.{Outcome, trapped, passing, after}
 
 pub record KeptObject : Type 0 where

@@ -3,5 +3,4 @@ pub mod Outcomes
 pub mod Kept
 pub mod KeptWorld
 pub mod Leaving
-pub mod Laid
 pub mod Change

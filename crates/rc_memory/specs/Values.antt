@@ -1,13 +1,10 @@
--- What the evaluator's values, cells and places stand for.
+-- What the evaluator's values and places stand for.
 use Rattle.std.specs.Prelude.{List}
-use Rattle.rc_core.specs.Types.{CellKind, int_cell, unsigned_cell, char_cell, region_cell, pointer_cell}
 use Rattle.rc_core.specs.Heap.{Value, Number, Null, Handle, Pointer, Address}
 use Rattle.rc_core.specs.Runs.{Chosen}
 use Rattle.rc_memory.specs.declared.value.Value.{Value as CodeValue}
 use Rattle.rc_memory.specs.declared.value.Value.TheVariants.{Number as CodeNumber, Null as CodeNull, Handle as CodeHandle, Pointer as CodePointer}
 use Rattle.rc_memory.specs.declared.value.Address.{Address as CodeAddress}
-use Rattle.rc_memory.specs.declared.layouts.Kind.{Kind}
-use Rattle.rc_memory.specs.declared.layouts.Kind.TheVariants.{Number as NumberKind, Region as RegionKind, Pointer as PointerKind}
 use Rattle.rc_memory.specs.declared.target.Chosen.{Chosen as CodeChosen}
 
 abbrev pub address_of : CodeAddress → Address
@@ -18,13 +15,6 @@ value_of (CodeNumber n) = Number n
 value_of CodeNull = Null
 value_of (CodeHandle r) = Handle r
 value_of (CodePointer a) = Pointer (address_of a)
-
-abbrev pub kind_of : CellKind → Kind
-kind_of int_cell = NumberKind
-kind_of unsigned_cell = NumberKind
-kind_of char_cell = NumberKind
-kind_of region_cell = RegionKind
-kind_of (pointer_cell note target) = PointerKind note
 
 abbrev pub chosen_of : CodeChosen → Chosen
 chosen_of c = record { index = c.index; count = c.count; stride = c.stride }

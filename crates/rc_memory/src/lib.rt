@@ -1,13 +1,12 @@
-//! What the evaluator of programs has in its memory: values and their arithmetic, layouts of structs,
-//! objects, and the regions of a heap. A deleted region keeps its number and its parent alone.
+//! What the evaluator of programs has in its memory: values, objects,
+//! and the regions of a heap. A deleted region keeps its number and its parent alone.
 //!
 //! Each function answers what the language says of the same values, cells and places; what changes the
 //! heap does to it what the operations of the language do to a world that keeps no more.
 #![tactic(auto)]
 
-mod arithmetic;
+mod cells;
 mod heap;
-mod layouts;
 mod object;
 mod region;
 mod stop;
@@ -15,9 +14,8 @@ mod target;
 mod value;
 mod values;
 
-pub use arithmetic::{byte_of, calculate, calculate_one, converted, type_of};
+pub use cells::zero_of;
 pub use heap::Heap;
-pub use layouts::{FieldPlace, Kind, Layouts, zero_of};
 pub use stop::{Stop, trap};
 pub use target::{Chosen, Target, aimed};
 pub use value::{Address, Value, as_wanted, is_same, is_true, number_in, static_pointer};

@@ -8,10 +8,11 @@ ghost use Rattle.rc_memory.specs.Kept.{blank, first_of, kept_object, object_name
 ghost use Rattle.rc_memory.specs.Values.{value_of};
 ghost use Rattle.rc_memory.specs.declared.stop.Stop.TheVariants.{Cut};
 
-use crate::layouts::{Kind, number_cells};
+use crate::cells::number_cells;
 use crate::stop::Stop;
 use crate::value::Value;
 use crate::values::Values;
+use rc_core::Kind;
 use std::alloc::Global;
 use std::marker::Model;
 

@@ -7,8 +7,9 @@ ghost use Rattle.rc_core.specs.Source.{overwritten};
 ghost use Rattle.rc_memory.specs.Kept.{blank_cell};
 ghost use Rattle.rc_memory.specs.Values.{value_of};
 
-use crate::layouts::{Kind, blank_cell};
+use crate::cells::blank_cell;
 use crate::value::{Value, names};
+use rc_core::Kind;
 use std::alloc::{AllocError, Global};
 use std::marker::Model;
 

@@ -13,7 +13,7 @@ ghost use Rattle.rc_nodes.specs.Coming.{Comes, stays_inside};
 ghost use Rattle.rc_nodes.specs.Frames.{Frame as MachineFrame, first, second};
 ghost use Rattle.rc_memory.specs.Kept.{KeptHeap};
 ghost use Rattle.rc_memory.specs.KeptWorld.{KeptWorld, kept};
-ghost use Rattle.rc_memory.specs.Laid.{AreLaidOut};
+ghost use Rattle.rc_core.specs.Laid.{AreLaidOut};
 ghost use Rattle.rc_memory.specs.Leaving.{Leaves};
 ghost use Rattle.rc_nodes.specs.Stepping.{begin, doing, evaluating, first_step, giving_next, needs_no_world, second_step};
 ghost use Rattle.rc_memory.specs.Values.{value_of};
@@ -27,9 +27,9 @@ use rc_base::Trap;
 use rc_core::expr::Expr;
 use rc_core::operators::Direction;
 use rc_core::ty::Ty;
+use rc_core::{calculate, calculate_one, converted};
 use rc_memory::{
-    Heap, Stop, Target, Value, Values, as_wanted, calculate, calculate_one, converted, is_same,
-    is_true, number_in, static_pointer, trap,
+    Heap, Stop, Target, Value, Values, as_wanted, is_same, is_true, number_in, static_pointer, trap,
 };
 
 /// A number that was computed, or a trap.

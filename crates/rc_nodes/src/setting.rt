@@ -1,8 +1,8 @@
 // What a run stands on.
 
 use rc_base::Limits;
+use rc_core::Layouts;
 use rc_core::parts::Parts;
-use rc_memory::Layouts;
 use std::alloc::Global;
 
 /// What a run stands on: the allocator, the program, the layouts of its structs, and the limits.

@@ -12,7 +12,7 @@ ghost use Rattle.rc_nodes.specs.Codes.{control_of, frames_of, stage_of};
 ghost use Rattle.rc_nodes.specs.Coming.{Comes, with_turns};
 ghost use Rattle.rc_nodes.specs.Frames.{Frame as MachineFrame, ways};
 ghost use Rattle.rc_memory.specs.KeptWorld.{KeptWorld, kept};
-ghost use Rattle.rc_memory.specs.Laid.{AreLaidOut};
+ghost use Rattle.rc_core.specs.Laid.{AreLaidOut};
 ghost use Rattle.rc_memory.specs.Leaving.{Leaves};
 ghost use Rattle.rc_nodes.specs.Waiting.{waiting_of};
 ghost use Rattle.rc_nodes.specs.Stepping.{aimed_step, copy_step, doing, given_step, going_next, place_step, source_step, stored_step, value_step};
@@ -27,9 +27,8 @@ use crate::waiting::Waiting;
 use rc_base::Trap;
 use rc_core::stmt::{Change, Stmt};
 use rc_core::ty::NumberType;
-use rc_memory::{
-    Heap, Stop, Target, Value, Values, calculate, converted, is_true, number_in, trap, type_of,
-};
+use rc_core::{calculate, converted, type_of};
+use rc_memory::{Heap, Stop, Target, Value, Values, is_true, number_in, trap};
 use std::alloc::Global;
 
 /// Deletes a region, which neither live locals nor what waits in callers may name.

@@ -137,10 +137,7 @@ pub fn copy_of(alloc: Global, ty: &Ty) -> Result<Ty, Stop>
     ensures ok { IfOk result (λ t. ty_of t ≡ ty_of ty.now) }
     ensures err { IfErr result (λ s. s ≡ Stop.Memory) }
 {
-    match cells::copy_of(alloc, ty) {
-        Ok(ty) => Ok(ty),
-        Err(_) => Err(Stop::Memory),
-    }
+    Ok(cells::copy_of(alloc, ty)?)
 }
 
 /// The type of the values that are kept as this type: without the annotation of the last star.

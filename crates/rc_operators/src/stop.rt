@@ -1,15 +1,46 @@
 // Why a rule gives no answer.
 ghost use Rattle.std.specs.Prelude.{◌≡◌, ◌++◌, ◌∷◌, [], IfOk, IfErr, OnOk, true, false};
 
+use rc_base::NoMemory;
 use rc_deletes::{Fault, Refusal};
 use rc_syntax::tree::Spot;
-use std::alloc::Global;
+use std::alloc::{AllocError, AllocFailed, Global};
 
 /// What ends a walk: a rule that fails at a node, or that it is out of memory.
 #[derive(Clone, Copy, Debug, PartialEq, Eq)]
 pub enum Stop {
     Rule(Fault),
     Memory,
+}
+
+impl From<AllocError> for Stop {
+    ghost use Rattle.rc_operators.specs.declared.stop.Stop.TheVariants.{Memory};
+
+    ghost from_gives = { λ _ stop. stop ≡ Memory };
+
+    fn from(_error: AllocError) -> Stop {
+        Stop::Memory
+    }
+}
+
+impl<T: Drop> From<AllocFailed<T>> for Stop {
+    ghost use Rattle.rc_operators.specs.declared.stop.Stop.TheVariants.{Memory};
+
+    ghost from_gives = { λ _ stop. stop ≡ Memory };
+
+    fn from(_error: AllocFailed<T>) -> Stop {
+        Stop::Memory
+    }
+}
+
+impl From<NoMemory> for Stop {
+    ghost use Rattle.rc_operators.specs.declared.stop.Stop.TheVariants.{Memory};
+
+    ghost from_gives = { λ _ stop. stop ≡ Memory };
+
+    fn from(_error: NoMemory) -> Stop {
+        Stop::Memory
+    }
 }
 
 /// A rule fails at a node.
@@ -44,10 +75,7 @@ pub fn boxed<T: Drop>(alloc: Global, value: T) -> Result<Box<T>, Stop>
     ensures ok { IfOk result (λ b. b.value ≡ value) }
     ensures err { IfErr result (λ s. s ≡ Stop.Memory) }
 {
-    match Box::new(alloc, value) {
-        Ok(value) => Ok(value),
-        Err(_) => Err(Stop::Memory),
-    }
+    Ok(Box::new(alloc, value)?)
 }
 
 /// Puts an item after those before it.
@@ -59,8 +87,5 @@ pub fn add<T: Drop>(items: &mut Vec<T>, item: T) -> Result<(), Stop>
     ensures ok { OnOk result (items.new.items ≡ items.old.items ++ item ∷ []) }
     ensures err { IfErr result (λ s. s ≡ Stop.Memory) }
 {
-    match items.push(item) {
-        Ok(()) => Ok(()),
-        Err(_) => Err(Stop::Memory),
-    }
+    Ok(items.push(item)?)
 }

@@ -1,6 +1,5 @@
 // Values with their types, and the conversions of numbers.
 ghost use Rattle.std.specs.Prelude.{◌≡◌, option_map, IfOk, IfErr};
-ghost use Rattle.rc_core.specs.Arithmetic as arithmetic;
 ghost use Rattle.rc_core.specs.Programs as p;
 ghost use Rattle.rc_core.specs.Shapes.{ty_of, expr_of, place_of};
 ghost use Rattle.rc_core.specs.Typing as typing;
@@ -15,6 +14,7 @@ use crate::meanings::{Meant, Typed};
 use crate::stop::{Stop, boxed, fails};
 use rc_core::expr::{Expr, Place};
 use rc_core::ty::{NumberType, Signedness, Ty};
+use rc_core::type_of;
 use rc_deletes::{Refusal, Sort};
 use rc_syntax::tree::Spot;
 use std::alloc::Global;
@@ -102,16 +102,6 @@ pub(crate) fn converted(
             };
             boxed(alloc, code)
         }
-    }
-}
-
-/// The type of numbers that arithmetic is done in.
-pub(crate) fn type_of(signedness: Signedness) -> NumberType
-    ensures { result ≡ arithmetic.type_of signedness }
-{
-    match signedness {
-        Signedness::Signed => NumberType::Int,
-        Signedness::Unsigned => NumberType::Unsigned,
     }
 }
 

@@ -1,12 +1,12 @@
 -- Where the cells of whole pages lie, and what writing one and appending zeros does.
-use Rattle.std.proofs.Common.{◌≡◌, ◌+◌, ◌-◌, ◌*◌, ◌/◌, ◌%◌, ◌<◌, ◌≤◌, ℕ, zero, suc, List, [], ◌∷◌, ◌++◌, length, take, drop, replicate, get_or, set, sym, ap, subst, ◌∙◌, arith, append_assoc, length-append, length-set, length-take-le, take-append-drop}
+use Rattle.std.proofs.Common.{◌≡◌, ◌+◌, ◌-◌, ◌*◌, ◌/◌, ◌%◌, ◌<◌, ◌≤◌, ℕ, zero, suc, List, [], ◌∷◌, ◌++◌, length, take, drop, replicate, get_or, set, sym, ap, subst, ◌∙◌, refl, arith, append_assoc, append-nil, length-append, length-set, length-take-le, take-append-drop}
 use Rattle.std.specs.Prelude.{All}
 use Rattle.std.specs.List.{concat}
-use Rattle.std.proofs.lemmas.List.{get_or-take, get_or_append_left, get_or_read, get_or-append_right, length-replicate, set-append_left, set-append_right, take_at, drop_at, drop-set-lt, replicate-append-replicate}
-use Rattle.std.proofs.lemmas.List.Elements.{All-append, All-replicate, All-set}
+use Rattle.std.proofs.lemmas.List.{get_or-take, get_or_append_left, get_or-append_right, set-append_left, set-append_right, take_at, take-append-le, take_more_set, replicate-append-replicate}
+use Rattle.std.proofs.lemmas.List.Elements.{All-append, All-set}
 use Rattle.std.proofs.lemmas.List.Folds.{concat-append}
 use native.Mathlib.Nat.{zero-mul, suc-mul}
-use Rattle.rc_pages.specs.Cells.{Holds, pages_for, more_pages, zero_page}
+use Rattle.rc_pages.specs.Cells.{AreWhole, Holds, IsLonger, pages_for, more_pages}
 
 -- pages of w cells each
 module _ (w : ℕ) where
@@ -39,10 +39,8 @@ module _ (w : ℕ) where
   cell-write (page ∷ pages) (suc q) r at x whole inside small is =
       set-append_right page (concat pages) w at x (first page pages whole) (omega (arith, suc-mul q w)) ∙ ap (λ cells. page ++ cells) (cell-write pages q r (at - w) x (rest page pages whole) (omega arith) small (omega (arith, suc-mul q w)))
 
-  cells-zero : (count : ℕ) → concat (replicate count (replicate w 0)) ≡ replicate (count * w) 0
-  cells-zero zero = ap (λ k. replicate k 0) (sym (zero-mul w))
-  cells-zero (suc count) =
-      ap (λ cells. replicate w 0 ++ cells) (cells-zero count) ∙ replicate-append-replicate w (count * w) 0 ∙ ap (λ k. replicate k 0) (omega (arith, suc-mul count w))
+longer-length : (old some : List (List ℕ)) (count : ℕ) → IsLonger old some count → length some ≡ length old + count
+longer-length old some count grown = ap (λ pages. length pages) grown.is ∙ length-append old grown.more ∙ ap (λ k. length old + k) grown.long
 
 module _ (pages : List (List ℕ)) (len : ℕ) (held : Holds pages len) where
   all_cells : length (concat pages) ≡ length pages * 256
@@ -76,8 +74,6 @@ module _ (pages : List (List ℕ)) (len : ℕ) (held : Holds pages len) where
         whole = All-set (λ page. length page ≡ 256) pages (at / 256) (set (get_or pages (at / 256) []) (at % 256) x)
             (length-set (get_or pages (at / 256) []) (at % 256) x ∙ held.whole (at / 256) [] held-page) held.whole;
         enough = length-set pages (at / 256) (set (get_or pages (at / 256) []) (at % 256) x) ∙ held.enough;
-        clear = ap (λ cells. drop len cells) moved ∙ drop-set-lt len (concat pages) at x inside ∙ held.clear
-            ∙ ap (λ k. replicate (256 * k - len) 0) (sym (length-set pages (at / 256) (set (get_or pages (at / 256) []) (at % 256) x)));
       }
 
       pub held-write : take len (concat written) ≡ set (take len (concat pages)) at x
@@ -87,74 +83,101 @@ module _ (pages : List (List ℕ)) (len : ℕ) (held : Holds pages len) where
           = moved ∙ ap (λ all. set all at x) (sym (take-append-drop len (concat pages))) ∙ set-append_left cells (drop len (concat pages)) at x (omega (arith, inside, held-length)) in
           ap (λ all. take len all) apart ∙ take_at (set cells at x) (drop len (concat pages)) len (length-set cells at x ∙ held-length)
 
-  -- as many pages of zeros are appended as n more cells need
-  module _ (n total count : ℕ) (more : List (List ℕ)) (sum : total ≡ len + n) (missing : count ≡ pages_for total - length pages) (is : more ≡ pages ++ replicate count zero_page) where
-    abbrev cells : List ℕ
-    cells = take len (concat pages)
+  -- as many pages are appended as n more cells need, and the new cells are made zero
+  module _ (n total count : ℕ) (longer cleared : List (List ℕ)) (sum : total ≡ len + n) (missing : count ≡ pages_for total - length pages) (grown : IsLonger pages longer count) (same : length cleared ≡ length longer) where
+    counted : length cleared ≡ length pages + count
+    counted = same ∙ longer-length pages longer count grown
 
-    abbrev spare : ℕ
-    spare = 256 * length pages - len + count * 256
+    pub pushed-inside : total ≤ 256 * length longer
+    pushed-inside = omega (arith, longer-length pages longer count grown, sum, missing, held.enough)
 
-    counted : length more ≡ length pages + count
-    counted = ap (λ all. length all) is ∙ length-append pages (replicate count zero_page) ∙ ap (λ k. length pages + k) (length-replicate count zero_page)
+    pub pushed-holds : AreWhole cleared → Holds cleared total
+    pushed-holds whole = record { whole = whole; enough = omega (arith, counted, sum, missing, held.enough) }
 
-    room : n ≤ spare
-    room = omega (arith, sum, missing, held.enough)
-
-    zeros : replicate {A = ℕ} (256 * length pages - len) 0 ++ replicate (count * 256) 0 ≡ replicate n 0 ++ replicate (spare - n) 0
-    zeros = replicate-append-replicate (256 * length pages - len) (count * 256) 0 ∙ ap (λ k. replicate k 0) (omega (arith, room)) ∙ sym (replicate-append-replicate n (spare - n) 0)
-
-    apart : concat more ≡ (cells ++ replicate n 0) ++ replicate (spare - n) 0
-    apart =
-        ap (λ all. concat all) is ∙ concat-append pages (replicate count zero_page)
-        ∙ ap (λ tail. concat pages ++ tail) (cells-zero 256 count)
-        ∙ ap (λ all. all ++ replicate (count * 256) 0) (sym (take-append-drop len (concat pages)) ∙ ap (λ tail. cells ++ tail) held.clear)
-        ∙ append_assoc cells (replicate (256 * length pages - len) 0) (replicate (count * 256) 0)
-        ∙ ap (λ tail. cells ++ tail) zeros
-        ∙ sym (append_assoc cells (replicate n 0) (replicate (spare - n) 0))
-
-    long : length (cells ++ replicate n 0) ≡ total
-    long = length-append cells (replicate n 0) ∙ omega (arith, sum, held-length, length-replicate {A = ℕ} n 0)
-
-    pub pushed-holds : Holds more total
-    pushed-holds = record {
-      whole = let P : List ℕ → Type 0 = λ page. length page ≡ 256 in
-          subst (λ all. All P all) (sym is) (All-append P pages (replicate count zero_page) held.whole (All-replicate P count zero_page (length-replicate {A = ℕ} 256 0)));
-      enough = omega (arith, counted, sum, missing, held.enough);
-      clear = ap (λ all. drop total all) apart ∙ drop_at (cells ++ replicate n 0) (replicate (spare - n) 0) total long ∙ ap (λ k. replicate k 0) (omega (arith, counted, sum, missing, held.enough));
-    }
-
-    pub pushed-count : (now : List ℕ) → cells ≡ now → count ≡ more_pages (length now) n
+    pub pushed-count : (now : List ℕ) → take len (concat pages) ≡ now → count ≡ more_pages (length now) n
     pushed-count now shown =
         let before : length now ≡ len = ap (λ all. length all) (sym shown) ∙ held-length in
         missing ∙ ap (λ k. pages_for k - length pages) sum ∙ ap (λ k. pages_for (len + n) - k) held.enough ∙ ap (λ k. more_pages k n) (sym before)
 
-    pub pushed-shown : (now : List ℕ) → cells ≡ now → take total (concat more) ≡ now ++ replicate n 0
-    pushed-shown now shown = ap (λ all. take total all) apart ∙ take_at (cells ++ replicate n 0) (replicate (spare - n) 0) total long ∙ ap (λ all. all ++ replicate n 0) shown
+    pub pushed-shown : (now : List ℕ) → take len (concat pages) ≡ now → take total (concat cleared) ≡ take len (concat longer) ++ replicate (total - len) 0 → take total (concat cleared) ≡ now ++ replicate n 0
+    pushed-shown now shown cells =
+        cells
+        ∙ ap (λ all. take len all ++ replicate (total - len) 0) (ap (λ all. concat all) grown.is ∙ concat-append pages grown.more)
+        ∙ ap (λ all. all ++ replicate (total - len) 0) (take-append-le len (concat pages) (concat grown.more) fits ∙ shown)
+        ∙ ap (λ k. now ++ replicate k 0) (omega (arith, sum))
 
--- the same of a list that shows the cells, and of the page that was found there
-module _ (pages : List (List ℕ)) (len : ℕ) (now : List ℕ) (held : Holds pages len) (shown : take len (concat pages) ≡ now) (at : ℕ) (inside : at < length now) (page : List ℕ) (found : page ≡ get_or pages (at / 256) page) where
+-- the same of a list that shows the cells
+module _ (pages : List (List ℕ)) (len : ℕ) (now : List ℕ) (held : Holds pages len) (shown : take len (concat pages) ≡ now) (at : ℕ) (inside : at < length now) where
   below : at < len
   below = omega (arith, inside, ap (λ cells. length cells) shown, held-length pages len held)
 
-  same : page ≡ get_or pages (at / 256) []
-  same = get_or_read pages (at / 256) page (held-page pages len held at below) found []
+  pub shown-page : at / 256 < length pages
+  shown-page = held-page pages len held at below
 
-  pub shown-read : (x : ℕ) → x ≡ get_or page (at % 256) 0 → x ≡ get_or now at 0
-  shown-read x is = is ∙ ap (λ p. get_or p (at % 256) 0) same ∙ held-read pages len held at below ∙ ap (λ cells. get_or cells at 0) shown
+  pub shown-place : at % 256 < length (get_or pages (at / 256) [])
+  shown-place = held-place pages len held at below
 
-  module _ (x : ℕ) (after : List ℕ) (is : after ≡ set page (at % 256) x) where
-    whole_after : set pages (at / 256) after ≡ set pages (at / 256) (set (get_or pages (at / 256) []) (at % 256) x)
-    whole_after = ap (λ p. set pages (at / 256) p) (is ∙ ap (λ p. set p (at % 256) x) same)
+  pub shown-read : (x : ℕ) → x ≡ get_or (get_or pages (at / 256) []) (at % 256) 0 → x ≡ get_or now at 0
+  shown-read x is = is ∙ held-read pages len held at below ∙ ap (λ cells. get_or cells at 0) shown
 
-    pub shown-holds : Holds (set pages (at / 256) after) len
-    shown-holds = let P : List (List ℕ) → Type 0 = λ ps. Holds ps len in subst P (sym whole_after) (held-written pages len held at below x)
+  module _ (x : ℕ) (after : List (List ℕ)) (is : after ≡ set pages (at / 256) (set (get_or pages (at / 256) []) (at % 256) x)) where
+    pub shown-holds : Holds after len
+    shown-holds = subst (λ ps. Holds ps len) (sym is) (held-written pages len held at below x)
 
-    pub shown-write : take len (concat (set pages (at / 256) after)) ≡ set now at x
-    shown-write = ap (λ ps. take len (concat ps)) whole_after ∙ held-write pages len held at below x ∙ ap (λ cells. set cells at x) shown
+    pub shown-write : take len (concat after) ≡ set now at x
+    shown-write = ap (λ ps. take len (concat ps)) is ∙ held-write pages len held at below x ∙ ap (λ cells. set cells at x) shown
 
--- pages of zeros in two goes
-pub zero_pages-both : (old some all : List (List ℕ)) (count spare : ℕ) → spare ≤ count → some ≡ old ++ replicate (count - spare) zero_page → all ≡ some ++ replicate spare zero_page → all ≡ old ++ replicate count zero_page
-zero_pages-both old some all count spare fewer first next =
-    next ∙ ap (λ pages. pages ++ replicate spare zero_page) first ∙ append_assoc old (replicate (count - spare) zero_page) (replicate spare zero_page)
-    ∙ ap (λ pages. old ++ pages) (replicate-append-replicate (count - spare) spare zero_page ∙ ap (λ k. replicate k zero_page) (omega arith))
+-- one more page
+pub longer-next : (old some next : List (List ℕ)) (count total : ℕ) (page : List ℕ) → IsLonger old some count → length page ≡ 256 → next ≡ some ++ page ∷ [] → total ≡ count + 1 → IsLonger old next total
+longer-next old some next count total page grown whole is more = record {
+  more = grown.more ++ page ∷ [];
+  is = is ∙ ap (λ pages. pages ++ page ∷ []) grown.is ∙ append_assoc old grown.more (page ∷ []);
+  long = length-append grown.more (page ∷ []) ∙ omega (arith, grown.long, more);
+  whole = All-append (λ p. length p ≡ 256) grown.more (page ∷ []) grown.whole (one page whole);
+} where
+  one : (page : List ℕ) → length page ≡ 256 → AreWhole (page ∷ [])
+  one page whole zero d inside = whole
+  one page whole (suc k) d inside = absurd (omega (arith, inside))
+
+pub longer-none : (old : List (List ℕ)) → IsLonger old old 0
+longer-none old = record { more = []; is = sym (append-nil old); long = refl; whole = λ k d inside. absurd (omega (arith, inside)) }
+
+-- pages in two goes
+pub longer-both : (old some all : List (List ℕ)) (count spare : ℕ) → spare ≤ count → IsLonger old some (count - spare) → IsLonger some all spare → IsLonger old all count
+longer-both old some all count spare fewer first next = record {
+  more = first.more ++ next.more;
+  is = next.is ∙ ap (λ pages. pages ++ next.more) first.is ∙ append_assoc old first.more next.more;
+  long = length-append first.more next.more ∙ omega (arith, first.long, next.long, fewer);
+  whole = All-append (λ p. length p ≡ 256) first.more next.more first.whole next.whole;
+}
+
+pub longer-taken : (old some : List (List ℕ)) (count : ℕ) → IsLonger old some count → take (length old) some ≡ old
+longer-taken old some count grown = ap (λ pages. take (length old) pages) grown.is ∙ take_at old grown.more (length old) refl
+
+pub longer-whole : (old some : List (List ℕ)) (count : ℕ) → AreWhole old → IsLonger old some count → AreWhole some
+longer-whole old some count whole grown = subst (λ all. AreWhole all) (sym grown.is) (All-append (λ p. length p ≡ 256) old grown.more whole grown.whole)
+
+-- a cell is made zero behind those that are
+module _ (pages : List (List ℕ)) (at : ℕ) (whole : AreWhole pages) (inside : at < 256 * length pages) where
+  pub cleared-page : at / 256 < length pages
+  cleared-page = omega (arith, inside)
+
+  pub cleared-place : at % 256 < length (get_or pages (at / 256) [])
+  cleared-place = omega (arith, whole (at / 256) [] cleared-page)
+
+  abbrev after : List (List ℕ)
+  after = set pages (at / 256) (set (get_or pages (at / 256) []) (at % 256) 0)
+
+  pub cleared-whole : AreWhole after
+  cleared-whole = All-set (λ page. length page ≡ 256) pages (at / 256) (set (get_or pages (at / 256) []) (at % 256) 0) (length-set (get_or pages (at / 256) []) (at % 256) 0 ∙ whole (at / 256) [] cleared-page) whole
+
+  pub cleared-count : length after ≡ length pages
+  cleared-count = length-set pages (at / 256) (set (get_or pages (at / 256) []) (at % 256) 0)
+
+  pub cleared-next : (front : List ℕ) (from : ℕ) → from ≤ at → take at (concat pages) ≡ front ++ replicate (at - from) 0 → take (at + 1) (concat after) ≡ front ++ replicate (at + 1 - from) 0
+  cleared-next front from low before =
+      ap (λ all. take (at + 1) all) (sym (cell-write 256 pages (at / 256) (at % 256) at 0 whole cleared-page (omega arith) (omega arith)))
+      ∙ take_more_set (concat pages) at 0 (omega (arith, inside, length-cells 256 pages whole))
+      ∙ ap (λ all. all ++ 0 ∷ []) before
+      ∙ append_assoc front (replicate (at - from) 0) (0 ∷ [])
+      ∙ ap (λ tail. front ++ tail) (replicate-append-replicate (at - from) 1 0 ∙ ap (λ k. replicate k 0) (omega (arith, low)))

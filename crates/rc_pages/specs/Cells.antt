@@ -1,6 +1,5 @@
 -- What a bank shows, and how cells lie in pages.
-use Rattle.std.specs.Prelude.{◌≡◌, ◌+◌, ◌-◌, ◌*◌, ◌/◌, ℕ, List, length, drop, replicate, All}
-use Rattle.std.specs.List.{concat}
+use Rattle.std.specs.Prelude.{◌≡◌, ◌+◌, ◌-◌, ◌/◌, ℕ, suc, List, [], ◌∷◌, ◌++◌, length, replicate, All, Option, Some, None}
 
 -- the places of a bank, and how many of them have a spare page
 pub record BankState : Type 0 where
@@ -18,8 +17,37 @@ more_pages cells n = pages_for (cells + n) - pages_for cells
 abbrev pub zero_page : List ℕ
 zero_page = replicate 256 0
 
--- pages that hold so many cells: each is whole, there are as many as it needs, and behind the last cell they are zero
+-- the cells of pages, and how many more pages have room
+pub record PagesState : Type 0 where
+  pub pages : List (List ℕ)
+  pub room : ℕ
+
+-- the first page and those behind it; without a first there is none
+abbrev pub pages_in : Option (List ℕ) → List (List ℕ) → List (List ℕ)
+pages_in None more = []
+pages_in (Some first) more = first ∷ more
+
+-- the room of those behind it, and one place for the first where there is none
+abbrev pub room_beside : Option (List ℕ) → (capacity count : ℕ) → ℕ
+room_beside None capacity count = suc capacity - count
+room_beside (Some first) capacity count = capacity - count
+
+abbrev pub AreWhole : List (List ℕ) → Type 0
+AreWhole pages = All (λ page. length page ≡ 256) pages
+
+-- the last page was taken out, or there was none
+abbrev pub Popped : Option (List ℕ) → (old new : List (List ℕ)) → Type 0
+Popped None old new = old ≡ []
+Popped (Some page) old new = old ≡ new ++ page ∷ []
+
+-- so many whole pages were appended, whatever they hold
+pub record IsLonger (old new : List (List ℕ)) (count : ℕ) : Type 0 where
+  pub more : List (List ℕ)
+  pub is : new ≡ old ++ more
+  pub long : length more ≡ count
+  pub whole : AreWhole more
+
+-- pages that hold so many cells: each is whole, and there are as many as it needs
 pub record Holds (pages : List (List ℕ)) (cells : ℕ) : Type 0 where
-  pub whole : All (λ page. length page ≡ 256) pages
+  pub whole : AreWhole pages
   pub enough : length pages ≡ pages_for cells
-  pub clear : drop cells (concat pages) ≡ replicate (256 * length pages - cells) 0

@@ -1,5 +1,5 @@
 // Spare pages.
-ghost use Rattle.std.specs.Prelude.{◌≡◌, ◌+◌, ◌-◌, ◌<◌, IfOk};
+ghost use Rattle.std.specs.Prelude.{◌≡◌, ◌+◌, ◌-◌, ◌<◌, length, IfOk};
 
 use crate::page::Page;
 use rc_base::NoMemory;
@@ -16,13 +16,13 @@ pub struct Bank {
 
 impl Model for Bank {
     ghost use Rattle.std.specs.Prelude.{◌≤◌, length, vec_capacity};
-    ghost use Rattle.rc_pages.specs.Cells.{BankState};
+    ghost use Rattle.rc_pages.specs.Cells.{BankState, AreWhole};
 
     ghost Value = { BankState };
 
     ghost view = { λ b. record { places = b.places; kept = length b.pages.items } };
 
-    ghost invariant = { λ b. (length b.pages.items ≤ b.places) × (b.places ≤ vec_capacity b.pages) };
+    ghost invariant = { λ b. (length b.pages.items ≤ b.places) × (b.places ≤ vec_capacity b.pages) × AreWhole b.pages.items };
 }
 
 impl Bank {
@@ -30,10 +30,8 @@ impl Bank {
     pub fn new(alloc: Global, places: u32) -> Result<Bank, NoMemory>
         ensures { IfOk result (λ bank. bank ≡ record { places = places; kept = 0 }) }
     {
-        match Vec::with_capacity(alloc, places as usize) {
-            Ok(pages) => Ok(Bank { pages, places }),
-            Err(_) => Err(NoMemory),
-        }
+        let pages = Vec::with_capacity(alloc, places as usize)?;
+        Ok(Bank { pages, places })
     }
 
     pub(crate) fn kept(&self) -> usize
@@ -45,7 +43,8 @@ impl Bank {
     /// Takes a page out. What it holds is not known.
     pub(crate) fn take(&mut self) -> Page
         requires { 0 < self.old.kept }
-        ensures { self.new ≡ record self.old { kept = self.old.kept - 1 } }
+        ensures bank { self.new ≡ record self.old { kept = self.old.kept - 1 } }
+        ensures whole { length result ≡ 256 }
     {
         self.pages.pop().unwrap()
     }
@@ -57,7 +56,8 @@ impl Bank {
     }
 
     pub(crate) fn keep(&mut self, page: Page)
-        requires { self.old.kept < self.old.places }
+        requires place { self.old.kept < self.old.places }
+        requires whole { length page ≡ 256 }
         ensures { self.new ≡ record self.old { kept = self.old.kept + 1 } }
     {
         self.pages.push(page).unwrap();

@@ -7,6 +7,7 @@
 
 mod bank;
 mod page;
+mod page_list;
 mod pages;
 mod raw;
 

@@ -29,13 +29,6 @@ impl Page {
         Ok(Page { raw, alloc })
     }
 
-    /// Makes every cell zero, whatever the page held.
-    pub(crate) fn zero(&mut self)
-        ensures { self.new ≡ zero_page }
-    {
-        self.raw.zero();
-    }
-
     pub(crate) fn read(&self, place: usize) -> u128
         requires { place < length self.now }
         ensures { result ≡ slice_index self.now place }

@@ -1,9 +1,11 @@
 // Lists of cells.
-ghost use Rattle.std.specs.Prelude.{◌≡◌, ◌+◌, ◌-◌, ◌<◌, ◌≤◌, [], ◌++◌, length, replicate, min, slice_index, slice_set, vec_len, vec_capacity, OnOk, OnErr};
-ghost use Rattle.rc_pages.specs.Cells.{pages_for, more_pages, zero_page};
+ghost use Rattle.std.specs.Prelude.{◌≡◌, ◌+◌, ◌-◌, ◌*◌, ◌<◌, ◌≤◌, [], ◌++◌, length, take, replicate, min, slice_index, slice_set, OnOk, OnErr};
+ghost use Rattle.std.specs.List.{concat};
+ghost use Rattle.rc_pages.specs.Cells.{AreWhole, IsLonger, pages_for, more_pages};
 
 use crate::bank::Bank;
 use crate::page::Page;
+use crate::page_list::PageList;
 use crate::raw::PAGE_CELLS;
 use rc_base::{NoMemory, Steps};
 use std::alloc::Global;
@@ -16,7 +18,7 @@ const CELLS: u64 = PAGE_CELLS as u64;
 #[derive(Drop)]
 pub struct Pages {
     alloc: Global,
-    pages: Vec<Page>,
+    pages: PageList,
     len: u64,
 }
 
@@ -27,9 +29,9 @@ impl Model for Pages {
 
     ghost Value = { List ℕ };
 
-    ghost view = { λ p. take p.len (concat p.pages.items) };
+    ghost view = { λ p. take p.len (concat p.pages.pages) };
 
-    ghost invariant = { λ p. Holds p.pages.items p.len };
+    ghost invariant = { λ p. Holds p.pages.pages p.len };
 }
 
 /// How many pages so many cells need.
@@ -39,17 +41,17 @@ fn pages_for(cells: u64) -> usize
     cells.div_ceil(CELLS) as usize
 }
 
-/// Appends new pages of zeros.
-fn add_new(alloc: Global, pages: &mut Vec<Page>, count: usize) -> Result<(), NoMemory>
-    requires room { vec_len pages.old + count ≤ vec_capacity pages.old }
-    ensures ok { OnOk result (pages.new.items ≡ pages.old.items ++ replicate count zero_page) }
-    ensures err { OnErr result (pages.new.items ≡ pages.old.items) }
-    ensures capacity { vec_capacity pages.old ≤ vec_capacity pages.new }
+/// Appends new pages.
+fn add_new(alloc: Global, pages: &mut PageList, count: usize) -> Result<(), NoMemory>
+    requires room { count ≤ pages.old.room }
+    ensures ok { OnOk result (IsLonger pages.old.pages pages.new.pages count) }
+    ensures left { OnOk result (pages.old.room ≤ pages.new.room + count) }
+    ensures err { OnErr result (pages.new.pages ≡ pages.old.pages) }
 {
     let before = pages.len();
     for _ in 0..count {
         match Page::zeroed(alloc) {
-            Ok(page) => pages.push(page).unwrap(),
+            Ok(page) => pages.push(page),
             Err(NoMemory) => {
                 pages.truncate(before);
                 return Err(NoMemory);
@@ -59,40 +61,50 @@ fn add_new(alloc: Global, pages: &mut Vec<Page>, count: usize) -> Result<(), NoM
     Ok(())
 }
 
-/// Appends pages out of the bank, made zero.
-fn add_spare(pages: &mut Vec<Page>, count: usize, bank: &mut Bank)
-    requires room { vec_len pages.old + count ≤ vec_capacity pages.old }
+/// Appends pages out of the bank, with what they hold.
+fn add_spare(pages: &mut PageList, count: usize, bank: &mut Bank)
+    requires room { count ≤ pages.old.room }
     requires kept { count ≤ bank.old.kept }
-    ensures pages { pages.new.items ≡ pages.old.items ++ replicate count zero_page }
+    ensures pages { IsLonger pages.old.pages pages.new.pages count }
     ensures bank { bank.new ≡ record bank.old { kept = bank.old.kept - count } }
 {
     for _ in 0..count {
-        let mut page = bank.take();
-        page.zero();
-        pages.push(page).unwrap();
+        pages.push(bank.take());
     }
 }
 
-/// Appends pages of zeros: spare ones first as far as the bank has them. The new ones are asked for
-/// before the bank is touched, so that a refusal leaves both as they were.
+/// Appends pages: spare ones as far as the bank has them. The new ones are asked for before the bank
+/// is touched, so that a refusal leaves both as they were.
 fn add_pages(
     alloc: Global,
-    pages: &mut Vec<Page>,
+    pages: &mut PageList,
     count: usize,
     bank: &mut Bank,
 ) -> Result<(), NoMemory>
-    ensures ok { OnOk result (pages.new.items ≡ pages.old.items ++ replicate count zero_page) }
-    ensures err { OnErr result (pages.new.items ≡ pages.old.items) }
+    ensures ok { OnOk result (IsLonger pages.old.pages pages.new.pages count) }
+    ensures err { OnErr result (pages.new.pages ≡ pages.old.pages) }
     ensures spare { OnOk result (bank.new ≡ record bank.old { kept = bank.old.kept - count }) }
     ensures same { OnErr result (bank.new ≡ bank.old) }
 {
-    let Ok(()) = pages.reserve(count) else {
-        return Err(NoMemory);
-    };
+    pages.reserve(count)?;
     let spare = count.min(bank.kept());
     add_new(alloc, pages, count - spare)?;
     add_spare(pages, spare, bank);
     Ok(())
+}
+
+/// Makes the cells from one on up to another zero, whatever they held.
+fn clear(pages: &mut PageList, from: u64, to: u64)
+    requires whole { AreWhole pages.old.pages }
+    requires order { from ≤ to }
+    requires inside { to ≤ 256 * length pages.old.pages }
+    ensures whole { AreWhole pages.new.pages }
+    ensures count { length pages.new.pages ≡ length pages.old.pages }
+    ensures cells { take to (concat pages.new.pages) ≡ take from (concat pages.old.pages) ++ replicate (to - from) 0 }
+{
+    for at in from..to {
+        pages.write((at / CELLS) as usize, (at % CELLS) as usize, 0);
+    }
 }
 
 impl Pages {
@@ -102,7 +114,7 @@ impl Pages {
     {
         Pages {
             alloc,
-            pages: Vec::new(alloc),
+            pages: PageList::new(alloc),
             len: 0,
         }
     }
@@ -126,6 +138,7 @@ impl Pages {
         };
         let missing = pages_for(len) - self.pages.len();
         add_pages(self.alloc, &mut self.pages, missing, bank)?;
+        clear(&mut self.pages, self.len, len);
         self.len = len;
         Ok(())
     }
@@ -137,7 +150,8 @@ impl Pages {
         ensures step { steps.new ≡ steps.old + 1 }
     {
         steps.tick();
-        self.pages[(at / CELLS) as usize].read((at % CELLS) as usize)
+        self.pages
+            .read((at / CELLS) as usize, (at % CELLS) as usize)
     }
 
     /// Writes the cell at a place. No cell is read.
@@ -145,7 +159,8 @@ impl Pages {
         requires { at < length self.old }
         ensures { self.new ≡ slice_set self.old at value }
     {
-        self.pages[(at / CELLS) as usize].write((at % CELLS) as usize, value);
+        self.pages
+            .write((at / CELLS) as usize, (at % CELLS) as usize, value);
     }
 
     /// Gives every page to the bank as far as it has free places, and frees the others.

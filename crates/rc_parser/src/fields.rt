@@ -1,5 +1,6 @@
 // Declarators of fields and globals, and the fields of structs (ISO C 6.7.2.1, 6.7.6).
 ghost use Rattle.std.specs.Prelude.{◌≡◌, ◌<◌, ◌≤◌, IfOk, IfErr, length, map};
+ghost use Rattle.rc_base.specs.Limits.{most_depth, most_words};
 ghost use Rattle.rc_syntax.specs.declared.fault.ParseFault.TheVariants.{Memory};
 ghost use Rattle.rc_syntax.specs.Grammar as g;
 ghost use Rattle.rc_syntax.specs.reader.Reading as r;
@@ -33,9 +34,9 @@ pub fn fields(
     at: u32,
     depth: u32,
 ) -> Result<(Vec<Field>, u32), ParseFault>
-    requires few { length tokens.now ≤ 1048576 }
+    requires few { length tokens.now ≤ most_words }
     requires within { at ≤ length tokens.now }
-    requires shallow { depth ≤ 200 }
+    requires shallow { depth ≤ most_depth }
     ensures reads { Parses g.Fields depth tokens.now at (λ v. map shape.field_of v.items) result }
     ensures place { IfOk result (λ r. (at < r.1) × (r.1 ≤ length tokens.now)) }
 {
@@ -58,9 +59,9 @@ fn field_group(
     at: u32,
     depth: u32,
 ) -> Result<(Vec<Field>, u32), ParseFault>
-    requires few { length tokens.now ≤ 1048576 }
+    requires few { length tokens.now ≤ most_words }
     requires within { at ≤ length tokens.now }
-    requires shallow { depth ≤ 200 }
+    requires shallow { depth ≤ most_depth }
     ensures reads { Parses g.Field depth tokens.now at (λ v. map shape.field_of v.items) result }
     ensures place { IfOk result (λ r. (at < r.1) × (r.1 ≤ length tokens.now)) }
 {
@@ -78,9 +79,9 @@ fn field_decs(
     at: u32,
     depth: u32,
 ) -> Result<(Vec<Declarator>, u32), ParseFault>
-    requires few { length tokens.now ≤ 1048576 }
+    requires few { length tokens.now ≤ most_words }
     requires within { at ≤ length tokens.now }
-    requires shallow { depth ≤ 200 }
+    requires shallow { depth ≤ most_depth }
     ensures reads { Parses g.FieldDecs depth tokens.now at (λ v. map declarator_of v.items) result }
     ensures place { IfOk result (λ r. (at < r.1) × (r.1 ≤ length tokens.now)) }
 {
@@ -104,9 +105,9 @@ pub fn field_dec(
     at: u32,
     depth: u32,
 ) -> Result<(Declarator, u32), ParseFault>
-    requires few { length tokens.now ≤ 1048576 }
+    requires few { length tokens.now ≤ most_words }
     requires within { at ≤ length tokens.now }
-    requires shallow { depth ≤ 200 }
+    requires shallow { depth ≤ most_depth }
     ensures reads { Parses g.FieldDec depth tokens.now at declarator_of result }
     ensures place { IfOk result (λ r. (at < r.1) × (r.1 ≤ length tokens.now)) }
 {
@@ -125,10 +126,10 @@ pub fn field_named(
     place: u32,
     depth: u32,
 ) -> Result<(Declarator, u32), ParseFault>
-    requires few { length tokens.now ≤ 1048576 }
+    requires few { length tokens.now ≤ most_words }
     requires within { place ≤ length tokens.now }
     requires behind { at < place }
-    requires shallow { depth ≤ 200 }
+    requires shallow { depth ≤ most_depth }
     ensures reads { Proceeds g.FieldDec depth tokens.now at place (r.field_named (spot_of tokens.now at) stars.items name) declarator_of result }
     ensures place { IfOk result (λ r. (place ≤ r.1) × (r.1 ≤ length tokens.now)) }
 {

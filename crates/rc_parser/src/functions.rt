@@ -1,5 +1,6 @@
 // Functions: prototypes and definitions (ISO C 6.7.6.3, 6.9.1).
 ghost use Rattle.std.specs.Prelude.{◌≡◌, ◌<◌, ◌≤◌, ◌∷◌, [], IfOk, length, map};
+ghost use Rattle.rc_base.specs.Limits.{most_depth, most_words};
 ghost use Rattle.rc_syntax.specs.declared.word.Key.TheVariants.{Deletes, Void};
 ghost use Rattle.rc_syntax.specs.Tokens.{key};
 ghost use Rattle.rc_syntax.specs.Grammar as g;
@@ -28,7 +29,7 @@ pub struct Ending {
 // ["deletes"] result NAME "(" [params] ")" ["deletes"] (block | ";")
 /// Reads a function after the `deletes` at `at`.
 pub fn deleting(alloc: Global, tokens: &[Token], at: u32) -> Result<(Vec<Item>, u32), ParseFault>
-    requires few { length tokens.now ≤ 1048576 }
+    requires few { length tokens.now ≤ most_words }
     requires here { Stands tokens.now at (key Deletes) }
     ensures reads { Parses g.Item 0 tokens.now at (λ v. map shape.item_of v.items) result }
     ensures place { IfOk result (λ r. (at < r.1) × (r.1 ≤ length tokens.now)) }
@@ -42,7 +43,7 @@ pub fn deleting(alloc: Global, tokens: &[Token], at: u32) -> Result<(Vec<Item>, 
 
 /// Reads a function after the `void` at `at`.
 pub fn resultless(alloc: Global, tokens: &[Token], at: u32) -> Result<(Vec<Item>, u32), ParseFault>
-    requires few { length tokens.now ≤ 1048576 }
+    requires few { length tokens.now ≤ most_words }
     requires here { Stands tokens.now at (key Void) }
     ensures reads { Parses g.Item 0 tokens.now at (λ v. map shape.item_of v.items) result }
     ensures place { IfOk result (λ r. (at < r.1) × (r.1 ≤ length tokens.now)) }
@@ -59,7 +60,7 @@ fn function_named(
     at: u32,
     place: u32,
 ) -> Result<(Vec<Item>, u32), ParseFault>
-    requires few { length tokens.now ≤ 1048576 }
+    requires few { length tokens.now ≤ most_words }
     requires within { place ≤ length tokens.now }
     requires behind { at < place }
     ensures reads { Proceeds g.Item 0 tokens.now at place (r.function_named (spot_of tokens.now at) deletes (shape.mapped shape.type_of returned)) (λ v. map shape.item_of v.items) result }
@@ -81,7 +82,7 @@ pub fn function_params(
     at: u32,
     place: u32,
 ) -> Result<(Vec<Item>, u32), ParseFault>
-    requires few { length tokens.now ≤ 1048576 }
+    requires few { length tokens.now ≤ most_words }
     requires within { place ≤ length tokens.now }
     requires behind { at < place }
     ensures reads { Proceeds g.Item 0 tokens.now at place (r.function_params (spot_of tokens.now at) deletes (shape.mapped shape.type_of returned) name) (λ v. map shape.item_of v.items) result }
@@ -120,9 +121,9 @@ fn function_end(
     at: u32,
     depth: u32,
 ) -> Result<(Ending, u32), ParseFault>
-    requires few { length tokens.now ≤ 1048576 }
+    requires few { length tokens.now ≤ most_words }
     requires within { at ≤ length tokens.now }
-    requires shallow { depth ≤ 200 }
+    requires shallow { depth ≤ most_depth }
     ensures reads { Parses g.FunctionEnd depth tokens.now at ending_of result }
     ensures place { IfOk result (λ r. (at < r.1) × (r.1 ≤ length tokens.now)) }
 {
@@ -150,9 +151,9 @@ fn body_end(
     at: u32,
     depth: u32,
 ) -> Result<(Option<Vec<Stmt>>, u32), ParseFault>
-    requires few { length tokens.now ≤ 1048576 }
+    requires few { length tokens.now ≤ most_words }
     requires within { at ≤ length tokens.now }
-    requires shallow { depth ≤ 200 }
+    requires shallow { depth ≤ most_depth }
     ensures reads { Parses g.BodyEnd depth tokens.now at (λ b. shape.mapped (λ v. shape.stmts_of v.items) b) result }
     ensures place { IfOk result (λ r. (at < r.1) × (r.1 ≤ length tokens.now)) }
 {

@@ -1,5 +1,6 @@
 // Declarators of globals, and the constants that globals begin with (ISO C 6.7.6, 6.7.9).
 ghost use Rattle.std.specs.Prelude.{◌≡◌, ◌<◌, ◌≤◌, ◌∷◌, [], IfOk, IfErr, length, map};
+ghost use Rattle.rc_base.specs.Limits.{most_depth, most_words};
 ghost use Rattle.rc_syntax.specs.declared.fault.ParseFault.TheVariants.{Memory};
 ghost use Rattle.rc_syntax.specs.declared.word.Mark.TheVariants as m;
 ghost use Rattle.rc_syntax.specs.Tokens.{mark};
@@ -41,10 +42,10 @@ pub fn decs_named(
     place: u32,
     depth: u32,
 ) -> Result<(Vec<GlobalDeclarator>, u32), ParseFault>
-    requires few { length tokens.now ≤ 1048576 }
+    requires few { length tokens.now ≤ most_words }
     requires within { place ≤ length tokens.now }
     requires behind { at < place }
-    requires shallow { depth ≤ 200 }
+    requires shallow { depth ≤ most_depth }
     ensures reads { Proceeds g.Decs depth tokens.now at place (dec_rest (spot_of tokens.now at) stars.items name) (λ v. map global_of v.items) result }
     ensures place { IfOk result (λ r. (place ≤ r.1) × (r.1 ≤ length tokens.now)) }
 {
@@ -61,10 +62,10 @@ fn more_decs(
     after: u32,
     depth: u32,
 ) -> Result<(Vec<GlobalDeclarator>, u32), ParseFault>
-    requires few { length tokens.now ≤ 1048576 }
+    requires few { length tokens.now ≤ most_words }
     requires within { after ≤ length tokens.now }
     requires behind { at < after }
-    requires shallow { depth ≤ 200 }
+    requires shallow { depth ≤ most_depth }
     ensures reads { Proceeds g.Decs depth tokens.now at after (build (global_of first ∷ [])) (λ v. map global_of v.items) result }
     ensures place { IfOk result (λ r. (after ≤ r.1) × (r.1 ≤ length tokens.now)) }
 {
@@ -87,9 +88,9 @@ fn dec(
     at: u32,
     depth: u32,
 ) -> Result<(GlobalDeclarator, u32), ParseFault>
-    requires few { length tokens.now ≤ 1048576 }
+    requires few { length tokens.now ≤ most_words }
     requires within { at ≤ length tokens.now }
-    requires shallow { depth ≤ 200 }
+    requires shallow { depth ≤ most_depth }
     ensures reads { Parses g.Dec depth tokens.now at global_of result }
     ensures place { IfOk result (λ r. (at < r.1) × (r.1 ≤ length tokens.now)) }
 {
@@ -106,10 +107,10 @@ fn dec_named(
     place: u32,
     depth: u32,
 ) -> Result<(GlobalDeclarator, u32), ParseFault>
-    requires few { length tokens.now ≤ 1048576 }
+    requires few { length tokens.now ≤ most_words }
     requires within { place ≤ length tokens.now }
     requires behind { at < place }
-    requires shallow { depth ≤ 200 }
+    requires shallow { depth ≤ most_depth }
     ensures reads { Proceeds g.Dec depth tokens.now at place (declarator_rest (spot_of tokens.now at) stars.items name) global_of result }
     ensures place { IfOk result (λ r. (place ≤ r.1) × (r.1 ≤ length tokens.now)) }
 {
@@ -125,10 +126,10 @@ fn initialised(
     place: u32,
     depth: u32,
 ) -> Result<(GlobalDeclarator, u32), ParseFault>
-    requires few { length tokens.now ≤ 1048576 }
+    requires few { length tokens.now ≤ most_words }
     requires within { place ≤ length tokens.now }
     requires behind { at < place }
-    requires shallow { depth ≤ 200 }
+    requires shallow { depth ≤ most_depth }
     ensures reads { Proceeds g.Dec depth tokens.now at place (r.initialised (declarator_of declarator)) global_of result }
     ensures place { IfOk result (λ r. (place ≤ r.1) × (r.1 ≤ length tokens.now)) }
 {
@@ -150,9 +151,9 @@ fn initialised(
 // constant = ["-"] NUMBER | CHARACTER | "NULL" | "EOF" .
 /// Reads what a global may begin with.
 fn constant(tokens: &[Token], at: u32, depth: u32) -> Result<(Constant, u32), ParseFault>
-    requires few { length tokens.now ≤ 1048576 }
+    requires few { length tokens.now ≤ most_words }
     requires within { at ≤ length tokens.now }
-    requires shallow { depth ≤ 200 }
+    requires shallow { depth ≤ most_depth }
     ensures reads { Parses g.Constant depth tokens.now at (λ i. i) result }
     ensures place { IfOk result (λ r. (at < r.1) × (r.1 ≤ length tokens.now)) }
 {
@@ -183,9 +184,9 @@ fn constant_of(spot: Spot, word: &Word) -> Option<Constant>
 
 /// Reads a number after the `-` at `at`.
 fn negative(tokens: &[Token], at: u32, depth: u32) -> Result<(Constant, u32), ParseFault>
-    requires few { length tokens.now ≤ 1048576 }
+    requires few { length tokens.now ≤ most_words }
     requires here { Stands tokens.now at (mark m.Minus) }
-    requires shallow { depth ≤ 200 }
+    requires shallow { depth ≤ most_depth }
     ensures reads { Parses g.Constant depth tokens.now at (λ i. i) result }
     ensures place { IfOk result (λ r. (at < r.1) × (r.1 ≤ length tokens.now)) }
 {

@@ -1,5 +1,6 @@
 // Items and whole texts (ISO C 6.9).
 ghost use Rattle.std.specs.Prelude.{◌≡◌, ◌<◌, ◌≤◌, ◌-◌, IfOk, length, map};
+ghost use Rattle.rc_base.specs.Limits.{most_words};
 ghost use Rattle.rc_syntax.specs.declared.word.Key.TheVariants.{Deletes, Struct, Void};
 ghost use Rattle.rc_syntax.specs.Tokens.{key};
 ghost use Rattle.rc_syntax.specs.WordShapes.{tokens_of};
@@ -30,7 +31,7 @@ use std::alloc::Global;
 /// where each can; 1 where there is no word. `Deep` with the line of the first word that is too
 /// deep, where those before it can be followed. `Memory` when out of memory.
 pub fn parse(alloc: Global, tokens: &[Token]) -> Result<Tree, ParseFault>
-    requires { length tokens.now ≤ 1048576 }
+    requires { length tokens.now ≤ most_words }
     ensures answers { AnswersAll (tokens_of tokens.now) result }
 {
     let mut items = Vec::new(alloc);
@@ -67,7 +68,7 @@ fn item_begins(tokens: &[Token], at: u32) -> bool
 //      | ["deletes"] result NAME "(" [params] ")" ["deletes"] (block | ";") .
 /// Reads an item: a struct, globals that share a base, or a function.
 fn item(alloc: Global, tokens: &[Token], at: u32) -> Result<(Vec<Item>, u32), ParseFault>
-    requires few { length tokens.now ≤ 1048576 }
+    requires few { length tokens.now ≤ most_words }
     requires within { at ≤ length tokens.now }
     ensures reads { Parses g.Item 0 tokens.now at (λ v. map shape.item_of v.items) result }
     ensures place { IfOk result (λ r. (at < r.1) × (r.1 ≤ length tokens.now)) }
@@ -87,7 +88,7 @@ fn item(alloc: Global, tokens: &[Token], at: u32) -> Result<(Vec<Item>, u32), Pa
 // "struct" NAME "{" field { field } "}" ";"
 /// Reads the definition of a struct, or an item whose base is one, after the `struct` at `at`.
 fn struct_item(alloc: Global, tokens: &[Token], at: u32) -> Result<(Vec<Item>, u32), ParseFault>
-    requires few { length tokens.now ≤ 1048576 }
+    requires few { length tokens.now ≤ most_words }
     requires here { Stands tokens.now at (key Struct) }
     ensures reads { Parses g.Item 0 tokens.now at (λ v. map shape.item_of v.items) result }
     ensures place { IfOk result (λ r. (at < r.1) × (r.1 ≤ length tokens.now)) }
@@ -104,7 +105,7 @@ fn struct_named(
     at: u32,
     place: u32,
 ) -> Result<(Vec<Item>, u32), ParseFault>
-    requires few { length tokens.now ≤ 1048576 }
+    requires few { length tokens.now ≤ most_words }
     requires within { place ≤ length tokens.now }
     requires behind { at < place }
     ensures reads { Proceeds g.Item 0 tokens.now at place (r.struct_named (spot_of tokens.now at) name) (λ v. map shape.item_of v.items) result }
@@ -125,7 +126,7 @@ fn struct_fields(
     at: u32,
     place: u32,
 ) -> Result<(Vec<Item>, u32), ParseFault>
-    requires few { length tokens.now ≤ 1048576 }
+    requires few { length tokens.now ≤ most_words }
     requires within { place ≤ length tokens.now }
     requires behind { at < place }
     ensures reads { Proceeds g.Item 0 tokens.now at place (r.struct_fields (spot_of tokens.now at) name) (λ v. map shape.item_of v.items) result }
@@ -141,7 +142,7 @@ fn struct_fields(
 
 /// Reads an item that begins with a base.
 fn typed_item(alloc: Global, tokens: &[Token], at: u32) -> Result<(Vec<Item>, u32), ParseFault>
-    requires few { length tokens.now ≤ 1048576 }
+    requires few { length tokens.now ≤ most_words }
     requires within { at ≤ length tokens.now }
     requires no_struct { Misses tokens.now at (key Struct) }
     requires not_deleting { Misses tokens.now at (key Deletes) }
@@ -161,7 +162,7 @@ fn item_based(
     at: u32,
     place: u32,
 ) -> Result<(Vec<Item>, u32), ParseFault>
-    requires few { length tokens.now ≤ 1048576 }
+    requires few { length tokens.now ≤ most_words }
     requires within { place ≤ length tokens.now }
     requires behind { at < place }
     ensures reads { Proceeds g.Item 0 tokens.now at place (r.item_based (spot_of tokens.now at) base) (λ v. map shape.item_of v.items) result }
@@ -184,7 +185,7 @@ fn item_named(
     own: u32,
     place: u32,
 ) -> Result<(Vec<Item>, u32), ParseFault>
-    requires few { length tokens.now ≤ 1048576 }
+    requires few { length tokens.now ≤ most_words }
     requires within { place ≤ length tokens.now }
     requires later { at < own }
     requires behind { own < place }
@@ -211,7 +212,7 @@ fn globals(
     own: u32,
     place: u32,
 ) -> Result<(Vec<Item>, u32), ParseFault>
-    requires few { length tokens.now ≤ 1048576 }
+    requires few { length tokens.now ≤ most_words }
     requires within { place ≤ length tokens.now }
     requires later { at < own }
     requires behind { own < place }

@@ -1,5 +1,6 @@
 // Parameters (ISO C 6.7.6.3).
 ghost use Rattle.std.specs.Prelude.{◌≡◌, ◌<◌, ◌≤◌, IfOk, length, map};
+ghost use Rattle.rc_base.specs.Limits.{most_depth, most_words};
 ghost use Rattle.rc_syntax.specs.declared.word.Mark.TheVariants as m;
 ghost use Rattle.rc_syntax.specs.declared.word.Key.TheVariants.{Void};
 ghost use Rattle.rc_syntax.specs.Tokens.{mark, key};
@@ -26,9 +27,9 @@ pub fn params_end(
     at: u32,
     depth: u32,
 ) -> Result<(Vec<Param>, u32), ParseFault>
-    requires few { length tokens.now ≤ 1048576 }
+    requires few { length tokens.now ≤ most_words }
     requires within { at ≤ length tokens.now }
-    requires shallow { depth ≤ 200 }
+    requires shallow { depth ≤ most_depth }
     ensures reads { Parses g.ParamsEnd depth tokens.now at (λ v. map shape.param_of v.items) result }
     ensures place { IfOk result (λ r. (at < r.1) × (r.1 ≤ length tokens.now)) }
 {
@@ -49,9 +50,9 @@ fn some_params(
     at: u32,
     depth: u32,
 ) -> Result<(Vec<Param>, u32), ParseFault>
-    requires few { length tokens.now ≤ 1048576 }
+    requires few { length tokens.now ≤ most_words }
     requires within { at ≤ length tokens.now }
-    requires shallow { depth ≤ 200 }
+    requires shallow { depth ≤ most_depth }
     requires some { Misses tokens.now at (mark m.CloseParenthesis) }
     requires typed { Misses tokens.now at (key Void) }
     ensures reads { Parses g.ParamsEnd depth tokens.now at (λ v. map shape.param_of v.items) result }
@@ -69,9 +70,9 @@ fn params(
     at: u32,
     depth: u32,
 ) -> Result<(Vec<Param>, u32), ParseFault>
-    requires few { length tokens.now ≤ 1048576 }
+    requires few { length tokens.now ≤ most_words }
     requires within { at ≤ length tokens.now }
-    requires shallow { depth ≤ 200 }
+    requires shallow { depth ≤ most_depth }
     ensures reads { Parses g.Params depth tokens.now at (λ v. map shape.param_of v.items) result }
     ensures place { IfOk result (λ r. (at < r.1) × (r.1 ≤ length tokens.now)) }
 {
@@ -90,9 +91,9 @@ fn params(
 // param = type [NAME] .
 /// Reads a parameter: a type, and perhaps a name.
 fn param(alloc: Global, tokens: &[Token], at: u32, depth: u32) -> Result<(Param, u32), ParseFault>
-    requires few { length tokens.now ≤ 1048576 }
+    requires few { length tokens.now ≤ most_words }
     requires within { at ≤ length tokens.now }
-    requires shallow { depth ≤ 200 }
+    requires shallow { depth ≤ most_depth }
     ensures reads { Parses g.Param depth tokens.now at shape.param_of result }
     ensures place { IfOk result (λ r. (at < r.1) × (r.1 ≤ length tokens.now)) }
 {
@@ -108,10 +109,10 @@ fn param_typed(
     place: u32,
     depth: u32,
 ) -> Result<(Param, u32), ParseFault>
-    requires few { length tokens.now ≤ 1048576 }
+    requires few { length tokens.now ≤ most_words }
     requires within { place ≤ length tokens.now }
     requires behind { at < place }
-    requires shallow { depth ≤ 200 }
+    requires shallow { depth ≤ most_depth }
     ensures reads { Proceeds g.Param depth tokens.now at place (r.param_typed (spot_of tokens.now at) (shape.type_of type_name)) shape.param_of result }
     ensures place { IfOk result (λ r. (place ≤ r.1) × (r.1 ≤ length tokens.now)) }
 {

@@ -1,5 +1,6 @@
 // Words and lists that several productions have.
 ghost use Rattle.std.specs.Prelude.{◌≡◌, ◌≤◌, ◌++◌, ◌∷◌, [], IfOk, IfErr, OnOk, length};
+ghost use Rattle.rc_base.specs.Limits.{most_words};
 ghost use Rattle.rc_syntax.specs.declared.fault.ParseFault.TheVariants.{Memory};
 ghost use Rattle.rc_expr.specs.Goes.{word_at, is_name};
 ghost use Rattle.rc_parser.specs.Items.{IsNumber};
@@ -28,7 +29,7 @@ pub struct Numeral {
 
 /// Takes a number, and answers the place after it.
 pub fn number(tokens: &[Token], at: u32) -> Result<(Numeral, u32), ParseFault>
-    requires { length tokens.now ≤ 1048576 }
+    requires { length tokens.now ≤ most_words }
     ensures { IsNumber tokens.now at result }
 {
     match word_here(tokens, at) {

@@ -1,5 +1,5 @@
 -- Ways up stay what they are where a leaf is added or removed.
-use Rattle.std.proofs.Common.{◌≡◌, ◌≢◌, ◌<◌, ◌-◌, ◌^◌, inl, inr, ℕ, zero, suc, true, false, List, slice_index, refl, sym, ap, subst, ◌∙◌}
+use Rattle.std.proofs.Common.{◌≡◌, ◌≢◌, ◌≤◌, ◌-◌, ◌^◌, inl, inr, ℕ, zero, suc, true, false, List, slice_index, refl, sym, ap, subst, ◌∙◌}
 use Rattle.std.proofs.lemmas.Bool.{cases_eq}
 use Rattle.std.proofs.Math.Pow.{suc_ones}
 use Rattle.rc_regions.specs.declared.record.Slot.{Slot}
@@ -7,7 +7,7 @@ use Rattle.rc_regions.specs.declared.record.Slot.TheVariants.{Free, Root, Child}
 use Rattle.rc_regions.specs.Slots.{slot_at, is_live, IsLive}
 use Rattle.rc_regions.specs.Columns.{written}
 use Rattle.rc_regions.specs.Above.{IsRooted}
-use Rattle.rc_regions.specs.Ascents.{parent_or_self, ancestor, AreDepths, AreLinks}
+use Rattle.rc_regions.specs.Ascents.{parent_or_self, ancestor, AreAscents, AreDepths, AreLinks, AreWays}
 use Rattle.rc_regions.proofs.Ancestors.{ancestor-suc}
 use Rattle.rc_regions.proofs.Writes.{written_same, written_other}
 
@@ -55,8 +55,8 @@ module _ (old new : List Slot) (s : ℕ) (same : (t : ℕ) → t ≢ s → slot_
             depths.child t parent (sym (same t apart) ∙ is);
       }
 
-      pub AreLinks-removed : (links : ℕ → List ℕ) → AreLinks old links → AreLinks new links
-      AreLinks-removed links are t k live low =
+      pub AreLinks-removed : (depth : ℕ → ℕ) (links : ℕ → List ℕ) → AreLinks old depth links → AreLinks new depth links
+      AreLinks-removed depth links are t k live low =
           let apart = live_apart t live in
           are t k (ap is_live (sym (same t apart)) ∙ live) low ∙ sym (ancestor_same (2 ^ k) t apart)
 
@@ -89,12 +89,35 @@ module _ (old new : List Slot) (s : ℕ) (same : (t : ℕ) → t ≢ s → slot_
         ];
       }
 
-      pub AreLinks-added : (links : ℕ → List ℕ) (ways : List ℕ) → AreLinks old links → ((k : ℕ) → k < 32 → slice_index ways k ≡ ancestor old (2 ^ k - 1) parent) → AreLinks new (written links s ways)
-      AreLinks-added links ways are climb t k t_live low = elim (cases_eq t s) [
+      pub AreLinks-added : (depth : ℕ → ℕ) (links : ℕ → List ℕ) (ways : List ℕ) → AreLinks old depth links → AreWays old parent (suc (depth parent)) ways → AreLinks new (written depth s (suc (depth parent))) (written links s ways)
+      AreLinks-added depth links ways are climb t k t_live low = elim (cases_eq t s) [
         | inl e ↦
             let one : 2 ^ k ≡ suc (2 ^ k - 1) = sym (suc_ones k) in
-            ap (λ n. slice_index (written links s ways n) k) e ∙ ap (λ xs. slice_index xs k) (written_same links s ways) ∙ climb k low
+            let deep : 2 ^ k ≤ suc (depth parent) = subst (λ d. 2 ^ k ≤ d) (ap (written depth s (suc (depth parent))) e ∙ written_same depth s (suc (depth parent))) low in
+            ap (λ n. slice_index (written links s ways n) k) e ∙ ap (λ xs. slice_index xs k) (written_same links s ways) ∙ climb k deep
             ∙ sym (ancestor_same (2 ^ k - 1) parent (was_apart parent live)) ∙ sym (ancestor-suc new (2 ^ k - 1) s parent child) ∙ ap (λ n. ancestor new n s) (sym one) ∙ ap (ancestor new (2 ^ k)) (sym e)
         | inr apart ↦
-            ap (λ xs. slice_index xs k) (written_other links s t ways apart) ∙ are t k (ap is_live (sym (same t apart)) ∙ t_live) low ∙ sym (ancestor_same (2 ^ k) t apart)
+            let deep : 2 ^ k ≤ depth t = subst (λ d. 2 ^ k ≤ d) (written_other depth s t (suc (depth parent)) apart) low in
+            ap (λ xs. slice_index xs k) (written_other links s t ways apart) ∙ are t k (ap is_live (sym (same t apart)) ∙ t_live) deep ∙ sym (ancestor_same (2 ^ k) t apart)
       ]
+
+-- the slots are the same at each number, though there may be one more that is free
+module _ (old new : List Slot) (same : (t : ℕ) → slot_at new t ≡ slot_at old t) where
+  pub live_moved : (t : ℕ) → IsLive old t → IsLive new t
+  live_moved t live = ap is_live (same t) ∙ live
+
+  pub ancestor_moved : (n t : ℕ) → ancestor new n t ≡ ancestor old n t
+  ancestor_moved zero t = refl
+  ancestor_moved (suc n) t = ap (λ x. ancestor new n (parent_or_self x t)) (same t) ∙ ancestor_moved n (parent_or_self (slot_at old t) t)
+
+  pub AreAscents-moved : (depth : ℕ → ℕ) (links : ℕ → List ℕ) → AreAscents old depth links → AreAscents new depth links
+  AreAscents-moved depth links ascents = record {
+    rooted = record {
+      root = same 0 ∙ ascents.rooted.root;
+      only_root = λ t is. ascents.rooted.only_root t (sym (same t) ∙ is);
+      parents = λ t parent is. live_moved parent (ascents.rooted.parents t parent (sym (same t) ∙ is));
+    };
+    depths = record { root = ascents.depths.root; child = λ t parent is. ascents.depths.child t parent (sym (same t) ∙ is) };
+    long = ascents.long;
+    ways = λ t k live low. ascents.ways t k (ap is_live (sym (same t)) ∙ live) low ∙ sym (ancestor_moved (2 ^ k) t);
+  }

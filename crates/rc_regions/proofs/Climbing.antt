@@ -1,5 +1,5 @@
 -- Climbing by links that double.
-use Rattle.std.proofs.Common.{◌≡◌, ◌≢◌, ◌<◌, ◌≤◌, ◌+◌, ◌-◌, ◌*◌, ◌/◌, ◌%◌, ◌^◌, ℕ, zero, suc, List, count_ones, refl, sym, ap, ◌∙◌, arith, add-one, get_or, replicate, ◌⊎◌, inl, inr}
+use Rattle.std.proofs.Common.{◌≡◌, ◌≢◌, ◌<◌, ◌≤◌, ◌+◌, ◌*◌, ◌/◌, ◌%◌, ◌^◌, ℕ, zero, suc, List, count_ones, refl, sym, ap, ◌∙◌, arith, add-one, ◌⊎◌, inl, inr}
 use Rattle.std.proofs.lemmas.Nat.{ones_cat, ones_le_self, zero_from_ones}
 use Rattle.std.proofs.Math.Nat.{lt_of_not-le, two-pow-succ}
 use Rattle.std.proofs.Math.Pow.{pow_mono, suc_ones}
@@ -7,7 +7,6 @@ use Rattle.rc_regions.specs.declared.record.Slot.{Slot}
 use Rattle.rc_regions.specs.declared.record.Slot.TheVariants.{Root}
 use Rattle.rc_regions.specs.Slots.{slot_at}
 use Rattle.rc_regions.specs.Ascents.{parent_or_self, ancestor}
-use Rattle.rc_regions.proofs.Ancestors.{ancestor-add}
 
 ones-half : (n : ℕ) → count_ones n ≡ count_ones (n / 2) + count_ones (n % 2)
 ones-half n = let split : n ≡ n / 2 * 2 ^ 1 + n % 2 = omega arith in let low : n % 2 < 2 ^ 1 = omega arith in ap count_ones split ∙ ones_cat 1 (n / 2) (n % 2) low
@@ -41,7 +40,7 @@ even_way n k even = let halves : n ≡ n / 2 + n / 2 = omega arith in ap (λ m. 
 pub odd_way : (n k : ℕ) → n % 2 ≡ 1 → n * 2 ^ k ≡ 2 ^ k + n / 2 * 2 ^ (k + 1)
 odd_way n k odd = let halves : n ≡ n / 2 + n / 2 + 1 = omega arith in ap (λ m. m * 2 ^ k) halves ∙ one_more (n / 2) (2 ^ k) ∙ ap (λ q. 2 ^ k + n / 2 * q) (sym (power-suc k))
 
-one_times : (n power : ℕ) → 0 < n → power ≤ n * power
+pub one_times : (n power : ℕ) → 0 < n → power ≤ n * power
 one_times zero power some = omega (arith, some)
 one_times (suc n) power some = omega arith
 
@@ -54,17 +53,6 @@ ancestor-root slots (suc n) root = ap (λ x. ancestor slots n (parent_or_self x 
 
 pub power-some : (k : ℕ) → 0 < 2 ^ k
 power-some k = omega (arith, suc_ones k)
-
--- where the way has come to the root, it stays there
-pub ancestor-stays : (slots : List Slot) (s m n : ℕ) → slot_at slots 0 ≡ Root → ancestor slots m s ≡ 0 → m ≤ n → ancestor slots n s ≡ 0
-ancestor-stays slots s m n root there more =
-    let split : n ≡ m + (n - m) = omega arith in
-    ap (λ k. ancestor slots k s) split ∙ ancestor-add slots m (n - m) s ∙ ap (ancestor slots (n - m)) there ∙ ancestor-root slots (n - m) root
-
-pub get_or-zeros : (n j : ℕ) → get_or {A = ℕ} (replicate n 0) j 0 ≡ 0
-get_or-zeros zero j = refl
-get_or-zeros (suc n) zero = refl
-get_or-zeros (suc n) (suc j) = get_or-zeros n j
 
 pub split_at : (a b : ℕ) → (a < b) ⊎ (b ≤ a)
 split_at a zero = inr (omega arith)

@@ -2,6 +2,7 @@ pub mod Ancestors
 pub mod Changed
 pub mod Climbing
 pub mod Counted
+pub mod Linking
 pub mod PutIn
 pub mod Sounds
 pub mod Stored

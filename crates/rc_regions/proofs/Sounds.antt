@@ -1,21 +1,21 @@
 -- Records stay sound where a slot is taken, becomes a child, and is freed.
-use Rattle.std.proofs.Common.{◌≡◌, ◌≢◌, ◌<◌, ◌≤◌, ◌+◌, ◌-◌, ◌^◌, inl, inr, ℕ, zero, suc, cond, List, [], ◌∷◌, ◌++◌, Option, Some, None, length, set, slice_index, refl, sym, ap, subst, ◌∙◌, arith, length-set, length-append, add-one}
+use Rattle.std.proofs.Common.{◌≡◌, ◌≢◌, ◌<◌, ◌≤◌, ◌+◌, ◌-◌, ◌^◌, inl, inr, ℕ, zero, suc, cond, List, [], ◌∷◌, ◌++◌, Option, Some, None, length, set, refl, sym, ap, subst, ◌∙◌, arith, length-set, length-append, add-one}
 use Rattle.std.proofs.lemmas.Bool.{cases_eq}
 use Rattle.rc_regions.specs.declared.record.Slot.{Slot}
 use Rattle.rc_regions.specs.declared.record.Slot.TheVariants.{Free, Root, Child}
 use Rattle.rc_regions.specs.Above.{IsRooted, IsTree}
-use Rattle.rc_regions.specs.Ascents.{ancestor, AreDepths, AreLinks}
+use Rattle.rc_regions.specs.Ascents.{AreAscents, AreDepths, AreLinks, AreLong, AreWays}
 use Rattle.rc_regions.specs.Slots.{slot_at, is_live, IsLive, IsParent, live_slots}
 use Rattle.rc_regions.specs.Columns.{Columns, ascended, grown, written}
-use Rattle.rc_regions.specs.Lists.{Spot, Head, Behind, AllLinked, first_of, follower, spot, spot_of, with_follower, with_previous, placed, linked, unlinked}
-use Rattle.rc_regions.specs.Sound.{IsSound, IsTaken}
+use Rattle.rc_regions.specs.Lists.{Spot, Head, Behind, AllLinked, first_of, follower, spot, spot_of, with_first, with_follower, with_previous, placed, linked, unlinked}
+use Rattle.rc_regions.specs.Sound.{IsAscended, IsSound, IsTaken}
 use Rattle.rc_regions.proofs.Ancestors.{is_tree, live_cases}
-use Rattle.rc_regions.proofs.Changed.{live_not_free, IsRooted-removed, AreDepths-removed, AreLinks-removed, IsRooted-added, AreDepths-added, AreLinks-added}
-use Rattle.rc_regions.proofs.Climbing.{ancestor-root}
+use Rattle.rc_regions.proofs.Changed.{live_not_free, IsRooted-removed, AreDepths-removed, AreLinks-removed, IsRooted-added, AreDepths-added, AreLinks-added, AreAscents-moved, ancestor_moved, live_moved}
+use Rattle.rc_regions.proofs.Climbing.{power-some}
 use Rattle.rc_regions.proofs.Counted.{live_made, live_slots-all, live_slots-less, live_slots-new, live_slots-set}
 use Rattle.rc_regions.proofs.PutIn.{AllLinked-linked}
 use Rattle.rc_regions.proofs.TakenOut.{AllLinkedBut-unlinked, AllLinkedBut-new}
-use Rattle.rc_regions.proofs.Writes.{slot_at-new, slot_at_same, slot_at_other, spot_is_head, Unlisted, unlisted, unlisted-with_first, unlisted-with_follower, unlisted-with_previous}
+use Rattle.rc_regions.proofs.Writes.{slot_at-new, slot_at_same, slot_at_other, spot_is_head, Unlisted, written_same, written_other, unlisted, unlisted-with_first, unlisted-with_follower, unlisted-with_previous}
 
 -- a list without a first slot has none
 empty_list : (c : Columns) → (linked : AllLinked c) → (list : Slot) → list ≢ Root → first_of c list ≡ None → (n s : ℕ) → linked.rank s < n → s < length c.slots → slot_at c.slots s ≢ list
@@ -99,12 +99,13 @@ IsTaken-grown c sound none room =
     }
 
 sound_of : (c : Columns) (slots : List Slot) (depth : ℕ → ℕ) (links : ℕ → List ℕ) → c.slots ≡ slots → c.depth ≡ depth → c.links ≡ links
-    → AllLinked c → IsRooted slots → AreDepths slots depth → AreLinks slots links → length slots ≤ 2 ^ 32 → IsSound c
-sound_of c slots depth links same_slots same_depth same_links linked rooted depths are few = record {
+    → AllLinked c → IsRooted slots → AreDepths slots depth → AreLinks slots depth links → AreLong links → length slots ≤ 2 ^ 32 → IsSound c
+sound_of c slots depth links same_slots same_depth same_links linked rooted depths are long few = record {
   linked = linked;
   rooted = subst IsRooted (sym same_slots) rooted;
   depths = subst (AreDepths c.slots) (sym same_depth) (subst (λ xs. AreDepths xs depth) (sym same_slots) depths);
-  links = subst (AreLinks c.slots) (sym same_links) (subst (λ xs. AreLinks xs links) (sym same_slots) are);
+  links = subst (λ ls. AreLinks c.slots c.depth ls) (sym same_links) (subst (λ d. AreLinks c.slots d links) (sym same_depth) (subst (λ xs. AreLinks xs depth links) (sym same_slots) are));
+  long = subst (λ ls. AreLong ls) (sym same_links) long;
   few = subst (λ xs. length xs ≤ 2 ^ 32) (sym same_slots) few;
 }
 
@@ -137,11 +138,36 @@ AllLinked-ascended c s depth links linked = record {
   neighbours = linked.neighbours;
 }
 
--- a taken slot becomes a child
-pub IsSound-added : (old c : Columns) (s parent : ℕ) (links : List ℕ) → IsSound old → IsTaken old c s → IsLive old.slots parent
-    → ((k : ℕ) → k < 32 → slice_index links k ≡ ancestor old.slots (2 ^ k - 1) parent)
-    → IsSound (ascended (linked c s (Child parent)) s (old.depth parent + 1) links)
-IsSound-added old c s parent links sound taken live climbed =
+long-written : (links : ℕ → List ℕ) (s : ℕ) (ways : List ℕ) → AreLong links → length ways ≡ 32 → AreLong (written links s ways)
+long-written links s ways long wide t = elim (cases_eq t s) [
+  | inl e ↦ ap (λ n. length (written links s ways n)) e ∙ ap length (written_same links s ways) ∙ wide
+  | inr apart ↦ ap length (written_other links s t ways apart) ∙ long t
+]
+
+-- a slot can have its depth and links before it is put into a list, or behind that
+linked-ascended : (c : Columns) (s parent depth : ℕ) (links : List ℕ) → linked (ascended c s depth links) s (Child parent) ≡ ascended (linked c s (Child parent)) s depth links
+linked-ascended c s parent depth links = by_first (c.first_child parent) where
+  by_first : (first : Option ℕ) → with_first (placed (with_previous (ascended c s depth links) first (Some s)) s (Child parent) first) (Child parent) (Some s)
+      ≡ ascended (with_first (placed (with_previous c first (Some s)) s (Child parent) first) (Child parent) (Some s)) s depth links
+  by_first None = refl
+  by_first (Some t) = refl
+
+-- what a taken slot's links are made from
+pub AreAscents-taken : (old c : Columns) (s : ℕ) → IsSound old → IsTaken old c s → AreAscents c.slots c.depth c.links
+AreAscents-taken old c s sound taken =
+    let was : AreAscents old.slots old.depth old.links = record { rooted = sound.rooted; depths = sound.depths; ways = sound.links; long = sound.long } in
+    AreAscents-moved old.slots c.slots taken.slots c.depth c.links
+    (subst (λ ls. AreAscents old.slots c.depth ls) (sym taken.links) (subst (λ d. AreAscents old.slots d old.links) (sym taken.depth) was))
+
+pub live-taken : (old c : Columns) (s t : ℕ) → IsTaken old c s → IsLive old.slots t → IsLive c.slots t
+live-taken old c s t taken live = live_moved old.slots c.slots taken.slots t live
+
+pub free-taken : (old c : Columns) (s : ℕ) → IsTaken old c s → ¬ IsLive c.slots s
+free-taken old c s taken live = live_not_free c.slots s live (taken.slots s ∙ taken.was_free)
+
+sound-child : (old c : Columns) (s parent : ℕ) (links : List ℕ) → IsSound old → IsTaken old c s → IsLive old.slots parent
+    → length links ≡ 32 → AreWays old.slots parent (suc (old.depth parent)) links → IsSound (ascended (linked c s (Child parent)) s (old.depth parent + 1) links)
+sound-child old c s parent links sound taken live wide climbed =
     let list : Slot = Child parent in
     let slots : List Slot = set c.slots s list in
     let same : (t : ℕ) → t ≢ s → slot_at slots t ≡ slot_at old.slots t = λ t apart. slot_at_other c.slots s t list apart ∙ taken.slots t in
@@ -155,8 +181,16 @@ IsSound-added old c s parent links sound taken live climbed =
     (AllLinked-ascended (linked c s list) s (old.depth parent + 1) links (AllLinked-linked c s list taken.loose taken.made (λ is. cc)))
     (IsRooted-added old.slots slots s same childless sound.rooted taken.was_free parent live child)
     (AreDepths-added old.slots slots s same childless sound.rooted taken.was_free parent live child old.depth sound.depths)
-    (AreLinks-added old.slots slots s same childless sound.rooted taken.was_free parent live child old.links links sound.links climbed)
+    (AreLinks-added old.slots slots s same childless sound.rooted taken.was_free parent live child old.depth old.links links sound.links climbed)
+    (long-written old.links s links sound.long wide)
     (omega (arith, few, length-set c.slots s list))
+
+-- a taken slot becomes a child
+pub IsSound-added : (old c e : Columns) (s parent depth : ℕ) → IsSound old → IsTaken old c s → IsLive old.slots parent → depth ≡ old.depth parent + 1 → IsAscended c e s parent depth → IsSound (linked e s (Child parent))
+IsSound-added old c e s parent depth sound taken live deep ascends =
+    let far : old.depth parent + 1 ≡ suc (old.depth parent) = add-one (old.depth parent) in
+    let climbed : AreWays old.slots parent (suc (old.depth parent)) ascends.ways = λ k low. ascends.climbed k (subst (λ d. 2 ^ k ≤ d) (sym (deep ∙ far)) low) ∙ ancestor_moved old.slots c.slots taken.slots (2 ^ k - 1) parent in
+    subst IsSound (sym (ap (λ x. linked x s (Child parent)) (ascends.is ∙ ap (λ d. ascended c s d ascends.ways) deep) ∙ linked-ascended c s parent (old.depth parent + 1) ascends.ways)) (sound-child old c s parent ascends.ways sound taken live ascends.long climbed)
 
 -- a leaf becomes free
 pub IsSound-removed : (c : Columns) (s : ℕ) → IsSound c → IsLive c.slots s → s ≢ 0 → ¬ IsParent c.slots s → IsSound (linked (unlinked c s) s Free)
@@ -176,7 +210,8 @@ IsSound-removed c s sound live not_root leaf =
     (AllLinked-linked (unlinked c s) s Free loose made_out (λ is. cc))
     (IsRooted-removed c.slots slots s same childless sound.rooted not_root free)
     (AreDepths-removed c.slots slots s same childless sound.rooted not_root free c.depth sound.depths)
-    (AreLinks-removed c.slots slots s same childless sound.rooted not_root free c.links sound.links)
+    (AreLinks-removed c.slots slots s same childless sound.rooted not_root free c.depth c.links sound.links)
+    sound.long
     (omega (arith, few, length-set c.slots s Free))
 
 pub IsTree-sound : (c : Columns) → IsSound c → IsTree c.slots
@@ -191,8 +226,8 @@ no_child : (s parent : ℕ) → slot_at (Root ∷ []) s ≢ Child parent
 no_child zero parent is = cc
 no_child (suc s) parent is = cc
 
-pub IsSound-root : (c : Columns) → c.slots ≡ Root ∷ [] → c.first_free ≡ None → ((s : ℕ) → c.first_child s ≡ None) → ((s : ℕ) → c.previous s ≡ None) → ((s : ℕ) → c.next s ≡ None) → c.depth 0 ≡ 0 → ((k : ℕ) → slice_index (c.links 0) k ≡ 0) → IsSound c
-IsSound-root c slots first_free first_child previous next depth links =
+pub IsSound-root : (c : Columns) → c.slots ≡ Root ∷ [] → c.first_free ≡ None → ((s : ℕ) → c.first_child s ≡ None) → ((s : ℕ) → c.previous s ≡ None) → ((s : ℕ) → c.next s ≡ None) → c.depth 0 ≡ 0 → AreLong c.links → IsSound c
+IsSound-root c slots first_free first_child previous next depth long =
     sound_of c (Root ∷ []) c.depth c.links slots refl refl
     (record {
       rank = λ _. 0;
@@ -203,9 +238,10 @@ IsSound-root c slots first_free first_child previous next depth links =
     (record { root = refl; only_root = only_root; parents = λ s parent is. absurd (no_child s parent is) })
     (record { root = depth; child = λ s parent is. absurd (no_child s parent is) })
     (λ s k live low. elim (live_cases (Root ∷ []) s live) [
-      | inl root ↦ let zero_is = only_root s root in ap (λ t. slice_index (c.links t) k) zero_is ∙ links k ∙ sym (ancestor-root (Root ∷ []) (2 ^ k) refl) ∙ ap (ancestor (Root ∷ []) (2 ^ k)) (sym zero_is)
+      | inl root ↦ let flat : c.depth s ≡ 0 = ap c.depth (only_root s root) ∙ depth in absurd (omega (arith, low, flat, power-some k))
       | inr child ↦ absurd (no_child s child.0 child.1)
     ])
+    long
     (omega arith)
   where
     nothing : (at : Spot) → follower c at ≡ None

@@ -7,7 +7,7 @@ use Rattle.std.proofs.Math.Seq.{map-set_same}
 use Rattle.rc_regions.specs.declared.record.Slot.{Slot}
 use Rattle.rc_regions.specs.declared.record.Slot.TheVariants.{Free}
 use Rattle.rc_regions.specs.declared.record.Record.{Record}
-use Rattle.rc_regions.specs.Columns.{Columns, ascended, column, columns, grown, links_of, no_links, slots_of, written}
+use Rattle.rc_regions.specs.Columns.{Columns, column, columns, grown, links_of, no_links, slots_of, written}
 use Rattle.rc_regions.specs.Lists.{placed}
 use Rattle.rc_regions.proofs.Writes.{written_same, written_other}
 
@@ -65,10 +65,15 @@ module _ (records : List Record) (free : Option ℕ) (s : ℕ) (now : Record) (m
       let r : Record = record now { slot = list; previous = None; next = next } in
       columns_equal _ _ _ _ _ _ _ _ _ _ _ _ _ (map-set (λ x. x.slot) records s r) (kept (λ x. x.first_child) None r refl) (column-set (λ x. x.previous) None records s r below) (column-set (λ x. x.next) None records s r below) (kept (λ x. x.depth) 0 r refl) (kept (λ x. x.links) no_links r refl)
 
-  pub columns-ascended : (depth : ℕ) (links : List ℕ) → columns (set records s (record now { depth = depth; links = links })) free ≡ ascended (columns records free) s depth links
-  columns-ascended depth links =
-      let r : Record = record now { depth = depth; links = links } in
-      columns_equal _ _ _ _ _ _ _ _ _ _ _ _ _ (kept_slots r refl) (kept (λ x. x.first_child) None r refl) (kept (λ x. x.previous) None r refl) (kept (λ x. x.next) None r refl) (column-set (λ x. x.depth) 0 records s r below) (column-set (λ x. x.links) no_links records s r below)
+  pub columns-depth : (depth : ℕ) → columns (set records s (record now { depth = depth })) free ≡ record (columns records free) { depth = written (columns records free).depth s depth }
+  columns-depth depth =
+      let r : Record = record now { depth = depth } in
+      columns_equal _ _ _ _ _ _ _ _ _ _ _ _ _ (kept_slots r refl) (kept (λ x. x.first_child) None r refl) (kept (λ x. x.previous) None r refl) (kept (λ x. x.next) None r refl) (column-set (λ x. x.depth) 0 records s r below) (kept (λ x. x.links) no_links r refl)
+
+  pub columns-links : (links : List ℕ) → columns (set records s (record now { links = links })) free ≡ record (columns records free) { links = written (columns records free).links s links }
+  columns-links links =
+      let r : Record = record now { links = links } in
+      columns_equal _ _ _ _ _ _ _ _ _ _ _ _ _ (kept_slots r refl) (kept (λ x. x.first_child) None r refl) (kept (λ x. x.previous) None r refl) (kept (λ x. x.next) None r refl) (kept (λ x. x.depth) 0 r refl) (column-set (λ x. x.links) no_links records s r below)
 
   -- what was read stands in the columns
   pub read : {A : Type 0} (field : Record → A) (beyond : A) → column field beyond records s ≡ field now

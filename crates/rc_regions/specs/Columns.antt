@@ -28,6 +28,9 @@ slots_of records = map (λ r. r.slot) records
 abbrev pub links_of : List Record → ℕ → List ℕ
 links_of records = column (λ r. r.links) no_links records
 
+abbrev pub depth_of : List Record → ℕ → ℕ
+depth_of records = column (λ r. r.depth) 0 records
+
 abbrev pub columns : List Record → Option ℕ → Columns
 columns records first_free = record {
   slots = slots_of records;
@@ -35,7 +38,7 @@ columns records first_free = record {
   first_child = column (λ r. r.first_child) None records;
   previous = column (λ r. r.previous) None records;
   next = column (λ r. r.next) None records;
-  depth = column (λ r. r.depth) 0 records;
+  depth = depth_of records;
   links = links_of records;
 }
 
@@ -45,6 +48,10 @@ columns_of table = columns table.records.items table.first_free
 -- a column with another value at this slot
 unfoldable pub written : {A : Type 0} → (ℕ → A) → ℕ → A → ℕ → A
 written f s value t = if nat_eq t s then value else f t
+
+-- a slot has these links
+abbrev pub relinked : Columns → ℕ → List ℕ → Columns
+relinked c s links = record c { links = written c.links s links }
 
 -- a slot has this depth and these links
 abbrev pub ascended : Columns → ℕ → ℕ → List ℕ → Columns

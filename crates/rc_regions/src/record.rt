@@ -1,10 +1,7 @@
 // The record of a slot.
 
 /// How many ancestors a record links to: depths are below 2 to the power of this number.
-pub(crate) const LINKS: usize = 32;
-
-/// The slot of the root.
-pub(crate) const ROOT: u32 = 0;
+const LINKS: usize = 32;
 
 /// What stands at a slot.
 #[derive(Clone, Copy)]
@@ -26,9 +23,9 @@ pub(crate) struct Record {
     pub next: Option<u32>,
     /// How many ancestors the slot has.
     pub depth: u32,
-    /// The ancestors 1, 2, 4, 8 and so on above; the root's, and each beyond the root, is the root.
-    /// They stand here and not in a vector of their own, so that a slot that is used again needs no
-    /// memory.
+    /// The ancestors 1, 2, 4, 8 and so on above, as many as the depth has binary digits; what stands
+    /// behind them is never read. They stand here and not in a vector of their own, so that a slot that
+    /// is used again needs no memory.
     pub links: [u32; LINKS],
 }
 

@@ -1,13 +1,14 @@
 // The records of all slots, and the lists in which the slots stand.
-ghost use Rattle.std.specs.Prelude.{◌≡◌, ◌<◌, ◌≤◌, ℕ, Some, length, IfOk, OnErr};
+ghost use Rattle.std.specs.Prelude.{◌≡◌, ◌<◌, ◌≤◌, ◌+◌, ℕ, Some, length, slice_index, slice_set, IfOk, OnErr};
 ghost use Rattle.rc_regions.specs.declared.record.Slot.TheVariants.{Free, Child};
 ghost use Rattle.rc_regions.specs.Above.{IsRooted};
-ghost use Rattle.rc_regions.specs.Columns.{ascended, columns_of};
-ghost use Rattle.rc_regions.specs.Slots.{live_slots};
-ghost use Rattle.rc_regions.specs.Sound.{IsSound, IsTaken};
+ghost use Rattle.rc_regions.specs.Ascents.{AreAscents};
+ghost use Rattle.rc_regions.specs.Columns.{columns_of, relinked};
+ghost use Rattle.rc_regions.specs.Slots.{IsLive, live_slots};
+ghost use Rattle.rc_regions.specs.Sound.{IsAscended, IsRelinked, IsSound, IsTaken};
 ghost use Rattle.rc_regions.specs.Lists.{AllLinked, first_of, linked, placed, spot, unlinked, with_first, with_follower, with_previous};
 
-use crate::record::{BLANK, LINKS, Record, Slot};
+use crate::record::{BLANK, Record, Slot};
 use rc_base::NoMemory;
 
 /// Each slot but the root's stands in one list: the children of its parent, or the free slots. So a
@@ -76,14 +77,59 @@ impl Table {
         record.next = next;
     }
 
-    /// Keeps how deep a slot is, and its links.
-    pub(crate) fn set_ascent(&mut self, slot: u32, depth: u32, links: [u32; LINKS])
-        requires { slot < length (columns_of self.old).slots }
-        ensures { columns_of self.new ≡ ascended (columns_of self.old) slot depth links }
+    /// A link of a slot.
+    fn link_at(&self, slot: u32, power: usize) -> u32
+        requires made { slot < length (columns_of self.now).slots }
+        requires power { power < 32 }
+        ensures { result ≡ slice_index ((columns_of self.now).links slot) power }
+    {
+        self.records[slot as usize].links[power]
+    }
+
+    /// Writes a link of a slot.
+    fn set_link(&mut self, slot: u32, power: usize, above: u32)
+        requires made { slot < length (columns_of self.old).slots }
+        requires power { power < 32 }
+        ensures { columns_of self.new ≡ relinked (columns_of self.old) slot (slice_set ((columns_of self.old).links slot) power above) }
     {
         let record = &mut self.records[slot as usize];
+        record.links[power] = above;
+    }
+
+    /// Writes the links of a slot that becomes a child of this parent, as many as its depth has binary
+    /// digits. The ancestor 1 above is the parent, and a link of an ancestor leads from there to the
+    /// next: from 1 above to 2, from 2 to 4, from 4 to 8.
+    fn set_links(&mut self, slot: u32, parent: u32, depth: u32)
+        requires made { slot < length (columns_of self.old).slots }
+        requires free { ¬ IsLive (columns_of self.old).slots slot }
+        requires live { IsLive (columns_of self.old).slots parent }
+        requires ascents { AreAscents (columns_of self.old).slots (columns_of self.old).depth (columns_of self.old).links }
+        requires deep { depth ≡ (columns_of self.old).depth parent + 1 }
+        ensures { IsRelinked (columns_of self.old) (columns_of self.new) slot parent depth }
+    {
+        let mut above = parent;
+        let mut power = 0;
+        let mut reach: u64 = 1;
+        while reach <= depth as u64 {
+            self.set_link(slot, power, above);
+            above = self.link_at(above, power);
+            power += 1;
+            reach *= 2;
+        }
+    }
+
+    /// Keeps how deep a slot is that becomes a child of this parent, and its links.
+    pub(crate) fn set_ascent(&mut self, slot: u32, parent: u32, depth: u32)
+        requires made { slot < length (columns_of self.old).slots }
+        requires free { ¬ IsLive (columns_of self.old).slots slot }
+        requires live { IsLive (columns_of self.old).slots parent }
+        requires ascents { AreAscents (columns_of self.old).slots (columns_of self.old).depth (columns_of self.old).links }
+        requires deep { depth ≡ (columns_of self.old).depth parent + 1 }
+        ensures { IsAscended (columns_of self.old) (columns_of self.new) slot parent depth }
+    {
+        self.set_links(slot, parent, depth);
+        let record = &mut self.records[slot as usize];
         record.depth = depth;
-        record.links = links;
     }
 
     /// Takes a slot out of its list.

@@ -4,7 +4,7 @@ ghost use Rattle.rc_regions.specs.declared.record.Slot.TheVariants.{Free, Root, 
 ghost use Rattle.rc_regions.specs.Above.{Above, HasDepth, HasDigits, IsTree};
 ghost use Rattle.rc_regions.specs.Slots.{IsLive, IsParent, live_slots, slot_at};
 
-use crate::ascent::{climb, links_below};
+use crate::ascent::climb;
 use crate::record::{BLANK, Record, Slot};
 use crate::table::Table;
 use rc_base::{NoMemory, Steps};
@@ -72,10 +72,9 @@ impl Tree {
         ensures tree { IsTree self.new }
     {
         let depth = self.table.records[parent as usize].depth + 1;
-        let links = links_below(&self.table.records, parent);
         let slot = self.table.take_slot()?;
+        self.table.set_ascent(slot, parent, depth);
         self.table.link(slot, Slot::Child(parent));
-        self.table.set_ascent(slot, depth, links);
         Ok(slot)
     }
 

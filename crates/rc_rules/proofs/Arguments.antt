@@ -13,7 +13,8 @@ use Rattle.rc_core.proofs.ShapeRows.{call_is}
 use Rattle.rc_deletes.specs.declared.fault.Refusal.TheVariants.{Unknown, Mistyped, Arity}
 use Rattle.rc_deletes.specs.Judged.{Holds, first_fault}
 use Rattle.rc_deletes.specs.Values.{Typed}
-use Rattle.rc_deletes.specs.Calls.{Callee, Parameter, of_type, is_defined, is_function, gives, parameters, fitted_arguments, with_argument, call_rule}
+use Rattle.rc_deletes.specs.Builtins.{Parameter, of_type}
+use Rattle.rc_deletes.specs.Calls.{Callee, is_defined, is_function, gives, parameters, fitted_arguments, with_argument, call_rule}
 use Rattle.rc_rules.specs.Parameters.{fitted_at}
 use Rattle.rc_rules.specs.Shapes.{code_of}
 

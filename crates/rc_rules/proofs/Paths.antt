@@ -1,20 +1,15 @@
 -- Paths that go on inward, and places with a path, as the code makes them.
-use Rattle.std.proofs.Common.{◌≡◌, ℕ, refl, ap, sym, ◌∙◌, List, [], ◌∷◌, ◌++◌, Option, Some, None}
+use Rattle.std.proofs.Common.{◌≡◌, ℕ, refl, ap, sym, ◌∙◌, List, [], ◌∷◌, ◌++◌}
 use Rattle.std.specs.declared.boxed.Box.{Box}
 use Rattle.std.specs.declared.vec.Vec.{Vec}
 use Rattle.std.specs.declared.alloc.Global.{Global as Alloc}
-use Rattle.rc_syntax.specs.declared.tree.Spot.{Spot}
 use Rattle.rc_core.specs.declared.expr.Expr.{Expr as CodeExpr}
 use Rattle.rc_core.specs.declared.expr.Place.{Place as CodePlace, Global, Pointed, Indexed}
 use Rattle.rc_core.specs.declared.expr.PathStep.{PathStep, Field, Element}
-use Rattle.rc_core.specs.Types.{Ty}
 use Rattle.rc_core.specs.Programs.{Path, here, global, pointed, indexed}
 use Rattle.rc_core.specs.Shapes.{expr_of, place_of, path_of, inward}
 use Rattle.rc_core.proofs.ShapeRows.{made_global, made_pointed, made_indexed, global_is, pointed_is, indexed_is}
-use Rattle.rc_deletes.specs.Judged.{Holds}
-use Rattle.rc_deletes.specs.Scopes.{a_global}
-use Rattle.rc_deletes.specs.Values.{a_place}
-use Rattle.rc_deletes.specs.Expressions.{path_then, inward as further, name_rule}
+use Rattle.rc_deletes.specs.Expressions.{path_then, inward as further}
 
 step_then : (s : PathStep) (path end : Path) → path_then (inward s path) end ≡ inward s (path_then path end)
 step_then (Field s f) path end = refl

@@ -5,6 +5,7 @@ ghost use Rattle.rc_core.specs.Programs as p;
 ghost use Rattle.rc_core.specs.Types.{int, region as region_type, pointer};
 ghost use Rattle.rc_core.specs.Typing.{value_type};
 ghost use Rattle.rc_core.specs.declared.ty.Note.TheVariants.{Plain};
+ghost use Rattle.rc_deletes.specs.Builtins.{parameter_of};
 ghost use Rattle.rc_deletes.specs.Calls as rule;
 ghost use Rattle.rc_deletes.specs.Judged.{Holds};
 ghost use Rattle.rc_deletes.specs.Values.{fitted as fitted_value};
@@ -18,7 +19,7 @@ use crate::meanings::{Callee, Meaning};
 use rc_core::expr::Expr;
 use rc_core::stmt::Stmt;
 use rc_core::ty::{Note, Ty};
-use rc_deletes::{Builtin, Refusal, Sort};
+use rc_deletes::{Builtin, Parameter, Refusal, Sort};
 use rc_operators::{Stop, Typed, add, boxed, copy_of, fails, fitted, sort_of, typed, value_type};
 use rc_syntax::tree::Spot;
 use std::alloc::Global;
@@ -28,13 +29,8 @@ use std::alloc::Global;
 enum Parameters<'a> {
     /// Each what its type takes.
     Types(&'a [Ty]),
-    None,
-    /// One, which takes a region.
-    Region,
-    /// One, which takes an `int`.
-    Int,
-    /// One, which takes every pointer.
-    AnyPointer,
+    /// Those of a built-in function.
+    Builtin(&'static [Parameter]),
 }
 
 /// What a called name stands for.
@@ -87,12 +83,10 @@ fn gives(alloc: Global, callee: Callee) -> Result<Option<Ty>, Stop>
             }
             None => Ok(None),
         },
-        Callee::Builtin(Builtin::NewRegion) => Ok(Some(Ty::Region)),
-        Callee::Builtin(Builtin::NewSubregion) => Ok(Some(Ty::Region)),
-        Callee::Builtin(Builtin::DeleteRegion) => Ok(None),
-        Callee::Builtin(Builtin::RegionOf) => Ok(Some(Ty::Region)),
-        Callee::Builtin(Builtin::Putchar) => Ok(Some(Ty::Int)),
-        Callee::Builtin(Builtin::Getchar) => Ok(Some(Ty::Int)),
+        Callee::Builtin(builtin) => match builtin.gives() {
+            Some(ty) => Ok(Some(value_type(ty))),
+            None => Ok(None),
+        },
         Callee::NoFunction => Ok(None),
     }
 }
@@ -103,7 +97,7 @@ fn gives_value(callee: Callee) -> bool
 {
     match callee {
         Callee::Function(_, signature) => signature.gives.is_some(),
-        Callee::Builtin(builtin) => !matches!(builtin, Builtin::DeleteRegion),
+        Callee::Builtin(builtin) => builtin.gives().is_some(),
         Callee::NoFunction => false,
     }
 }
@@ -132,13 +126,8 @@ fn taken_by<'a>(callee: Callee<'a>) -> Parameters<'a>
 {
     match callee {
         Callee::Function(_, signature) => Parameters::Types(&signature.takes),
-        Callee::Builtin(Builtin::NewRegion) => Parameters::None,
-        Callee::Builtin(Builtin::NewSubregion) => Parameters::Region,
-        Callee::Builtin(Builtin::DeleteRegion) => Parameters::Region,
-        Callee::Builtin(Builtin::RegionOf) => Parameters::AnyPointer,
-        Callee::Builtin(Builtin::Putchar) => Parameters::Int,
-        Callee::Builtin(Builtin::Getchar) => Parameters::None,
-        Callee::NoFunction => Parameters::None,
+        Callee::Builtin(builtin) => Parameters::Builtin(builtin.parameters()),
+        Callee::NoFunction => Parameters::Types(&[]),
     }
 }
 
@@ -148,10 +137,19 @@ fn count(parameters: Parameters) -> usize
 {
     match parameters {
         Parameters::Types(types) => types.len(),
-        Parameters::None => 0,
-        Parameters::Region => 1,
-        Parameters::Int => 1,
-        Parameters::AnyPointer => 1,
+        Parameters::Builtin(parameters) => parameters.len(),
+    }
+}
+
+/// An argument of a built-in function.
+fn fitted_builtin(alloc: Global, parameter: Parameter, v: Typed) -> Result<Option<Box<Expr>>, Stop>
+    ensures ok { IfOk result (λ e. option_map code_of e ≡ rule.fitted_argument (parameter_of parameter) (typed_of v)) }
+    ensures err { IfErr result (λ s. s ≡ Stop.Memory) }
+{
+    match parameter {
+        Parameter::Int => fitted(alloc, &Ty::Int, v),
+        Parameter::Region => fitted(alloc, &Ty::Region, v),
+        Parameter::AnyPointer => Ok(if_pointer(v)),
     }
 }
 
@@ -168,10 +166,7 @@ fn fitted_argument(
 {
     match parameters {
         Parameters::Types(types) => fitted(alloc, &types[place], v),
-        Parameters::None => Ok(None),
-        Parameters::Region => fitted(alloc, &Ty::Region, v),
-        Parameters::Int => fitted(alloc, &Ty::Int, v),
-        Parameters::AnyPointer => Ok(if_pointer(v)),
+        Parameters::Builtin(parameters) => fitted_builtin(alloc, parameters[place], v),
     }
 }
 

@@ -1,11 +1,11 @@
 // The rules of what stands outside of functions, one node at a time.
 ghost use Rattle.std.specs.Prelude.{◌≡◌, [], ◌∷◌, map, option_map, IfOk, OnOk, IfErr, Option, Some, None, ◌||◌, nat_lt, is_none, ◌&&◌};
-ghost use Rattle.rc_core.specs.Arithmetic as arithmetic;
 ghost use Rattle.rc_core.specs.Shapes.{ty_of};
 ghost use Rattle.rc_deletes.specs.Answer as answer;
+ghost use Rattle.rc_deletes.specs.Builtins.{parameter_of};
 ghost use Rattle.rc_deletes.specs.Items as rule;
 ghost use Rattle.rc_deletes.specs.Judged.{Holds, failing, ruled};
-ghost use Rattle.rc_deletes.specs.Scopes.{Context, builtin_signature};
+ghost use Rattle.rc_deletes.specs.Scopes.{Context};
 ghost use Rattle.rc_deletes.specs.declared.fault.Refusal.TheVariants.{Mistyped, TooBig};
 ghost use Rattle.rc_operators.specs.Stops.{StopsAt, IsRule};
 ghost use Rattle.rc_rules.specs.Shapes.{meaning_of, signature_of};
@@ -13,8 +13,9 @@ ghost use Rattle.rc_syntax.specs.Shape as written;
 ghost use Rattle.rc_syntax.specs.Tree as t;
 
 use crate::meanings::{Meaning, Signature};
-use rc_core::ty::{NumberType, Ty};
-use rc_deletes::{Builtin, Refusal, Sort};
+use rc_core::converted;
+use rc_core::ty::Ty;
+use rc_deletes::{Builtin, Parameter, Refusal, Sort};
 use rc_operators::{Stop, fails, is_struct, same_type, sort_of_type};
 use rc_syntax::tree::{Base, Constant, Name, Param, Spot, TypeName};
 
@@ -54,29 +55,6 @@ fn written_value(constant: &Constant) -> Option<i64>
         Constant::Character(_, c) => Some(*c as i64),
         Constant::Null(_) => None,
         Constant::Eof(_) => Some(-1),
-    }
-}
-
-/// The `int` with the same 32 bits of two's complement.
-fn as_int(value: i64) -> i64
-    ensures { result ≡ arithmetic.as_int value }
-{
-    let bits = value.rem_euclid(4_294_967_296);
-    if bits < 2_147_483_648 {
-        bits
-    } else {
-        bits - 4_294_967_296
-    }
-}
-
-/// A number in a type, by the conversion of that type.
-fn converted(to: NumberType, value: i64) -> i64
-    ensures { result ≡ arithmetic.converted to value }
-{
-    match to {
-        NumberType::Int => as_int(value),
-        NumberType::Unsigned => value.rem_euclid(4_294_967_296),
-        NumberType::Char => value.rem_euclid(256),
     }
 }
 
@@ -127,7 +105,7 @@ pub fn global_rule(
     if is_empty(length) {
         return fails(at, Refusal::TooBig);
     }
-    if cells > 1_048_576 {
+    if cells > rc_base::MOST_GLOBAL_CELLS {
         return fails(at, Refusal::TooBig);
     }
     Ok(value)
@@ -170,39 +148,58 @@ fn same_bool(a: bool, b: bool) -> bool
     !b
 }
 
-/// Whether a signature has these parts.
-fn has_parts(takes: &[Ty], gives: &Option<Ty>, deletes: bool, s: &Signature) -> bool
-    ensures { result ≡ rule.agrees (record { takes = map ty_of takes.now; gives = option_map ty_of gives.now; deletes = deletes }) (signature_of s.now) }
-{
-    if !same_takes(takes, &s.takes) {
-        return false;
-    }
-    if !same_result(gives, &s.gives) {
-        return false;
-    }
-    same_bool(deletes, s.deletes)
-}
-
 /// Whether two declarations of a function agree, the annotation of each last star included.
 fn agrees(a: &Signature, b: &Signature) -> bool
     ensures { result ≡ rule.agrees (signature_of a.now) (signature_of b.now) }
 {
-    has_parts(&a.takes, &a.gives, a.deletes, b)
+    if !same_takes(&a.takes, &b.takes) {
+        return false;
+    }
+    if !same_result(&a.gives, &b.gives) {
+        return false;
+    }
+    same_bool(a.deletes, b.deletes)
+}
+
+/// Whether a declaration can say what a parameter of a built-in function takes, and says this type.
+fn is_taken(parameter: Parameter, ty: &Ty) -> bool
+    ensures { result ≡ rule.is_taken (parameter_of parameter) (ty_of ty.now) }
+{
+    match parameter {
+        Parameter::Int => same_type(&Ty::Int, ty),
+        Parameter::Region => same_type(&Ty::Region, ty),
+        Parameter::AnyPointer => false,
+    }
+}
+
+/// Whether a built-in function takes what a declaration says.
+#[tactic(auto, using(crate::proofs::Agreeing::other_numbers))]
+fn are_taken(parameters: &[Parameter], types: &[Ty]) -> bool
+    ensures { result ≡ rule.are_taken (map parameter_of parameters.now) (map ty_of types.now) }
+{
+    if parameters.len() != types.len() {
+        return false;
+    }
+    for i in 0..parameters.len() {
+        if !is_taken(parameters[i], &types[i]) {
+            return false;
+        }
+    }
+    true
 }
 
 /// Whether a declaration agrees with a function that every text has. None does with `regionof`,
 /// which takes pointers of every type.
 fn builtin_agrees(builtin: Builtin, s: &Signature) -> bool
-    ensures { result ≡ rule.agrees_with (builtin_signature builtin) (signature_of s.now) }
+    ensures { result ≡ rule.agrees_with builtin (signature_of s.now) }
 {
-    match builtin {
-        Builtin::NewRegion => has_parts(&[], &Some(Ty::Region), false, s),
-        Builtin::NewSubregion => has_parts(&[Ty::Region], &Some(Ty::Region), false, s),
-        Builtin::DeleteRegion => has_parts(&[Ty::Region], &None, true, s),
-        Builtin::RegionOf => false,
-        Builtin::Putchar => has_parts(&[Ty::Int], &Some(Ty::Int), false, s),
-        Builtin::Getchar => has_parts(&[], &Some(Ty::Int), false, s),
+    if !are_taken(builtin.parameters(), &s.takes) {
+        return false;
     }
+    if !same_result(&builtin.gives(), &s.gives) {
+        return false;
+    }
+    same_bool(builtin.deletes(), s.deletes)
 }
 
 /// The name of a function that was declared before.

@@ -1,5 +1,6 @@
 // The rules of statements, one node at a time.
 ghost use Rattle.std.specs.Prelude.{◌≡◌, option_map, IfOk, IfErr, Option, Some, None, nat_le, get_or};
+ghost use Rattle.rc_base.specs.Limits.{most_copied_cells};
 ghost use Rattle.rc_core.specs.Programs as p;
 ghost use Rattle.rc_core.specs.Shapes.{ty_of, expr_of, place_of, stmt_of};
 ghost use Rattle.rc_deletes.specs.Judged.{Holds, fitting as fits};
@@ -14,6 +15,7 @@ ghost use Rattle.rc_rules.specs.Shapes.{meaning_of, right_of};
 ghost use Rattle.rc_rules.specs.Sizes.{TellSmall};
 
 use crate::meanings::{Meaning, RightSide};
+use rc_base::MOST_COPIED_CELLS;
 use rc_core::expr::{Expr, Place};
 use rc_core::stmt::Stmt;
 use rc_core::ty::{Signedness, Ty};
@@ -76,10 +78,10 @@ pub fn right_side(alloc: Global, at: Spot, meant: Meant) -> Result<RightSide, St
 
 /// Whether values of a struct may be assigned whole.
 fn is_small(sizes: &[u32], structure: u32) -> bool
-    ensures { result ≡ nat_le (get_or sizes.now structure 0) 256 }
+    ensures { result ≡ nat_le (get_or sizes.now structure 0) most_copied_cells }
 {
     match sizes.get(structure as usize) {
-        Some(size) => *size <= 256,
+        Some(size) => *size <= MOST_COPIED_CELLS,
         None => true,
     }
 }

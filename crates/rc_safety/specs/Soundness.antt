@@ -4,8 +4,7 @@ use Rattle.std.specs.Prelude.{◌≡◌, ℕ, ◌<◌, Bool, true, false, nat_eq
 use Rattle.std.specs.List.{AllByRecursion as Every, AllZip}
 use Rattle.rc_core.specs.Types.{CellKind}
 use Rattle.rc_core.specs.Layout.{note_of}
-use Rattle.rc_core.specs.Heap.{Value, Object, Region, Heap, region_at, live, parent, is_fresh, fits}
-use Rattle.rc_core.specs.Store.{kinds_of}
+use Rattle.rc_core.specs.Heap.{Value, Object, kinds_of, Region, Heap, region_at, live, parent, is_fresh, fits}
 
 -- All but the last is said of any `live` and `parent`, since most steps leave both as they were.
 

@@ -49,10 +49,7 @@ impl<T: Drop> Pile<T> {
         ensures ok { OnOk result (self.new ≡ item ∷ self.old) }
         ensures err { OnErr result (self.new ≡ self.old) }
     {
-        match self.items.push(item) {
-            Ok(()) => Ok(()),
-            Err(_) => Err(NoMemory),
-        }
+        Ok(self.items.push(item)?)
     }
 
     /// Takes the topmost away, or answers none where there is none.

@@ -9,7 +9,7 @@ ghost use Rattle.rc_core.specs.Shapes.{function_of, program_of};
 ghost use Rattle.rc_slow.specs.Beginning.{Begins, from_beginning};
 ghost use Rattle.rc_slow.specs.Evaluates.{Evaluates};
 ghost use Rattle.rc_slow.specs.Going.{Arrives, way_from};
-ghost use Rattle.rc_memory.specs.Laid.{AreLaidOut};
+ghost use Rattle.rc_core.specs.Laid.{AreLaidOut};
 ghost use Rattle.rc_slow.specs.Performing.{LeavesOutside};
 ghost use Rattle.rc_memory.specs.Values.{value_of};
 ghost use Rattle.rc_memory.specs.declared.stop.Stop.TheVariants.{Cut};
@@ -19,7 +19,8 @@ use crate::run::run_to_end;
 use rc_base::{End, Limits, RunFault, Sink, Source};
 use rc_core::parts::{Function, Parts};
 use rc_core::program::Program;
-use rc_memory::{Heap, Layouts, Stop, Value, Values, number_in};
+use rc_core::{Layouts, as_int};
+use rc_memory::{Heap, Stop, Value, Values, number_in};
 use rc_nodes::{Activation, Callers, Control, Setting, Waiting, first_locals};
 use std::alloc::Global;
 
@@ -100,12 +101,7 @@ fn run_main<'p, S: Source, O: Sink>(
 fn exit_value(value: Value) -> i32
     ensures { result ≡ as_int (number_in (value_of value)) }
 {
-    let bits = number_in(value).rem_euclid(4_294_967_296);
-    if bits < 2_147_483_648 {
-        bits as i32
-    } else {
-        (bits - 4_294_967_296) as i32
-    }
+    as_int(number_in(value))
 }
 
 /// What is answered where a deleted region was touched. No run comes to that over an input that tells

@@ -10,7 +10,7 @@ ghost use Rattle.rc_slow.specs.Advancing.{Advances, Leads, LeadsTo, standing, st
 ghost use Rattle.rc_nodes.specs.Codes.{control_of, frame_of, frames_of, stage_of};
 ghost use Rattle.rc_nodes.specs.Frames.{Frame as MachineFrame};
 ghost use Rattle.rc_memory.specs.KeptWorld.{KeptWorld};
-ghost use Rattle.rc_memory.specs.Laid.{AreLaidOut};
+ghost use Rattle.rc_core.specs.Laid.{AreLaidOut};
 ghost use Rattle.rc_nodes.specs.Waiting.{waiting_of};
 ghost use Rattle.rc_nodes.specs.Stepping.{Control as MachineControl, doing, first_step, given_step};
 ghost use Rattle.rc_memory.specs.Values.{value_of};
@@ -18,10 +18,11 @@ ghost use Rattle.rc_slow.specs.declared.machine.Machine.{Machine as CodeMachine}
 ghost use Rattle.rc_slow.specs.Whole.{Progress as MachineProgress, State, aim_step, argument_step, breaks_step, call_from, call_step, continues_step, control_step, entered, evaluate_step, give_step, goes_step, leave_step, returns_step, staying};
 
 use rc_base::End;
+use rc_core::byte_of;
 use rc_core::expr::Expr;
 use rc_core::parts::Function;
 use rc_core::stmt::Stmt;
-use rc_memory::{Heap, Stop, Target, Value, Values, byte_of, number_in, zero_of};
+use rc_memory::{Heap, Stop, Target, Value, Values, number_in, zero_of};
 use rc_nodes::{
     Activation, Callers, Control, Frame, Setting, Stage, Waiting, allocate, begin_expression,
     begin_statement, broke_to_statement, continued_to_statement, done_to_statement, first_locals,

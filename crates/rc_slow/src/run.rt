@@ -5,7 +5,7 @@ ghost use Rattle.rc_core.specs.Shapes.{program_of};
 ghost use Rattle.rc_nodes.specs.Codes.{control_of};
 ghost use Rattle.rc_slow.specs.Falling.{Lessens, TakesTurn};
 ghost use Rattle.rc_slow.specs.Going.{Arrives, Comes, GoesOn};
-ghost use Rattle.rc_memory.specs.Laid.{AreLaidOut};
+ghost use Rattle.rc_core.specs.Laid.{AreLaidOut};
 ghost use Rattle.rc_slow.specs.Performing.{LeavesOutside};
 
 use crate::machine::{Machine, step};

@@ -1,5 +1,6 @@
 // Blocks: statements and declarations of locals (ISO C 6.8.2).
 ghost use Rattle.std.specs.Prelude.{◌≡◌, ◌<◌, ◌≤◌, IfOk, IfErr, length, map, true, false};
+ghost use Rattle.rc_base.specs.Limits.{most_depth, most_words};
 ghost use Rattle.rc_syntax.specs.declared.fault.ParseFault.TheVariants.{Memory};
 ghost use Rattle.rc_syntax.specs.declared.word.Mark.TheVariants as m;
 ghost use Rattle.rc_syntax.specs.Tokens.{mark};
@@ -28,9 +29,9 @@ pub fn block_statement(
     at: u32,
     depth: u32,
 ) -> Result<(Box<Stmt>, u32), ParseFault>
-    requires few { length tokens.now ≤ 1048576 }
+    requires few { length tokens.now ≤ most_words }
     requires here { Stands tokens.now at (mark m.OpenBrace) }
-    requires shallow { depth ≤ 200 }
+    requires shallow { depth ≤ most_depth }
     ensures reads { Starts g.Stmt depth tokens.now at boxed_stmt result }
     ensures place { IfOk result (λ r. (at < r.1) × (r.1 ≤ length tokens.now)) }
 {
@@ -48,9 +49,9 @@ pub fn block(
     at: u32,
     depth: u32,
 ) -> Result<(Vec<Stmt>, u32), ParseFault>
-    requires few { length tokens.now ≤ 1048576 }
+    requires few { length tokens.now ≤ most_words }
     requires within { at ≤ length tokens.now }
-    requires shallow { depth ≤ 200 }
+    requires shallow { depth ≤ most_depth }
     ensures reads { Parses g.Block depth tokens.now at (λ v. shape.stmts_of v.items) result }
     ensures place { IfOk result (λ r. (at < r.1) × (r.1 ≤ length tokens.now)) }
 {
@@ -67,10 +68,10 @@ fn body(
     inside: u32,
     depth: u32,
 ) -> Result<(Vec<Stmt>, u32), ParseFault>
-    requires few { length tokens.now ≤ 1048576 }
+    requires few { length tokens.now ≤ most_words }
     requires within { inside ≤ length tokens.now }
     requires behind { at < inside }
-    requires shallow { depth ≤ 200 }
+    requires shallow { depth ≤ most_depth }
     ensures reads { Proceeds g.Block depth tokens.now at inside r.block_body (λ v. shape.stmts_of v.items) result }
     ensures place { IfOk result (λ r. (inside < r.1) × (r.1 ≤ length tokens.now)) }
 {
@@ -96,11 +97,11 @@ fn next(
     place: u32,
     depth: u32,
 ) -> Result<(Vec<Stmt>, u32), ParseFault>
-    requires few { length tokens.now ≤ 1048576 }
+    requires few { length tokens.now ≤ most_words }
     requires within { place ≤ length tokens.now }
     requires behind { at < inside }
     requires later { inside ≤ place }
-    requires shallow { depth ≤ 200 }
+    requires shallow { depth ≤ most_depth }
     requires open { Misses tokens.now place (mark m.CloseBrace) }
     ensures reads { Grows depth tokens.now at inside place (shape.stmts_of before.items) result }
     ensures place { IfOk result (λ r. (place < r.1) × (r.1 ≤ length tokens.now)) }
@@ -121,11 +122,11 @@ fn next_locals(
     place: u32,
     depth: u32,
 ) -> Result<(Vec<Stmt>, u32), ParseFault>
-    requires few { length tokens.now ≤ 1048576 }
+    requires few { length tokens.now ≤ most_words }
     requires within { place ≤ length tokens.now }
     requires behind { at < inside }
     requires later { inside ≤ place }
-    requires shallow { depth ≤ 200 }
+    requires shallow { depth ≤ most_depth }
     requires open { Misses tokens.now place (mark m.CloseBrace) }
     requires typed { begins_base (word_at tokens.now place) ≡ true }
     ensures reads { Grows depth tokens.now at inside place (shape.stmts_of before.items) result }
@@ -159,11 +160,11 @@ fn next_statement(
     place: u32,
     depth: u32,
 ) -> Result<(Vec<Stmt>, u32), ParseFault>
-    requires few { length tokens.now ≤ 1048576 }
+    requires few { length tokens.now ≤ most_words }
     requires within { place ≤ length tokens.now }
     requires behind { at < inside }
     requires later { inside ≤ place }
-    requires shallow { depth ≤ 200 }
+    requires shallow { depth ≤ most_depth }
     requires open { Misses tokens.now place (mark m.CloseBrace) }
     requires untyped { begins_base (word_at tokens.now place) ≡ false }
     ensures reads { Grows depth tokens.now at inside place (shape.stmts_of before.items) result }

@@ -1,5 +1,6 @@
 // `if` statements (ISO C 6.8.4.1), and the conditions of statements.
 ghost use Rattle.std.specs.Prelude.{◌≡◌, ◌<◌, ◌≤◌, IfOk, length};
+ghost use Rattle.rc_base.specs.Limits.{most_depth, most_words};
 ghost use Rattle.rc_syntax.specs.declared.word.Key.TheVariants.{If};
 ghost use Rattle.rc_syntax.specs.Tokens.{key};
 ghost use Rattle.rc_syntax.specs.Grammar as g;
@@ -26,10 +27,10 @@ pub fn condition(
     place: u32,
     depth: u32,
 ) -> Result<(Box<Expr>, u32), ParseFault>
-    requires few { length tokens.now ≤ 1048576 }
+    requires few { length tokens.now ≤ most_words }
     requires within { place ≤ length tokens.now }
     requires behind { at < place }
-    requires shallow { depth ≤ 200 }
+    requires shallow { depth ≤ most_depth }
     ensures reads { ReadsCondition depth tokens.now at place result }
     ensures place { IfOk result (λ r. (place < r.1) × (r.1 ≤ length tokens.now)) }
 {
@@ -48,9 +49,9 @@ pub fn if_statement(
     at: u32,
     depth: u32,
 ) -> Result<(Box<Stmt>, u32), ParseFault>
-    requires few { length tokens.now ≤ 1048576 }
+    requires few { length tokens.now ≤ most_words }
     requires here { Stands tokens.now at (key If) }
-    requires shallow { depth ≤ 200 }
+    requires shallow { depth ≤ most_depth }
     ensures reads { Starts g.Stmt depth tokens.now at boxed_stmt result }
     ensures place { IfOk result (λ r. (at < r.1) × (r.1 ≤ length tokens.now)) }
 {
@@ -70,10 +71,10 @@ fn if_done(
     place: u32,
     depth: u32,
 ) -> Result<(Box<Stmt>, u32), ParseFault>
-    requires few { length tokens.now ≤ 1048576 }
+    requires few { length tokens.now ≤ most_words }
     requires within { place ≤ length tokens.now }
     requires behind { at < place }
-    requires shallow { depth ≤ 200 }
+    requires shallow { depth ≤ most_depth }
     ensures reads { Proceeds g.Stmt depth tokens.now at place (r.if_done (spot_of tokens.now at) (boxed_of test) (boxed_stmt then)) boxed_stmt result }
     ensures place { IfOk result (λ r. (place ≤ r.1) × (r.1 ≤ length tokens.now)) }
 {

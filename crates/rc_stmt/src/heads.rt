@@ -1,5 +1,6 @@
 // The heads of `for` statements (ISO C 6.8.5.3), and the expression of a `return`.
 ghost use Rattle.std.specs.Prelude.{◌≡◌, ◌<◌, ◌≤◌, IfOk, length, true, false};
+ghost use Rattle.rc_base.specs.Limits.{most_depth, most_words};
 ghost use Rattle.rc_syntax.specs.declared.word.Mark.TheVariants as m;
 ghost use Rattle.rc_syntax.specs.Tokens.{mark};
 ghost use Rattle.rc_syntax.specs.Grammar as g;
@@ -25,9 +26,9 @@ pub fn for_start(
     at: u32,
     depth: u32,
 ) -> Result<(Box<ForStart>, u32), ParseFault>
-    requires few { length tokens.now ≤ 1048576 }
+    requires few { length tokens.now ≤ most_words }
     requires within { at ≤ length tokens.now }
-    requires shallow { depth ≤ 200 }
+    requires shallow { depth ≤ most_depth }
     ensures reads { Parses g.ForStart depth tokens.now at boxed_start result }
     ensures place { IfOk result (λ r. (at < r.1) × (r.1 ≤ length tokens.now)) }
 {
@@ -48,9 +49,9 @@ fn for_locals(
     at: u32,
     depth: u32,
 ) -> Result<(Box<ForStart>, u32), ParseFault>
-    requires few { length tokens.now ≤ 1048576 }
+    requires few { length tokens.now ≤ most_words }
     requires within { at ≤ length tokens.now }
-    requires shallow { depth ≤ 200 }
+    requires shallow { depth ≤ most_depth }
     requires typed { begins_base (word_at tokens.now at) ≡ true }
     ensures reads { Parses g.ForStart depth tokens.now at boxed_start result }
     ensures place { IfOk result (λ r. (at < r.1) × (r.1 ≤ length tokens.now)) }
@@ -67,9 +68,9 @@ fn for_simple(
     at: u32,
     depth: u32,
 ) -> Result<(Box<ForStart>, u32), ParseFault>
-    requires few { length tokens.now ≤ 1048576 }
+    requires few { length tokens.now ≤ most_words }
     requires within { at ≤ length tokens.now }
-    requires shallow { depth ≤ 200 }
+    requires shallow { depth ≤ most_depth }
     requires some { Misses tokens.now at (mark m.Semicolon) }
     requires untyped { begins_base (word_at tokens.now at) ≡ false }
     ensures reads { Parses g.ForStart depth tokens.now at boxed_start result }
@@ -89,9 +90,9 @@ pub fn expr_end(
     at: u32,
     depth: u32,
 ) -> Result<(Option<Box<Expr>>, u32), ParseFault>
-    requires few { length tokens.now ≤ 1048576 }
+    requires few { length tokens.now ≤ most_words }
     requires within { at ≤ length tokens.now }
-    requires shallow { depth ≤ 200 }
+    requires shallow { depth ≤ most_depth }
     ensures reads { Parses g.ExprEnd depth tokens.now at (λ e. shape.mapped boxed_of e) result }
     ensures place { IfOk result (λ r. (at < r.1) × (r.1 ≤ length tokens.now)) }
 {
@@ -111,9 +112,9 @@ pub fn simple_end(
     at: u32,
     depth: u32,
 ) -> Result<(Option<Box<Simple>>, u32), ParseFault>
-    requires few { length tokens.now ≤ 1048576 }
+    requires few { length tokens.now ≤ most_words }
     requires within { at ≤ length tokens.now }
-    requires shallow { depth ≤ 200 }
+    requires shallow { depth ≤ most_depth }
     ensures reads { Parses g.SimpleEnd depth tokens.now at (λ e. shape.mapped boxed_simple e) result }
     ensures place { IfOk result (λ r. (at < r.1) × (r.1 ≤ length tokens.now)) }
 {

@@ -1,5 +1,6 @@
 // Loops (ISO C 6.8.5).
 ghost use Rattle.std.specs.Prelude.{◌≡◌, ◌<◌, ◌≤◌, IfOk, length};
+ghost use Rattle.rc_base.specs.Limits.{most_depth, most_words};
 ghost use Rattle.rc_syntax.specs.declared.word.Key.TheVariants.{While, Do, For};
 ghost use Rattle.rc_syntax.specs.Tokens.{key};
 ghost use Rattle.rc_syntax.specs.Grammar as g;
@@ -29,9 +30,9 @@ pub fn while_statement(
     at: u32,
     depth: u32,
 ) -> Result<(Box<Stmt>, u32), ParseFault>
-    requires few { length tokens.now ≤ 1048576 }
+    requires few { length tokens.now ≤ most_words }
     requires here { Stands tokens.now at (key While) }
-    requires shallow { depth ≤ 200 }
+    requires shallow { depth ≤ most_depth }
     ensures reads { Starts g.Stmt depth tokens.now at boxed_stmt result }
     ensures place { IfOk result (λ r. (at < r.1) × (r.1 ≤ length tokens.now)) }
 {
@@ -50,9 +51,9 @@ pub fn do_statement(
     at: u32,
     depth: u32,
 ) -> Result<(Box<Stmt>, u32), ParseFault>
-    requires few { length tokens.now ≤ 1048576 }
+    requires few { length tokens.now ≤ most_words }
     requires here { Stands tokens.now at (key Do) }
-    requires shallow { depth ≤ 200 }
+    requires shallow { depth ≤ most_depth }
     ensures reads { Starts g.Stmt depth tokens.now at boxed_stmt result }
     ensures place { IfOk result (λ r. (at < r.1) × (r.1 ≤ length tokens.now)) }
 {
@@ -69,10 +70,10 @@ fn until(
     place: u32,
     depth: u32,
 ) -> Result<(Box<Stmt>, u32), ParseFault>
-    requires few { length tokens.now ≤ 1048576 }
+    requires few { length tokens.now ≤ most_words }
     requires within { place ≤ length tokens.now }
     requires behind { at < place }
-    requires shallow { depth ≤ 200 }
+    requires shallow { depth ≤ most_depth }
     ensures reads { Proceeds g.Stmt depth tokens.now at place (r.until (spot_of tokens.now at) (boxed_stmt body)) boxed_stmt result }
     ensures place { IfOk result (λ r. (place < r.1) × (r.1 ≤ length tokens.now)) }
 {
@@ -92,9 +93,9 @@ pub fn for_statement(
     at: u32,
     depth: u32,
 ) -> Result<(Box<Stmt>, u32), ParseFault>
-    requires few { length tokens.now ≤ 1048576 }
+    requires few { length tokens.now ≤ most_words }
     requires here { Stands tokens.now at (key For) }
-    requires shallow { depth ≤ 200 }
+    requires shallow { depth ≤ most_depth }
     ensures reads { Starts g.Stmt depth tokens.now at boxed_stmt result }
     ensures place { IfOk result (λ r. (at < r.1) × (r.1 ≤ length tokens.now)) }
 {
@@ -113,10 +114,10 @@ fn for_started(
     place: u32,
     depth: u32,
 ) -> Result<(Box<Stmt>, u32), ParseFault>
-    requires few { length tokens.now ≤ 1048576 }
+    requires few { length tokens.now ≤ most_words }
     requires within { place ≤ length tokens.now }
     requires behind { at < place }
-    requires shallow { depth ≤ 200 }
+    requires shallow { depth ≤ most_depth }
     ensures reads { Proceeds g.Stmt depth tokens.now at place (along.for_rest (spot_of tokens.now at) (boxed_start start)) boxed_stmt result }
     ensures place { IfOk result (λ r. (place < r.1) × (r.1 ≤ length tokens.now)) }
 {

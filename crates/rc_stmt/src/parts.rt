@@ -1,6 +1,7 @@
 // Words and parts that several productions have. No expression is open around them, so that no word
 // of theirs is too far.
 ghost use Rattle.std.specs.Prelude.{◌≡◌, ◌<◌, ◌≤◌, ◌+◌, [], IfOk, IfErr, MatchResult, length};
+ghost use Rattle.rc_base.specs.Limits.{most_depth, most_words};
 ghost use Rattle.rc_syntax.specs.declared.fault.ParseFault.TheVariants.{Memory, Syntax};
 ghost use Rattle.rc_syntax.specs.Tokens.{mark, key};
 ghost use Rattle.rc_syntax.specs.Grammar as g;
@@ -9,18 +10,16 @@ ghost use Rattle.rc_syntax.specs.Shape.{type_of};
 ghost use Rattle.rc_expr.specs.Goes.{boxed_of, line_of, Stands, Misses};
 ghost use Rattle.rc_stmt.specs.Along.{Parses, Proceeds, IsNamed};
 
+use rc_base::MOST_WORDS;
 use rc_expr::{is_key, is_mark, refused_at, shared};
 use rc_syntax::fault::ParseFault;
 use rc_syntax::tree::{Base, Expr, Name, Note, TypeName};
 use rc_syntax::word::{Key, Mark, Token};
 use std::alloc::Global;
 
-/// How many words a text may have.
-const MOST_WORDS: u32 = 1048576;
-
 /// Takes this mark, and answers the place after it.
 pub fn expect_mark(tokens: &[Token], at: u32, wanted: Mark) -> Result<u32, ParseFault>
-    requires { length tokens.now ≤ 1048576 }
+    requires { length tokens.now ≤ most_words }
     ensures { MatchResult result (λ e. Stands tokens.now at (mark wanted) × (e ≡ at + 1)) (λ f. Misses tokens.now at (mark wanted) × (f ≡ Syntax (line_of tokens.now at))) }
 {
     if is_mark(tokens, at, wanted) {
@@ -32,7 +31,7 @@ pub fn expect_mark(tokens: &[Token], at: u32, wanted: Mark) -> Result<u32, Parse
 
 /// Takes this reserved word, and answers the place after it.
 pub fn expect_key(tokens: &[Token], at: u32, wanted: Key) -> Result<u32, ParseFault>
-    requires { length tokens.now ≤ 1048576 }
+    requires { length tokens.now ≤ most_words }
     ensures { MatchResult result (λ e. Stands tokens.now at (key wanted) × (e ≡ at + 1)) (λ f. Misses tokens.now at (key wanted) × (f ≡ Syntax (line_of tokens.now at))) }
 {
     if is_key(tokens, at, wanted) {
@@ -44,7 +43,7 @@ pub fn expect_key(tokens: &[Token], at: u32, wanted: Key) -> Result<u32, ParseFa
 
 /// Takes a name, and answers the place after it.
 pub fn name(tokens: &[Token], at: u32) -> Result<(Name, u32), ParseFault>
-    requires { length tokens.now ≤ 1048576 }
+    requires { length tokens.now ≤ most_words }
     ensures { IsNamed tokens.now at result }
 {
     rc_expr::name(tokens, at, MOST_WORDS)
@@ -53,9 +52,9 @@ pub fn name(tokens: &[Token], at: u32) -> Result<(Name, u32), ParseFault>
 // base = "int" | "unsigned" ["int"] | "char" | "region" | "struct" NAME .
 /// Reads a base type.
 pub fn base(tokens: &[Token], at: u32, depth: u32) -> Result<(Base, u32), ParseFault>
-    requires few { length tokens.now ≤ 1048576 }
+    requires few { length tokens.now ≤ most_words }
     requires within { at ≤ length tokens.now }
-    requires shallow { depth ≤ 200 }
+    requires shallow { depth ≤ most_depth }
     ensures reads { Parses g.Base depth tokens.now at (λ b. b) result }
     ensures place { IfOk result (λ r. (at < r.1) × (r.1 ≤ length tokens.now)) }
 {
@@ -70,9 +69,9 @@ pub fn stars(
     at: u32,
     depth: u32,
 ) -> Result<(Vec<Note>, u32), ParseFault>
-    requires few { length tokens.now ≤ 1048576 }
+    requires few { length tokens.now ≤ most_words }
     requires within { at ≤ length tokens.now }
-    requires shallow { depth ≤ 200 }
+    requires shallow { depth ≤ most_depth }
     ensures reads { Proceeds g.Stars depth tokens.now at at (build []) (λ v. v.items) result }
     ensures place { IfOk result (λ r. (at ≤ r.1) × (r.1 ≤ length tokens.now)) }
 {
@@ -87,9 +86,9 @@ pub fn type_name(
     at: u32,
     depth: u32,
 ) -> Result<(TypeName, u32), ParseFault>
-    requires few { length tokens.now ≤ 1048576 }
+    requires few { length tokens.now ≤ most_words }
     requires within { at ≤ length tokens.now }
-    requires shallow { depth ≤ 200 }
+    requires shallow { depth ≤ most_depth }
     ensures reads { Parses g.TypeName depth tokens.now at type_of result }
     ensures place { IfOk result (λ r. (at < r.1) × (r.1 ≤ length tokens.now)) }
 {
@@ -104,9 +103,9 @@ pub fn expression(
     at: u32,
     depth: u32,
 ) -> Result<(Box<Expr>, u32), ParseFault>
-    requires few { length tokens.now ≤ 1048576 }
+    requires few { length tokens.now ≤ most_words }
     requires within { at ≤ length tokens.now }
-    requires shallow { depth ≤ 200 }
+    requires shallow { depth ≤ most_depth }
     ensures reads { Parses (g.Level 0) depth tokens.now at boxed_of result }
     ensures place { IfOk result (λ r. (at < r.1) × (r.1 ≤ length tokens.now)) }
 {
@@ -120,9 +119,9 @@ pub fn operand(
     at: u32,
     depth: u32,
 ) -> Result<(Box<Expr>, u32), ParseFault>
-    requires few { length tokens.now ≤ 1048576 }
+    requires few { length tokens.now ≤ most_words }
     requires within { at ≤ length tokens.now }
-    requires shallow { depth ≤ 200 }
+    requires shallow { depth ≤ most_depth }
     ensures reads { Parses g.Unary depth tokens.now at boxed_of result }
     ensures place { IfOk result (λ r. (at < r.1) × (r.1 ≤ length tokens.now)) }
 {

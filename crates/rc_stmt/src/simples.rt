@@ -1,5 +1,6 @@
 // Simple statements: assignments, steps, and expressions (ISO C 6.5.16, 6.8.3).
 ghost use Rattle.std.specs.Prelude.{◌≡◌, ◌<◌, ◌≤◌, IfOk, MatchOption, length};
+ghost use Rattle.rc_base.specs.Limits.{most_depth, most_words};
 ghost use Rattle.rc_syntax.specs.declared.word.Mark.TheVariants as m;
 ghost use Rattle.rc_syntax.specs.Tokens.{mark};
 ghost use Rattle.rc_syntax.specs.Grammar as g;
@@ -70,9 +71,9 @@ pub fn simple(
     at: u32,
     depth: u32,
 ) -> Result<(Box<Simple>, u32), ParseFault>
-    requires few { length tokens.now ≤ 1048576 }
+    requires few { length tokens.now ≤ most_words }
     requires within { at ≤ length tokens.now }
-    requires shallow { depth ≤ 200 }
+    requires shallow { depth ≤ most_depth }
     ensures reads { Parses g.Simple depth tokens.now at boxed_simple result }
     ensures place { IfOk result (λ r. (at < r.1) × (r.1 ≤ length tokens.now)) }
 {
@@ -93,9 +94,9 @@ fn stepped(
     at: u32,
     depth: u32,
 ) -> Result<(Box<Simple>, u32), ParseFault>
-    requires few { length tokens.now ≤ 1048576 }
+    requires few { length tokens.now ≤ most_words }
     requires here { Stands tokens.now at (mark (g.step_of op)) }
-    requires shallow { depth ≤ 200 }
+    requires shallow { depth ≤ most_depth }
     ensures reads { Parses g.Simple depth tokens.now at boxed_simple result }
     ensures place { IfOk result (λ r. (at < r.1) × (r.1 ≤ length tokens.now)) }
 {
@@ -112,9 +113,9 @@ fn unstepped(
     at: u32,
     depth: u32,
 ) -> Result<(Box<Simple>, u32), ParseFault>
-    requires few { length tokens.now ≤ 1048576 }
+    requires few { length tokens.now ≤ most_words }
     requires within { at ≤ length tokens.now }
-    requires shallow { depth ≤ 200 }
+    requires shallow { depth ≤ most_depth }
     requires not_up { Misses tokens.now at (mark m.PlusPlus) }
     requires not_down { Misses tokens.now at (mark m.MinusMinus) }
     ensures reads { Parses g.Simple depth tokens.now at boxed_simple result }
@@ -139,10 +140,10 @@ fn assigned(
     place: u32,
     depth: u32,
 ) -> Result<(Box<Simple>, u32), ParseFault>
-    requires few { length tokens.now ≤ 1048576 }
+    requires few { length tokens.now ≤ most_words }
     requires here { AssignmentStands tokens.now place assignment }
     requires behind { at < place }
-    requires shallow { depth ≤ 200 }
+    requires shallow { depth ≤ most_depth }
     ensures reads { Proceeds g.Simple depth tokens.now at place (r.left_side (spot_of tokens.now at) (boxed_of left)) boxed_simple result }
     ensures place { IfOk result (λ r. (place < r.1) × (r.1 ≤ length tokens.now)) }
 {

@@ -1,5 +1,6 @@
 // Statements (ISO C 6.8).
 ghost use Rattle.std.specs.Prelude.{◌≡◌, ◌<◌, ◌≤◌, IfOk, length, None};
+ghost use Rattle.rc_base.specs.Limits.{most_depth, most_words};
 ghost use Rattle.rc_syntax.specs.declared.word.Key.TheVariants.{Break, Continue, Return};
 ghost use Rattle.rc_syntax.specs.declared.word.Mark.TheVariants as m;
 ghost use Rattle.rc_syntax.specs.Tokens.{mark, key};
@@ -17,7 +18,8 @@ use crate::loops::{do_statement, for_statement, while_statement};
 use crate::nodes::unboxed;
 use crate::parts::expect_mark;
 use crate::simples::simple;
-use rc_expr::{MOST_DEPTH, boxed, spot_at};
+use rc_base::MOST_DEPTH;
+use rc_expr::{boxed, spot_at};
 use rc_syntax::fault::ParseFault;
 use rc_syntax::tree::Stmt;
 use rc_syntax::word::{Mark, Token};
@@ -37,9 +39,9 @@ pub fn statement(
     at: u32,
     depth: u32,
 ) -> Result<(Box<Stmt>, u32), ParseFault>
-    requires few { length tokens.now ≤ 1048576 }
+    requires few { length tokens.now ≤ most_words }
     requires within { at ≤ length tokens.now }
-    requires shallow { depth ≤ 200 }
+    requires shallow { depth ≤ most_depth }
     ensures reads { Parses g.Stmt depth tokens.now at boxed_stmt result }
     ensures place { IfOk result (λ r. (at < r.1) × (r.1 ≤ length tokens.now)) }
 {
@@ -57,9 +59,9 @@ fn nested(
     at: u32,
     depth: u32,
 ) -> Result<(Box<Stmt>, u32), ParseFault>
-    requires few { length tokens.now ≤ 1048576 }
+    requires few { length tokens.now ≤ most_words }
     requires within { at ≤ length tokens.now }
-    requires shallow { depth ≤ 200 }
+    requires shallow { depth ≤ most_depth }
     ensures reads { Starts g.Stmt depth tokens.now at boxed_stmt result }
     ensures place { IfOk result (λ r. (at < r.1) × (r.1 ≤ length tokens.now)) }
 {
@@ -78,9 +80,9 @@ fn headed(
     at: u32,
     depth: u32,
 ) -> Result<(Box<Stmt>, u32), ParseFault>
-    requires few { length tokens.now ≤ 1048576 }
+    requires few { length tokens.now ≤ most_words }
     requires here { Stands tokens.now at (along.first_word head) }
-    requires shallow { depth ≤ 200 }
+    requires shallow { depth ≤ most_depth }
     ensures reads { Starts g.Stmt depth tokens.now at boxed_stmt result }
     ensures place { IfOk result (λ r. (at < r.1) × (r.1 ≤ length tokens.now)) }
 {
@@ -105,9 +107,9 @@ fn empty_statement(
     at: u32,
     depth: u32,
 ) -> Result<(Box<Stmt>, u32), ParseFault>
-    requires few { length tokens.now ≤ 1048576 }
+    requires few { length tokens.now ≤ most_words }
     requires here { Stands tokens.now at (mark m.Semicolon) }
-    requires shallow { depth ≤ 200 }
+    requires shallow { depth ≤ most_depth }
     ensures reads { Starts g.Stmt depth tokens.now at boxed_stmt result }
     ensures place { IfOk result (λ r. (at < r.1) × (r.1 ≤ length tokens.now)) }
 {
@@ -123,9 +125,9 @@ fn simple_statement(
     at: u32,
     depth: u32,
 ) -> Result<(Box<Stmt>, u32), ParseFault>
-    requires few { length tokens.now ≤ 1048576 }
+    requires few { length tokens.now ≤ most_words }
     requires within { at ≤ length tokens.now }
-    requires shallow { depth ≤ 200 }
+    requires shallow { depth ≤ most_depth }
     requires other { along.head_in (word_at tokens.now at) ≡ None }
     ensures reads { Starts g.Stmt depth tokens.now at boxed_stmt result }
     ensures place { IfOk result (λ r. (at < r.1) × (r.1 ≤ length tokens.now)) }
@@ -147,9 +149,9 @@ fn break_statement(
     at: u32,
     depth: u32,
 ) -> Result<(Box<Stmt>, u32), ParseFault>
-    requires few { length tokens.now ≤ 1048576 }
+    requires few { length tokens.now ≤ most_words }
     requires here { Stands tokens.now at (key Break) }
-    requires shallow { depth ≤ 200 }
+    requires shallow { depth ≤ most_depth }
     ensures reads { Starts g.Stmt depth tokens.now at boxed_stmt result }
     ensures place { IfOk result (λ r. (at < r.1) × (r.1 ≤ length tokens.now)) }
 {
@@ -166,9 +168,9 @@ fn continue_statement(
     at: u32,
     depth: u32,
 ) -> Result<(Box<Stmt>, u32), ParseFault>
-    requires few { length tokens.now ≤ 1048576 }
+    requires few { length tokens.now ≤ most_words }
     requires here { Stands tokens.now at (key Continue) }
-    requires shallow { depth ≤ 200 }
+    requires shallow { depth ≤ most_depth }
     ensures reads { Starts g.Stmt depth tokens.now at boxed_stmt result }
     ensures place { IfOk result (λ r. (at < r.1) × (r.1 ≤ length tokens.now)) }
 {
@@ -185,9 +187,9 @@ fn return_statement(
     at: u32,
     depth: u32,
 ) -> Result<(Box<Stmt>, u32), ParseFault>
-    requires few { length tokens.now ≤ 1048576 }
+    requires few { length tokens.now ≤ most_words }
     requires here { Stands tokens.now at (key Return) }
-    requires shallow { depth ≤ 200 }
+    requires shallow { depth ≤ most_depth }
     ensures reads { Starts g.Stmt depth tokens.now at boxed_stmt result }
     ensures place { IfOk result (λ r. (at < r.1) × (r.1 ≤ length tokens.now)) }
 {

@@ -1,6 +1,7 @@
 -- What a parser answers: the tree of the longest stretch of words that begins a symbol, or the exact place where the words
 -- stop to begin it, or are too deep.
 use Rattle.std.specs.Prelude.{ℕ, ◌≡◌, ◌<◌, ◌≤◌, ◌+◌, List, [], ◌∷◌, ◌++◌, length, drop, ◌⊎◌, Result, Ok, Err}
+use Rattle.rc_base.specs.Limits.{most_depth, most_reach}
 use Rattle.rc_syntax.specs.declared.fault.ParseFault.{ParseFault}
 use Rattle.rc_syntax.specs.declared.fault.ParseFault.TheVariants.{Syntax, Deep, Memory}
 use Rattle.rc_syntax.specs.declared.tree.Expr as declared_expr
@@ -15,13 +16,13 @@ pub record Stretch (s : Symbol) (words front rest : List Placed) : Type 0 where
   pub begun : (front ≡ []) ⊎ ((d r : ℕ) × Begins front s d r)
   pub longest : (xs ys : List Placed) (d r : ℕ) → words ≡ xs ++ ys → Begins xs s d r → length xs ≤ length front
 
--- A word is too deep where its depth, with that of what is round all the words, is over 200, or its reach over 1,024.
+-- A word is too deep where its depth, with that of what is round all the words, or its reach is over the limit.
 abbrev pub TooDeep : ℕ → ℕ → ℕ → Type 0
-TooDeep round d r = (200 < round + d) ⊎ (1024 < r)
+TooDeep round d r = (most_depth < round + d) ⊎ (most_reach < r)
 
 -- No word of them is too deep.
 abbrev pub Shallow : ℕ → Symbol → List Placed → Type 0
-Shallow round s ws = (xs ys : List Placed) (d r : ℕ) → ws ≡ xs ++ ys → Begins xs s d r → (round + d ≤ 200) × (r ≤ 1024)
+Shallow round s ws = (xs ys : List Placed) (d r : ℕ) → ws ≡ xs ++ ys → Begins xs s d r → (round + d ≤ most_depth) × (r ≤ most_reach)
 
 -- The stretch is this tree, and rest follows it.
 abbrev pub IsRead : ℕ → (s : Symbol) → List Placed → TreeOf s → List Placed → Type 0

@@ -1,4 +1,7 @@
 // Why words have no tree.
+ghost use Rattle.std.specs.Prelude.{◌≡◌};
+
+use std::alloc::{AllocError, AllocFailed};
 
 /// Why a parser gives no tree.
 #[derive(Clone, Copy, Debug, PartialEq, Eq)]
@@ -10,4 +13,24 @@ pub enum ParseFault {
     Deep(u32),
     /// Out of memory.
     Memory,
+}
+
+impl From<AllocError> for ParseFault {
+    ghost use Rattle.rc_syntax.specs.declared.fault.ParseFault.TheVariants.{Memory};
+
+    ghost from_gives = { λ _ fault. fault ≡ Memory };
+
+    fn from(_error: AllocError) -> ParseFault {
+        ParseFault::Memory
+    }
+}
+
+impl<T: Drop> From<AllocFailed<T>> for ParseFault {
+    ghost use Rattle.rc_syntax.specs.declared.fault.ParseFault.TheVariants.{Memory};
+
+    ghost from_gives = { λ _ fault. fault ≡ Memory };
+
+    fn from(_error: AllocFailed<T>) -> ParseFault {
+        ParseFault::Memory
+    }
 }

@@ -13,7 +13,7 @@ use Rattle.rc_deletes.specs.Kinds.{place_of}
 use Rattle.rc_deletes.specs.Items.{is_among, Definition, names_of, with_definition, with_struct, with_structs, struct_definitions, with_new, with_all, with_function_name, with_functions, field_of, named_in, named_in_option, mentioned, types_in, function_names, shape_of, context_of}
 use Rattle.rc_deletes.specs.Scopes.{Shape}
 use Rattle.rc_deletes.proofs.Naming.{place_more, place_new, name_at}
-use Rattle.rc_deletes.proofs.WellTypedStructs.{more_structs}
+use Rattle.rc_deletes.proofs.Definitions.{more_structs}
 use Rattle.rc_core.specs.Programs.{Field}
 use Rattle.std.proofs.lemmas.Option.{slice_get_within}
 use Rattle.std.proofs.lemmas.Bool.Decides.{nat_tests}

@@ -185,10 +185,7 @@ fn name_of(alloc: Global, name: &Name) -> Result<Vec<u8>, Stop>
     ensures ok { IfOk result (λ bytes. bytes.items ≡ name.now.text) }
     ensures err { IfErr result (λ s. s ≡ Stop.Memory) }
 {
-    match Vec::from_slice(alloc, name.text.as_slice()) {
-        Ok(bytes) => Ok(bytes),
-        Err(_) => Err(Stop::Memory),
-    }
+    Ok(Vec::from_slice(alloc, name.text.as_slice())?)
 }
 
 /// A field with its name.
@@ -211,10 +208,7 @@ fn with_field(fields: Fields, field: NamedField) -> Result<Fields, Stop>
     ensures ok { IfOk result (λ fs. fields_of fs ≡ fields_of fields ++ named_of field ∷ []) }
     ensures err { IfErr result (λ s. s ≡ Stop.Memory) }
 {
-    match fields.with(field) {
-        Ok(fields) => Ok(fields),
-        Err(_) => Err(Stop::Memory),
-    }
+    Ok(fields.with(field)?)
 }
 
 /// The fields of a struct in their order.

@@ -27,8 +27,6 @@ pub fn add_name(names: &mut Names, name: &Name) -> Result<(), Stop>
     if names.len() >= u32::MAX as usize {
         return Err(Stop::Memory);
     }
-    match names.number(name.text.as_slice()) {
-        Ok(_) => Ok(()),
-        Err(_) => Err(Stop::Memory),
-    }
+    names.number(name.text.as_slice())?;
+    Ok(())
 }

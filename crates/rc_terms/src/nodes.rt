@@ -78,10 +78,7 @@ fn keep_string(alloc: Global, strings: &mut Vec<Vec<u8>>, text: &Text) -> Result
     ensures ok { OnOk result (map bytes_of strings.new.items ≡ map bytes_of strings.old.items ++ text.now ∷ []) }
     ensures err { IfErr result (λ s. s ≡ Stop.Memory) }
 {
-    match Vec::from_slice(alloc, text.as_slice()) {
-        Ok(bytes) => add(strings, bytes),
-        Err(_) => Err(Stop::Memory),
-    }
+    add(strings, Vec::from_slice(alloc, text.as_slice())?)
 }
 
 /// A string literal, which is numbered after those before it.

@@ -117,8 +117,5 @@ fn note_new(
     ensures places { OnOk result (places.new.items ≡ places.old.items ++ place ∷ []) }
 {
     names.number(name)?;
-    match places.push(place) {
-        Ok(()) => Ok(()),
-        Err(_) => Err(NoMemory),
-    }
+    Ok(places.push(place)?)
 }

@@ -7,12 +7,13 @@ ghost use Rattle.rc_terms.specs.Fields.{struct_in};
 ghost use Rattle.rc_terms.specs.Sizes.{capped, HasSizes};
 
 use crate::fields::{Fields, NamedField};
+use rc_base::MOST_GLOBAL_CELLS;
 use rc_core::ty::Ty;
 use rc_operators::{Stop, add};
 use std::alloc::Global;
 
 /// The most that is told of a number of cells.
-const MOST: u64 = 1_048_577;
+const MOST: u64 = MOST_GLOBAL_CELLS + 1;
 
 #[tactic(auto, using(crate::proofs::Counted::count_at))]
 fn size_at(sizes: &[u32], number: u32) -> u32

@@ -5,7 +5,11 @@ use rc_core::operators::Operator;
 use rc_core::parts::{Function, Parts};
 use rc_core::stmt::Stmt as Step;
 use rc_core::ty::{Note as PointerNote, Signedness, Ty};
-use rc_deletes::{DeletesFault, check_deletes, laws};
+use rc_deletes::{DeletesFault, check_deletes};
+use rc_judgements::{
+    first_violation_is_least, fits_together, has_one_program, has_program_or_violation,
+    keeps_limits,
+};
 use rc_syntax::tree::{
     Base, BinaryOp, Expr, Item, Local, Name, Note, Simple, Spot, Stmt, Tree, TypeName,
 };
@@ -193,11 +197,11 @@ fn annotated(alloc: Global, note: Note, own: PointerNote) -> Result<(Tree, Parts
 fn a_function_that_deletes_may_delete(rt: HostRuntime) -> Result<(), Fail> {
     let (tree, parts) = deleting(rt.alloc(), true)?;
     assert_eq!(rt; check_deletes(&tree, &parts), Ok(()));
-    laws::has_one_program(&tree);
-    laws::has_program_or_violation(&tree);
-    laws::fits_together(&tree);
-    laws::keeps_limits(&tree);
-    laws::first_violation_is_least(&tree);
+    has_one_program(&tree);
+    has_program_or_violation(&tree);
+    fits_together(&tree);
+    keeps_limits(&tree);
+    first_violation_is_least(&tree);
     Ok(())
 }
 

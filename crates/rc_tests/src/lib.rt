@@ -4,6 +4,8 @@
 #![tactic(auto)]
 
 #[cfg(test)]
+mod builtins;
+#[cfg(test)]
 mod compiling;
 #[cfg(test)]
 mod deletions;

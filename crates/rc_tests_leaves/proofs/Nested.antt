@@ -57,7 +57,7 @@ main_fits : FunctionFits program main
 main_fits = record { parameters = omega arith; locals = λ x t h. none h; result = (tt, refl); body = (int, (refl, (refl, refl))) }
 
 program_fits : IsWellTyped program
-program_fits = record { structs = all_fit; globals = λ k g h. none h; all_globals = omega arith; number_of_strings = omega arith; strings = λ k bytes h. none h; functions = functions_fit; deleting = record { placed = placed; kept = kept }; main = (main, (refl, refl, refl)) } where
+program_fits = record { structs = all_fit; globals = λ k g h. none h; all_globals = omega arith; number_of_strings = omega arith; strings = λ k bytes h. none h; bytes = tt; functions = functions_fit; deleting = record { placed = placed; kept = kept }; main = (main, (refl, refl, refl)) } where
   functions_fit : (k : ℕ) (f : Function) → slice_get (main ∷ []) k ≡ Some f → FunctionFits program f
   functions_fit zero f h = at (FunctionFits program) main f h main_fits
   functions_fit (suc k) f h = none h

@@ -3,6 +3,8 @@
 #![tactic(auto)]
 
 #[cfg(test)]
+mod bit_sets;
+#[cfg(test)]
 mod cells;
 #[cfg(test)]
 mod facts;

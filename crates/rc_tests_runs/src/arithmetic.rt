@@ -1,8 +1,8 @@
 // Arithmetic at the edges of its types.
 use rc_base::Trap;
+use rc_core::calculate;
 use rc_core::operators::Operator;
 use rc_core::ty::Signedness;
-use rc_memory::calculate;
 
 /// A signed result that doesn't fit is a trap; an unsigned one wraps.
 const ROWS: &[(Operator, Signedness, i64, i64, Result<i64, Trap>)] = &[

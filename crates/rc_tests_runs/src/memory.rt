@@ -7,9 +7,8 @@ ghost use Rattle.rc_core.specs.WellTyped.{StructsFit};
 use rc_base::{End, Trap};
 use rc_core::parts::{Field, Global as Variable, Parts, Struct};
 use rc_core::ty::{Note, Ty};
-use rc_memory::{
-    Chosen, FieldPlace, Heap, Kind, Layouts, Stop, Target, Value, aimed, is_same, static_pointer,
-};
+use rc_core::{FieldPlace, Kind, Layouts};
+use rc_memory::{Chosen, Heap, Stop, Target, Value, aimed, is_same, static_pointer};
 use std::alloc::{AllocError, Global};
 
 /// `struct pair { int a; char b[3]; region r; };` and
@@ -46,7 +45,7 @@ fn structs(alloc: Global) -> Result<Vec<Struct>, AllocError>
     Ok(vec![in alloc; pair, all]?)
 }
 
-fn laid_out(alloc: Global) -> Result<Layouts, Stop> {
+fn laid_out(alloc: Global) -> Result<Layouts, AllocError> {
     let structs = structs(alloc)?;
     Layouts::new(alloc, structs.as_slice())
 }

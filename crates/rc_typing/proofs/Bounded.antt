@@ -1,12 +1,17 @@
 -- The numbers of a list are in range where those of its parts are.
 use Rattle.std.proofs.Common.{◌≡◌, ◌<◌, ◌≤◌, ◌+◌, ℕ, List, [], ◌∷◌, length, drop, map}
 use Rattle.std.specs.Prelude.{get_or}
+use Rattle.std.specs.List.{AllByRecursion as Every}
+use Rattle.std.specs.declared.vec.Vec.{Vec}
+use Rattle.std.specs.declared.alloc.Global.{Global as Alloc}
 use Rattle.rc_syntax.specs.declared.tree.Expr.{Expr}
 use Rattle.rc_syntax.specs.declared.tree.Stmt.{Stmt}
 use Rattle.rc_syntax.specs.declared.tree.Local.{Local}
 use Rattle.rc_syntax.specs.declared.tree.Item.{Item}
 use Rattle.rc_syntax.specs.Shape as written
 use Rattle.rc_syntax.specs.Tree as t
+use Rattle.rc_core.specs.Numbers.{IsByte}
+use Rattle.rc_core.specs.Shapes.{bytes_of}
 use Rattle.rc_deletes.specs.Ranges.{IsInRange, AreInRange, OptionInRange, LocalsInRange, StmtInRange, StmtsInRange, ItemsInRange}
 use Rattle.rc_terms.proofs.Walks.{front, none_left}
 
@@ -38,3 +43,15 @@ items_step is i x l h a b = rw (front is i x l h) (one_item (written.item_of x) 
 
 pub items_end : (is : List Item) (i : ℕ) → length is ≤ i → ItemsInRange (map written.item_of (drop i is))
 items_end is i l = rw (none_left is i l) tt
+
+pub bytes_step : (bs : List ℕ) (i b : ℕ) → i < length bs → b ≡ get_or bs i b → b < 256 → Every IsByte (drop (i + 1) bs) → Every IsByte (drop i bs)
+bytes_step bs i b l h a rest = rw (front bs i b l h) (a, rest)
+
+pub bytes_end : (bs : List ℕ) (i : ℕ) → length bs ≤ i → Every IsByte (drop i bs)
+bytes_end bs i l = rw (none_left bs i l) tt
+
+pub strings_step : (ss : List (Vec ℕ Alloc)) (i : ℕ) (s : Vec ℕ Alloc) → i < length ss → s ≡ get_or ss i s → Every IsByte s.items → Every (Every IsByte) (map bytes_of (drop (i + 1) ss)) → Every (Every IsByte) (map bytes_of (drop i ss))
+strings_step ss i s l h a rest = rw (front ss i s l h) (a, rest)
+
+pub strings_end : (ss : List (Vec ℕ Alloc)) (i : ℕ) → length ss ≤ i → Every (Every IsByte) (map bytes_of (drop i ss))
+strings_end ss i l = rw (none_left ss i l) tt

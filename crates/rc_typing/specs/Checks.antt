@@ -1,5 +1,6 @@
 -- What the checker answers.
 use Rattle.std.specs.Prelude.{◌≡◌, ◌≤◌, List, length, Result, Ok, Err, Some}
+use Rattle.rc_base.specs.Limits.{most_program_words}
 use Rattle.rc_syntax.specs.Tree.{Tree}
 use Rattle.rc_syntax.specs.Grammar.{Text, Placed, Derives, node}
 use Rattle.rc_core.specs.declared.parts.Parts.{Parts}
@@ -15,7 +16,7 @@ use Rattle.rc_typing.specs.declared.fault.TypeFault.TheVariants.{Unknown, Twice,
 pub record IsWritten (tree : Tree) : Type 0 where
   pub words : List Placed
   pub derived : Derives words (node Text tree.items)
-  pub few : length words ≤ 16777216
+  pub few : length words ≤ most_program_words
   pub short : AreShort words
 
 abbrev pub Refuses : Tree → TypeFault → Type 0

@@ -1,5 +1,9 @@
-// The numbers of a tree are those of words: each fits in 32 bits, and a character in 8.
+// The numbers of a tree are those of words: each fits in 32 bits, and a character in 8. So does each
+// byte of a string.
 ghost use Rattle.std.specs.Prelude.{[], ◌∷◌, map};
+ghost use Rattle.std.specs.List.{AllByRecursion as Every};
+ghost use Rattle.rc_core.specs.Numbers.{IsByte};
+ghost use Rattle.rc_core.specs.Shapes.{bytes_of};
 ghost use Rattle.rc_deletes.specs.Ranges as range;
 ghost use Rattle.rc_syntax.specs.Shape as written;
 
@@ -184,5 +188,24 @@ pub(crate) fn numbers(items: &[Item])
 {
     for i in items {
         item(i);
+    }
+}
+
+#[tactic(auto, using(crate::proofs::Bounded::bytes_step, crate::proofs::Bounded::bytes_end))]
+fn bytes(text: &[u8])
+    ensures { Every IsByte text.now }
+{
+    for byte in text {
+        let _byte = *byte;
+    }
+}
+
+/// Reads the bytes of strings, and nothing else.
+#[tactic(auto, using(crate::proofs::Bounded::strings_step, crate::proofs::Bounded::strings_end))]
+pub(crate) fn strings(strings: &[Vec<u8>])
+    ensures { Every (Every IsByte) (map bytes_of strings.now) }
+{
+    for text in strings {
+        bytes(text);
     }
 }

@@ -16,13 +16,13 @@ ghost use Rattle.rc_typing.specs.Checks.{Checks, IsWritten, Refuses};
 ghost use Rattle.rc_terms.specs.Contexts.{context_of};
 ghost use Rattle.rc_terms.specs.Fields.{struct_in};
 
-use crate::bounds::numbers;
+use crate::bounds::{numbers, strings};
 use crate::fault::TypeFault;
 use crate::items::{Whole, items};
 use rc_core::parts::{Field, Parts, Struct};
 use rc_core::program::Program;
-use rc_deletes::laws::{fits_together, keeps_limits};
 use rc_deletes::{DeletesFault, Fault, Refusal, check_deletes};
+use rc_judgements::{fits_together, keeps_limits};
 use rc_operators::{Stop, add, copy_of};
 use rc_rules::{gives_int, main_shape, takes_nothing};
 use rc_syntax::tree::{Item, Name, Param, Spot, Tree, TypeName};
@@ -190,6 +190,7 @@ fn program_with(tree: &Tree, parts: Parts) -> Result<Program, TypeFault>
         return Err(TypeFault::Main(line));
     }
     numbers(&tree.items);
+    strings(&parts.strings);
     keeps_limits(tree);
     fits_together(tree);
     match check_deletes(tree, &parts) {

@@ -1,5 +1,6 @@
 // Structs and globals.
 ghost use Rattle.std.specs.Prelude.{◌≡◌, ◌≤◌, ◌+◌, suc, [], ◌∷◌, ◌++◌, map, IfOk, IfErr, OnOk, nat_lt, is_some};
+ghost use Rattle.rc_base.specs.Limits.{most_global_cells, most_struct_cells};
 ghost use Rattle.rc_core.specs.Shapes.{ty_of, global_of};
 ghost use Rattle.rc_deletes.specs.Items as rule;
 ghost use Rattle.rc_deletes.specs.Judged.{Holds};
@@ -16,6 +17,7 @@ ghost use Rattle.rc_terms.specs.Sizes.{SameUpTo};
 
 use crate::outside::Outside;
 use crate::parts::WrittenGlobal;
+use rc_base::MOST_STRUCT_CELLS;
 use rc_core::parts::Global as GlobalPart;
 use rc_core::ty::Ty;
 use rc_deletes::Refusal;
@@ -74,10 +76,10 @@ fn fields(fs: &[Field], alloc: Global, context: &Context, count: u32) -> Result<
 /// Whether a struct that is defined has over 4,096 cells.
 #[tactic(auto, using(crate::proofs::Totals::big_tells))]
 fn is_too_big(context: &Context, number: Option<u32>) -> bool
-    ensures { result ≡ nat_lt 4096 (rule.cells_of_struct (context_of context.now) number) }
+    ensures { result ≡ nat_lt most_struct_cells (rule.cells_of_struct (context_of context.now) number) }
 {
     match number {
-        Some(number) => size_by(context.sizes.as_slice(), &Ty::Struct(number)) > 4096,
+        Some(number) => size_by(context.sizes.as_slice(), &Ty::Struct(number)) > MOST_STRUCT_CELLS,
         None => false,
     }
 }
@@ -131,17 +133,14 @@ pub(crate) fn add_meaning(
     if is_known(names, name) {
         return Ok(());
     }
-    match names.push(name.text.as_slice(), stands_for) {
-        Ok(()) => Ok(()),
-        Err(_) => Err(Stop::Memory),
-    }
+    Ok(names.push(name.text.as_slice(), stands_for)?)
 }
 
 /// The cells of the globals, with one more after those before it.
 #[tactic(auto, using(crate::proofs::Totals::total_same))]
 fn cells_with(context: &Context, cells: u64, ty: &Ty, length: Option<u32>) -> u64
-    requires { cells ≤ 1048576 }
-    ensures { (n : t.TypeName) → ty_of ty.now ≡ written_type (context_of context.now).types n → SameUpTo 1048576 result (cells + rule.cells_of_global (context_of context.now) n length) }
+    requires { cells ≤ most_global_cells }
+    ensures { (n : t.TypeName) → ty_of ty.now ≡ written_type (context_of context.now).types n → SameUpTo most_global_cells result (cells + rule.cells_of_global (context_of context.now) n length) }
 {
     cells + cells_of(size_by(context.sizes.as_slice(), ty), length)
 }

@@ -1,6 +1,7 @@
 // Items.
 ghost use Rattle.std.specs.Prelude.{◌≡◌, ◌∷◌, None, Some, false, true, length, map, option_map, IfOk, IfErr, OnOk};
 ghost use Rattle.rc_core.specs.Shapes.{bytes_of, ty_of, stmts_of};
+ghost use Rattle.rc_deletes.specs.Builtins.{row};
 ghost use Rattle.rc_deletes.specs.Items as rule;
 ghost use Rattle.rc_deletes.specs.Judged.{Holds, with_parts};
 ghost use Rattle.rc_deletes.specs.Scopes.{a_builtin};
@@ -215,22 +216,20 @@ fn builtins(alloc: Global) -> Result<Scopes<Meaning>, Stop>
     ensures ok { IfOk result (λ names. scope_of names ≡ rule.builtins) }
     ensures err { IfErr result (λ s. s ≡ Stop.Memory) }
 {
+    let all = Builtin::all();
     let mut names = Scopes::new(alloc);
-    add_builtin(&mut names, b"getchar", Builtin::Getchar)?;
-    add_builtin(&mut names, b"putchar", Builtin::Putchar)?;
-    add_builtin(&mut names, b"regionof", Builtin::RegionOf)?;
-    add_builtin(&mut names, b"deleteregion", Builtin::DeleteRegion)?;
-    add_builtin(&mut names, b"newsubregion", Builtin::NewSubregion)?;
-    add_builtin(&mut names, b"newregion", Builtin::NewRegion)?;
+    for i in (0..all.len()).rev() {
+        add_builtin(&mut names, all[i])?;
+    }
     Ok(names)
 }
 
 /// A function that every text has, inside the names before it.
-fn add_builtin(names: &mut Scopes<Meaning>, name: &[u8], builtin: Builtin) -> Result<(), Stop>
-    ensures ok { OnOk result (scope_of names.new ≡ (name.now, a_builtin builtin) ∷ scope_of names.old) }
+fn add_builtin(names: &mut Scopes<Meaning>, builtin: Builtin) -> Result<(), Stop>
+    ensures ok { OnOk result (scope_of names.new ≡ ((row builtin).name, a_builtin builtin) ∷ scope_of names.old) }
     ensures err { IfErr result (λ s. s ≡ Stop.Memory) }
 {
-    match names.push(name, Meaning::Builtin(builtin)) {
+    match names.push(builtin.name(), Meaning::Builtin(builtin)) {
         Ok(()) => Ok(()),
         Err(_) => Err(Stop::Memory),
     }

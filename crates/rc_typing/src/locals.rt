@@ -46,10 +46,7 @@ fn name_local(
     ensures err { IfErr result (λ s. s ≡ Stop.Memory) }
 {
     let ty = copy_of(alloc, ty)?;
-    match names.push(name.text.as_slice(), Meaning::Local(number, ty)) {
-        Ok(()) => Ok(()),
-        Err(_) => Err(Stop::Memory),
-    }
+    Ok(names.push(name.text.as_slice(), Meaning::Local(number, ty))?)
 }
 
 /// Puts a local of a type after those before it.

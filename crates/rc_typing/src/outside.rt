@@ -1,5 +1,6 @@
 // Where the walk over items stands.
 ghost use Rattle.std.specs.Prelude.{◌≤◌};
+ghost use Rattle.rc_base.specs.Limits.{most_global_cells};
 
 use crate::here::Here;
 use rc_core::ty::Ty;
@@ -23,7 +24,7 @@ pub(crate) struct Outside {
     pub(crate) functions: u32,
     /// The strings of the text so far.
     pub(crate) strings: Vec<Vec<u8>>,
-    ghost few: { cells ≤ 1048576 },
+    ghost few: { cells ≤ most_global_cells },
 }
 
 impl Outside {

@@ -1,5 +1,6 @@
 -- A reader of one word at a time, which the grammar is proved equal to.
 use Rattle.std.specs.Prelude.{ℕ, ◌+◌, ◌-◌, nat_lt, ◌||◌, List, [], ◌∷◌, Option, Some, None, Bool, cond}
+use Rattle.rc_base.specs.Limits.{most_depth, most_reach}
 use Rattle.rc_syntax.specs.declared.tree.Spot.{Spot}
 use Rattle.rc_syntax.specs.Grammar.{Symbol, Text, TreeOf, Placed, adds, reach}
 use Rattle.rc_syntax.specs.reader.Todo.{Todo, stop, build, try, enter, peek, begin, resume, Deeper, only, within}
@@ -107,7 +108,7 @@ verdict rest (Some a) = Accepts a rest
 verdict rest None = Refuses rest
 
 abbrev pub too_deep : {root : Symbol} → ℕ → State root → Bool
-too_deep round s = nat_lt 200 (round + depth s) || nat_lt 1024 (reach_of s)
+too_deep round s = nat_lt most_depth (round + depth s) || nat_lt most_reach (reach_of s)
 
 abbrev pub next : {root : Symbol} → ℕ → List Placed → Option (TreeOf root) → (State root → Answer root) → Option (State root) → Answer root
 next round rest tree on None = verdict rest tree

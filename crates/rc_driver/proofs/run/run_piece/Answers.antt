@@ -1,6 +1,6 @@
 use Rattle.std.proofs.Common.{List, ℕ, subst}
 use Rattle.rc_driver.specs.Running.{RanText, too_long, whole}
-use Rattle.rc_driver.proofs.PerformLaws.{untouched}
+use Rattle.rc_driver.proofs.Ways.{untouched}
 use Rattle.rc_driver.proofs.run.run_piece.Goals as goal
 
 pub returns-then-not-piece : goal.returns-then-not-piece

@@ -5,7 +5,7 @@ use Rattle.rc_compile.specs.declared.refusal.Refusal.{Refusal}
 use Rattle.rc_core.specs.Shapes.{program_of}
 use Rattle.rc_driver.specs.Running.{RanText, cut, ended, no_memory, refused}
 use Rattle.rc_driver.specs.declared.answer.Done.TheVariants.{Refused}
-use Rattle.rc_driver.proofs.PerformLaws.{untouched}
+use Rattle.rc_driver.proofs.Ways.{untouched}
 use Rattle.rc_driver.proofs.run.run_text.Goals as goal
 
 pub returns-in-Ok-run_program : goal.returns-in-Ok-run_program

@@ -1,6 +1,7 @@
 use Rattle.std.proofs.Common.{◌∙◌, ◌<◌, ◌||◌, ◌&&◌, nat_lt, length, ap, sym, arith}
 use Rattle.rc_facts.specs.declared.fact.Fact.TheVariants.{In, Up}
-use Rattle.rc_facts.specs.Rows.{marks, links}
+use Rattle.rc_base.specs.BitSets.{marks}
+use Rattle.rc_facts.specs.Rows.{links}
 use Rattle.rc_facts.proofs.Closes.{Closes, closes, only_derivable, derivable_over, mirrored_below, widened_below}
 use Rattle.rc_facts.proofs.closing.close_rows.Goals as goal
 
@@ -31,7 +32,7 @@ returns c =
       up_chained = c.chain-2.ensures;
       inherited = c.led_back.ensures;
       up_rooted = rw rows_up at c.extend.ensures;
-      in_rooted = λ x y. rooted x y ∙ ap (λ b. links c.chain.new.rows x y || (nat_lt x (length c.args.within.now) && (marks c.led_back.result x && b))) (c.common.ensures y);
+      in_rooted = λ x y. rooted x y ∙ ap (λ b. links c.chain.new.rows x y || (nat_lt x (length c.args.within.now) && (marks c.led_back.result x && b))) (c.intersection.ensures y);
     } in
     record {
       sound = record {

@@ -5,5 +5,5 @@ use Rattle.rc_facts.proofs.rows.cut.Goals as goal
 
 pub returns : goal.returns
 returns c =
-    cut_all c.args.rows.now c.loop-row.rows c.args.gone (omega arith)
+    cut_all c.args.rows.now c.loop-row.rows c.args.gone c.empty.result (omega arith) c.empty.ensures
     (written_all c.loop-row.rows c.loop-row.row-index c.loop-row.invariant (λ x y beyond. beyond_both c.args.rows.now x y y _ (omega arith)))

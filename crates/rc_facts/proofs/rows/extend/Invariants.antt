@@ -1,5 +1,6 @@
 use Rattle.std.proofs.Common.{◌||◌, ◌&&◌, nat_lt, length}
-use Rattle.rc_facts.specs.Rows.{marks, links}
+use Rattle.rc_base.specs.BitSets.{marks}
+use Rattle.rc_facts.specs.Rows.{links}
 use Rattle.rc_facts.proofs.RowLoops.{Written}
 use Rattle.rc_facts.proofs.rows.extend.Given as goal
 

@@ -1,5 +1,6 @@
 use Rattle.std.proofs.Common.{◌<◌, ◌⊎◌, ℕ, IsTrue}
-use Rattle.rc_facts.specs.Rows.{marks, links}
+use Rattle.rc_base.specs.BitSets.{marks}
+use Rattle.rc_facts.specs.Rows.{links}
 use Rattle.rc_facts.proofs.spread.led_back.Given as goal
 
 abbrev pub invariant-loop-x : goal.invariant-loop-x

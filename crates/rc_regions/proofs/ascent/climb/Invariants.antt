@@ -1,6 +1,6 @@
 use Rattle.std.proofs.Common.{◌≡◌, ◌≤◌, ◌+◌, ◌*◌, ◌^◌, count_ones}
 use Rattle.rc_regions.specs.Ascents.{ancestor}
-use Rattle.rc_regions.specs.Columns.{slots_of}
+use Rattle.rc_regions.specs.Columns.{depth_of, slots_of}
 use Rattle.rc_regions.specs.Slots.{IsLive}
 use Rattle.rc_regions.proofs.ascent.climb.Given as goal
 
@@ -9,6 +9,7 @@ invariant-loop-rest g l = record {
   live : IsLive (slots_of l.records) l.slot;
   way : ancestor (slots_of l.records) (l.rest * 2 ^ l.power) l.slot ≡ ancestor (slots_of l.records) l.distance l.from;
   low : l.rest * 2 ^ l.power ≤ l.distance;
+  deep : l.rest * 2 ^ l.power ≤ depth_of l.records l.slot;
   cost : l.steps + count_ones l.rest ≡ l.fn.steps + count_ones l.distance;
 }
 

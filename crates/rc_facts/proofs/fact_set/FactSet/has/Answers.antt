@@ -22,10 +22,10 @@ pub returns-in-Trad : goal.returns-in-Trad
 returns-in-Trad c =
     let s = c.self.inside in
     let before = test_is (fields s.within.items s.above.items s.traditional s.present) c.args.self.now c.self.view_is c.self.invariant in
-    c.has.ensures ∙ ap (λ test. test (Trad c.in-Trad.x)) before ∙ ap (holds c.args.self.now) (sym c.in-Trad.is)
+    c.contains.ensures ∙ ap (λ test. test (Trad c.in-Trad.x)) before ∙ ap (holds c.args.self.now) (sym c.in-Trad.is)
 
 pub returns-in-NonNull : goal.returns-in-NonNull
 returns-in-NonNull c =
     let s = c.self.inside in
     let before = test_is (fields s.within.items s.above.items s.traditional s.present) c.args.self.now c.self.view_is c.self.invariant in
-    c.has-in-NonNull.ensures ∙ ap (λ test. test (NonNull c.in-NonNull.x)) before ∙ ap (holds c.args.self.now) (sym c.in-NonNull.is)
+    c.contains-in-NonNull.ensures ∙ ap (λ test. test (NonNull c.in-NonNull.x)) before ∙ ap (holds c.args.self.now) (sym c.in-NonNull.is)

@@ -1,12 +1,14 @@
-use Rattle.std.proofs.Common.{◌≡◌, ◌+◌, ◌-◌, ◌≤◌, vec_len}
+use Rattle.std.proofs.Common.{◌≡◌, ◌+◌, ◌-◌, ◌≤◌, length}
+use Rattle.rc_pages.specs.Cells.{AreWhole}
 use Rattle.rc_pages.proofs.pages.Pages.give_back.Given as goal
 
 abbrev pub invariant-loop-page : goal.invariant-loop-page
 invariant-loop-page l = record {
-  bank : l.bank ≡ record l.initial.bank { kept = l.initial.bank.kept + (vec_len l.initial.pages - vec_len l.pages) };
-  fewer : vec_len l.pages ≤ vec_len l.initial.pages;
-  room : l.initial.bank.kept + vec_len l.initial.pages ≤ l.initial.bank.places;
+  bank : l.bank ≡ record l.initial.bank { kept = l.initial.bank.kept + (length l.initial.pages.pages - length l.pages.pages) };
+  fewer : length l.pages.pages ≤ length l.initial.pages.pages;
+  room : l.initial.bank.kept + length l.initial.pages.pages ≤ l.initial.bank.places;
+  whole : AreWhole l.pages.pages;
 }
 
 abbrev pub decreases-loop-page : goal.decreases-loop-page
-decreases-loop-page l = vec_len l.pages
+decreases-loop-page l = length l.pages.pages

@@ -1,11 +1,11 @@
-use Rattle.std.proofs.Common.{◌≡◌, ◌∙◌, ◌-◌, ℕ, true, IsTrue, List, nat_eq, slice_index_or, count_ones, sym, ap, subst, rules, arith}
+use Rattle.std.proofs.Common.{◌≡◌, ◌≤◌, ◌∙◌, ◌-◌, ℕ, true, IsTrue, List, nat_eq, slice_index_or, count_ones, sym, ap, subst, rules, arith}
 use Rattle.std.proofs.lemmas.Nat.{ones-le}
 use Rattle.rc_regions.specs.declared.record.Slot.{Slot}
 use Rattle.rc_regions.specs.declared.record.Record.{Record}
 use Rattle.rc_regions.specs.declared.table.Table.{Table}
 use Rattle.rc_regions.specs.Above.{Above, HasDepth, IsTree}
-use Rattle.rc_regions.specs.Ascents.{ancestor}
-use Rattle.rc_regions.specs.Columns.{Columns, columns_of, slots_of}
+use Rattle.rc_regions.specs.Ascents.{AreAscents, ancestor}
+use Rattle.rc_regions.specs.Columns.{Columns, columns_of, depth_of, links_of, slots_of}
 use Rattle.rc_regions.specs.Slots.{IsLive}
 use Rattle.rc_regions.proofs.Ancestors.{Above-ancestor, above_deeper, above_found, depth-unique}
 use Rattle.rc_regions.proofs.Counted.{live_made}
@@ -39,6 +39,16 @@ returns-then-b_depth-a_depth-clause-above g c =
 
 pub returns-then-b_depth-a_depth-clause-tree : goal.returns-then-b_depth-a_depth-clause-tree
 returns-then-b_depth-a_depth-clause-tree g c = subst IsTree c.self.view_is (IsTree-sound (columns_of c.self.inside.table) c.self.invariant)
+
+pub climb-requires-clause-far : goal.climb-requires-clause-far
+climb-requires-clause-far g c =
+    let b_depth = depth_read c.self.inside.table c.args.self.now c.args.b c.index-2.result.now c.self.view_is c.requires.b c.index-2.ensures in
+    subst (λ records. c.index-2.result.now.depth - c.index.result.now.depth ≤ depth_of records c.args.b) (sym c.deref.ensures.value) (omega (arith, b_depth))
+
+pub climb-requires-clause-ascents : goal.climb-requires-clause-ascents
+climb-requires-clause-ascents g c =
+    let sound = c.self.invariant in
+    subst (λ records. AreAscents (slots_of records) (depth_of records) (links_of records)) (sym c.deref.ensures.value) (record { rooted = sound.rooted; depths = sound.depths; ways = sound.links; long = sound.long })
 
 pub returns-clause-above : goal.returns-clause-above
 returns-clause-above g c =

@@ -1,0 +1,22 @@
+// What holds of every request and every text.
+ghost use Rattle.std.specs.Prelude.{◌≡◌, ℕ, List, Option};
+ghost use Rattle.rc_base.specs.Shelves.{Names};
+ghost use Rattle.rc_base.specs.declared.ends.Limits.{Limits};
+ghost use Rattle.rc_compile.specs.Acceptance.{Accepted};
+ghost use Rattle.rc_core.specs.Programs.{Program};
+ghost use Rattle.rc_driver.specs.Footprint.{AreThere, footprint};
+ghost use Rattle.rc_driver.specs.Outcome.{IsOutcome, Outcome};
+ghost use Rattle.rc_driver.specs.Request.{Request};
+ghost use Rattle.rc_safety.specs.Safety.{NeverTouchesDeleted};
+
+/// Whatever the words ask comes to one outcome where the names that it reads are there, and never to
+/// two, whatever bytes the files and the input have.
+pub fn a_request_has_one_outcome()
+    ensures some { (request : Option Request) (files : Names) (input : List ℕ) → AreThere (footprint request) files → (outcome : Outcome) × IsOutcome request files input outcome }
+    ensures one { (request : Option Request) (files : Names) (input : List ℕ) (one other : Outcome) → IsOutcome request files input one → IsOutcome request files input other → one ≡ other }
+{}
+
+/// No run of a text that is accepted ever touches a deleted region, whatever its input and its limits.
+pub fn an_accepted_text_never_touches_deleted()
+    ensures { (text : List ℕ) (program : Program) (input : List ℕ) (limits : Limits) → Accepted text program → NeverTouchesDeleted program input limits }
+{}

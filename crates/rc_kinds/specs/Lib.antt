@@ -1,0 +1,6 @@
+pub mod Suits
+pub mod Frames
+pub mod Kinds
+pub mod Parts
+pub mod Demands
+pub mod Copies

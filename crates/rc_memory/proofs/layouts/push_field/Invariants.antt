@@ -1,6 +1,0 @@
-use Rattle.std.proofs.Common.{◌≡◌, ◌++◌, replicate}
-use Rattle.std.specs.Prelude.{flat_map}
-use Rattle.rc_memory.proofs.layouts.push_field.Given as goal
-
-abbrev pub invariant-loop : goal.invariant-loop
-invariant-loop l = l.kinds.items ≡ l.initial.kinds.items ++ flat_map (λ kinds. kinds) (replicate l.counter l.one)
