@@ -1,0 +1,3 @@
+pub mod Translation
+pub mod Means
+pub mod RegionExamples
