@@ -1,0 +1,17 @@
+use Rattle.rc_annotations.proofs.Greatest.{left_inside, right_inside, leaves_inside, united_consistent, without_facts_consistent}
+use Rattle.rc_annotations.proofs.consistent_annotations_unite.Goals as goal
+
+pub returns-clause-united : goal.returns-clause-united
+returns-clause-united c = united_consistent
+
+pub returns-clause-left : goal.returns-clause-left
+returns-clause-left c = left_inside
+
+pub returns-clause-right : goal.returns-clause-right
+returns-clause-right c = right_inside
+
+pub returns-clause-kept : goal.returns-clause-kept
+returns-clause-kept c = leaves_inside
+
+pub returns-clause-least : goal.returns-clause-least
+returns-clause-least c = without_facts_consistent

@@ -1,0 +1,69 @@
+//! Annotations of region code with facts. `specs/Annotations` says when one is consistent, and which
+//! checks it removes; `specs/Holding` what a fact says of values, `specs/Variables` which values a
+//! function's variables have, `specs/Effects` what happens to them at a point, and `specs/Worlds` what
+//! the operations of the source's world do to them. `specs/Along` says what is asked of the types of
+//! region code, and of a run, so that facts hold along it.
+#![tactic(auto)]
+
+ghost use Rattle.std.specs.Prelude.{◌≡◌, ℕ, length};
+ghost use Rattle.rc_rlang.specs.RegionCode.{Rlang, Routine};
+ghost use Rattle.rc_annotations.specs.RegionFlow.{routine_nodes};
+ghost use Rattle.rc_rlang.specs.RegionPoints.{routine_points};
+ghost use Rattle.rc_annotations.specs.Annotations.{Annotation, Consistent};
+ghost use Rattle.rc_annotations.specs.Laws.{DerivedHolds, HoldsLater, AskedFits, AllowedHolds, OperationsSay, Inside, Leaves, united, without_facts};
+ghost use Rattle.rc_annotations.specs.RunLaws.{InEachCall, StepsKeepFacts, CodeKeepsFacts, RemovedFits, CallsKeepFacts};
+
+/// A function of region code has as many nodes as points.
+pub fn points_are_nodes()
+    ensures { (f : Routine) → length (routine_nodes f) ≡ routine_points f }
+{}
+
+/// The rules of facts are true of regions. What is derivable from facts that hold, holds; what holds
+/// of values still holds when the heap has grown, whatever was deleted since; and the check of a
+/// store finds that the value fits where the fact that it asks holds.
+pub fn facts_are_true_of_regions()
+    ensures derived { DerivedHolds }
+    ensures later { HoldsLater }
+    ensures asked { AskedFits }
+{}
+
+/// What is allowed behind an effect holds behind it, where the facts before it held and the effect
+/// happens as it says: also where a variable is assigned on which there were facts, and where the
+/// effect names its old value.
+pub fn allowed_facts_hold()
+    ensures { AllowedHolds }
+{}
+
+/// The operations of the source's world do what the effects of region code say of them, from a world
+/// whose heap is in order, and leave such a one: steps of pointers, new regions and subregions, new
+/// objects, loads, stores and deletions.
+pub fn operations_do_what_effects_say()
+    ensures { OperationsSay }
+{}
+
+/// Two consistent annotations have a consistent one that has all facts of both (`united`, `left`,
+/// `right`). A search that goes downward from all facts, and takes away only what does not follow,
+/// keeps each consistent annotation inside (`kept`). The annotation without facts is consistent
+/// (`least`).
+pub fn consistent_annotations_unite()
+    ensures united { (r : Rlang) (temporaries : ℕ → ℕ) (a b : Annotation) → Consistent r temporaries a → Consistent r temporaries b → Consistent r temporaries (united a b) }
+    ensures left { (a b : Annotation) → Inside a (united a b) }
+    ensures right { (a b : Annotation) → Inside b (united a b) }
+    ensures kept { (r : Rlang) (temporaries : ℕ → ℕ) (b a : Annotation) → Consistent r temporaries b → Inside b a → Leaves r temporaries b a }
+    ensures least { (r : Rlang) (temporaries : ℕ → ℕ) → Consistent r temporaries without_facts }
+{}
+
+/// The facts of a consistent annotation hold along runs of region code over the source's world, where
+/// the code's types agree and the run meets them: deletions, and locals that name deleted regions,
+/// included.
+///
+/// `steps` says it of the steps of an expression, `code` of a statement, with all that is inside it,
+/// and `calls` of calls inside one another: a call that is given the facts of its function's entry
+/// gives back those of the exit. `removed` says that the check of a store finds that the value fits,
+/// whenever the run comes to it, where the annotation has the fact that the check asks.
+pub fn facts_hold_along_runs()
+    ensures steps { (r : Rlang) (temporaries : ℕ → ℕ) (a : Annotation) → Consistent r temporaries a → InEachCall r temporaries a (StepsKeepFacts r temporaries a) }
+    ensures code { (r : Rlang) (temporaries : ℕ → ℕ) (a : Annotation) → Consistent r temporaries a → InEachCall r temporaries a (CodeKeepsFacts r temporaries a) }
+    ensures calls { (r : Rlang) (temporaries : ℕ → ℕ) (a : Annotation) → Consistent r temporaries a → CallsKeepFacts r temporaries a }
+    ensures removed { (r : Rlang) (temporaries : ℕ → ℕ) (a : Annotation) → Consistent r temporaries a → InEachCall r temporaries a (RemovedFits r temporaries a) }
+{}

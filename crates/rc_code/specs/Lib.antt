@@ -1,0 +1,10 @@
+pub mod Kinds
+pub mod Table
+pub mod Image
+pub mod Laws
+pub mod Running
+pub mod StoreModel
+pub mod Soundness
+pub mod Steps
+pub mod ImageMeaning
+pub mod Faithful

@@ -1,0 +1,25 @@
+// Laws of the tables.
+ghost use Rattle.std.specs.Prelude.{◌≡◌, ℕ, Some};
+ghost use Rattle.rc_code.specs.Kinds.{cell_tag, cell_tagged, with_no_type, storage_tag, storage_tagged, with_no_pointee};
+ghost use Rattle.rc_code.specs.Table.{number_of, numbered};
+ghost use Rattle.rc_code.specs.declared.kind.Cell.{Cell};
+ghost use Rattle.rc_code.specs.declared.kind.Storage.{Storage};
+ghost use Rattle.rc_code.specs.declared.opcode.Opcode.{Opcode};
+
+/// A row has one number, and a number one row.
+pub fn numbers_are_those_of_the_table()
+    ensures row { (o : Opcode) → numbered (number_of o) ≡ Some o }
+    ensures number { (n : ℕ) (o : Opcode) → numbered n ≡ Some o → number_of o ≡ n }
+{}
+
+/// A cell has one tag, and a tag one cell, its type left out.
+pub fn tags_are_those_of_cells()
+    ensures cell { (c : Cell) → cell_tagged (cell_tag c) ≡ Some (with_no_type c) }
+    ensures tag { (n : ℕ) (c : Cell) → cell_tagged n ≡ Some c → cell_tag c ≡ n }
+{}
+
+/// What a local holds has one tag, and a tag one such thing, its type left out.
+pub fn tags_are_those_of_locals()
+    ensures local { (s : Storage) → storage_tagged (storage_tag s) ≡ Some (with_no_pointee s) }
+    ensures tag { (n : ℕ) (s : Storage) → storage_tagged n ≡ Some s → storage_tag s ≡ n }
+{}

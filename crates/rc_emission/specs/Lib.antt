@@ -1,0 +1,10 @@
+pub mod StackCode
+pub mod OperationCode
+pub mod StatementCode
+pub mod Served
+pub mod KeptOperands
+pub mod Turns
+pub mod Means
+pub mod Pieces
+pub mod ProgramsMean
+pub mod StackExamples

@@ -1,0 +1,9 @@
+//! The plain heap: a deletion looks at the cells of all live regions. Other heaps are compared with it.
+#![tactic(auto)]
+
+mod object;
+mod region;
+mod scan;
+mod slot;
+
+pub use scan::ScanHeap;

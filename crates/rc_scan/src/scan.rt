@@ -1,0 +1,351 @@
+// A heap that looks at all cells.
+ghost use Rattle.std.specs.Prelude.{◌≡◌, ◌+◌, ◌<◌, ◌≤◌, ◌↔◌, [], ◌∷◌, ◌++◌, length, map, Some, None, IfOk, OnOk, OnErr, IsTrue, sum_by, slice_set, slice_index_or, option_map};
+ghost use Rattle.std.specs.List.{list_any};
+ghost use Rattle.rc_core.specs.Heap.{Handle, fits, is_above};
+ghost use Rattle.rc_core.specs.Laid.{kind_of};
+ghost use Rattle.rc_core.specs.Shapes.{kinds_in};
+ghost use Rattle.rc_store.specs.Kept.{blank, view_refs};
+ghost use Rattle.rc_store.specs.Stores.{HasCell, cell_value, cells_in, is_child, live_in, no_view, object_in, objects_in, objects_with, parent_in, region_at, with_objects};
+ghost use Rattle.rc_store.specs.Values.{value_of};
+
+use crate::region::Region;
+use rc_base::{Limits, NoMemory, Steps};
+use rc_core::layout::Layout;
+use rc_core::ty::Note;
+use rc_store::{Cell, Denied, Heap, MakeFault, Pins, Place};
+use std::alloc::Global;
+use std::sync::ledger::Ledger;
+
+/// A heap that keeps no counts: a deletion looks at the cells of all live regions. It is plain, so
+/// that others can be compared with it.
+#[derive(Drop)]
+pub struct ScanHeap {
+    alloc: Global,
+    /// By number; none where it is dead.
+    regions: Vec<Option<Region>>,
+    pins: Pins,
+    region_limit: u32,
+    block_limit: u32,
+}
+
+/// The region with this number, where it is live.
+fn region_at(regions: &[Option<Region>], number: u32) -> Option<&Region>
+    ensures { option_map (λ r. r.now) result ≡ region_at regions.now number }
+{
+    match regions.get(number as usize) {
+        None => None,
+        Some(slot) => match slot {
+            None => None,
+            Some(region) => Some(region),
+        },
+    }
+}
+
+fn is_live(regions: &[Option<Region>], number: u32) -> bool
+    ensures { result ≡ live_in regions.now number }
+{
+    match region_at(regions, number) {
+        None => false,
+        Some(_region) => true,
+    }
+}
+
+fn parent(regions: &[Option<Region>], number: u32) -> u32
+    ensures { result ≡ parent_in regions.now number }
+{
+    match region_at(regions, number) {
+        None => 0,
+        Some(region) => region.parent(),
+    }
+}
+
+/// How many objects a region has.
+fn object_count(regions: &[Option<Region>], number: u32) -> usize
+    ensures { result ≡ length (objects_in regions.now number) }
+{
+    match region_at(regions, number) {
+        None => 0,
+        Some(region) => region.len(),
+    }
+}
+
+/// How many elements an object has.
+fn elements(regions: &[Option<Region>], number: u32, object: u32) -> u32
+    requires { object < length (objects_in regions.now number) }
+    ensures { result ≡ (object_in regions.now number object).count }
+{
+    match region_at(regions, number) {
+        None => unreachable!(),
+        Some(region) => region.elements(object),
+    }
+}
+
+fn read_cell(regions: &[Option<Region>], place: Place) -> Cell
+    requires object { place.pointer.object < length (objects_in regions.now place.pointer.region) }
+    requires cell { HasCell (object_in regions.now place.pointer.region place.pointer.object) place.pointer.index place.cell }
+    ensures { value_of result ≡ cell_value (object_in regions.now place.pointer.region place.pointer.object) place.pointer.index place.cell }
+{
+    match region_at(regions, place.pointer.region) {
+        None => unreachable!(),
+        Some(region) => region.get(place.pointer.object, place.pointer.index, place.cell),
+    }
+}
+
+fn write_cell(regions: &mut [Option<Region>], place: Place, value: Cell)
+    requires object { place.pointer.object < length (objects_in regions.old place.pointer.region) }
+    requires cell { HasCell (object_in regions.old place.pointer.region place.pointer.object) place.pointer.index place.cell }
+    ensures { regions.new ≡ with_objects place.pointer.region (objects_with place.pointer.object place.pointer.index place.cell (value_of value) (objects_in regions.old place.pointer.region)) regions.old }
+{
+    let pointer = place.pointer;
+    match &mut regions[pointer.region as usize] {
+        None => unreachable!(),
+        Some(region) => region.set(pointer.object, pointer.index, place.cell, value),
+    }
+}
+
+/// Appends an object of n elements, all zero or null.
+fn push_object(
+    alloc: Global,
+    regions: &mut [Option<Region>],
+    number: u32,
+    layout: &Layout,
+    n: u32,
+) -> Result<(), NoMemory>
+    requires { IsTrue (live_in regions.old number) }
+    ensures ok { OnOk result (regions.new ≡ with_objects number (objects_in regions.old number ++ blank (map kind_of (kinds_in layout.now)) n ∷ []) regions.old) }
+    ensures err { OnErr result (regions.new ≡ regions.old) }
+{
+    match &mut regions[number as usize] {
+        None => unreachable!(),
+        Some(region) => region.push(alloc, layout, n),
+    }
+}
+
+/// Whether region a is b, or above b's parent. A parent has the smaller number.
+fn is_above(regions: &[Option<Region>], a: u32, b: u32) -> bool
+    ensures { result ≡ is_above (parent_in regions.now) a b }
+{
+    let mut at = b;
+    for _ in 0..b {
+        if at == a {
+            return true;
+        }
+        if at == 0 {
+            return false;
+        }
+        at = parent(regions, at);
+    }
+    at == a
+}
+
+/// Whether a region may be named in a cell with the annotation, in an object of the holder's region.
+fn suits(regions: &[Option<Region>], note: Note, holder: u32, region: u32) -> bool
+    ensures { result ≡ fits (parent_in regions.now) note holder (Handle region) }
+{
+    match note {
+        Note::Plain => true,
+        Note::SameRegion => region == holder,
+        Note::ParentPtr => is_above(regions, region, holder),
+        Note::Traditional => region == 0,
+    }
+}
+
+/// Whether a value may stand in a cell with the annotation, in an object of the holder's region.
+fn fits(regions: &[Option<Region>], note: Note, holder: u32, value: Cell) -> bool
+    ensures { result ≡ fits (parent_in regions.now) note holder (value_of value) }
+{
+    match value {
+        Cell::Number(_) => true,
+        Cell::Nothing => true,
+        Cell::Region(region) => suits(regions, note, holder, region),
+        Cell::Pointer(pointer) => suits(regions, note, holder, pointer.region),
+    }
+}
+
+/// Whether a live region has this one as its parent.
+fn any_child(regions: &[Option<Region>], region: u32) -> bool
+    ensures { result ≡ list_any (is_child region) regions.now }
+{
+    for child in regions {
+        if let Some(child) = child {
+            if child.is_child_of(region) {
+                return true;
+            }
+        }
+    }
+    false
+}
+
+/// Whether a counted cell of a region, if it is live, names this one. Each cell that is read is a step.
+fn slot_names<L: Ledger>(slot: &Option<Region>, region: u32, steps: &mut Steps<L>) -> bool
+    ensures found { IsTrue result ↔ (0 < view_refs region slot.now) }
+    ensures cost { steps.new ≤ steps.old + cells_in slot.now }
+    ensures never_falls { steps.old ≤ steps.new }
+{
+    match slot {
+        Some(other) => other.names(region, steps),
+        None => false,
+    }
+}
+
+/// The same of the region i, if it is another one.
+fn other_names<L: Ledger>(
+    regions: &[Option<Region>],
+    i: usize,
+    region: u32,
+    steps: &mut Steps<L>,
+) -> bool
+    requires { i < length regions.now }
+    ensures found { IsTrue result ↔ (0 < view_refs region (slice_index_or (slice_set regions.now region None) i None)) }
+    ensures cost { steps.new ≤ steps.old + cells_in (slice_index_or regions.now i None) }
+    ensures never_falls { steps.old ≤ steps.new }
+{
+    if i == region as usize {
+        return false;
+    }
+    slot_names(&regions[i], region, steps)
+}
+
+/// Whether a counted cell of another live region names this one. Each cell that is read is a step.
+fn any_other_names<L: Ledger>(regions: &[Option<Region>], region: u32, steps: &mut Steps<L>) -> bool
+    ensures found { IsTrue result ↔ (0 < sum_by (view_refs region) (slice_set regions.now region None)) }
+    ensures cost { steps.new ≤ steps.old + sum_by cells_in regions.now }
+    ensures never_falls { steps.old ≤ steps.new }
+{
+    for i in 0..regions.len() {
+        if other_names(regions, i, region, steps) {
+            return true;
+        }
+    }
+    false
+}
+
+impl ScanHeap {
+    ghost use Rattle.rc_store.specs.Kept.{refs};
+
+    /// Region 0 alone, without objects, and nothing pinned. Both limits are 0.
+    ///
+    /// # Errors
+    ///
+    /// Out of memory.
+    pub fn new(alloc: Global) -> Result<ScanHeap, NoMemory>
+        ensures { IfOk result (λ heap. ⟦<ScanHeap as Heap>⟧.store heap ≡ record { regions = Some no_view ∷ []; pins = []; spare = 0; region_limit = 0; block_limit = 0 }) }
+    {
+        let mut regions = Vec::new(alloc);
+        match regions.push(Some(Region::new(alloc, 0))) {
+            Ok(()) => Ok(ScanHeap {
+                alloc,
+                regions,
+                pins: Pins::new(alloc),
+                region_limit: 0,
+                block_limit: 0,
+            }),
+            Err(_) => Err(NoMemory),
+        }
+    }
+
+    /// Whether a counted cell of another live region, or a pin, names this one.
+    fn is_named<L: Ledger>(&self, region: u32, steps: &mut Steps<L>) -> bool
+        ensures found { IsTrue result ↔ (0 < refs (⟦<ScanHeap as Heap>⟧.store self.now) region) }
+        ensures cost { steps.new ≤ steps.old + sum_by cells_in self.now.regions.items }
+        ensures never_falls { steps.old ≤ steps.new }
+    {
+        if any_other_names(&self.regions, region, steps) {
+            return true;
+        }
+        self.pins.name(region)
+    }
+}
+
+impl Heap for ScanHeap {
+    ghost use Rattle.std.specs.Prelude.{sum_by};
+    ghost use Rattle.rc_store.specs.Stores.{cells_in};
+
+    ghost store = { λ h. record { regions = h.regions.items; pins = h.pins.pins; spare = h.pins.spare; region_limit = h.region_limit; block_limit = h.block_limit } };
+
+    ghost most_reads = { λ h r. sum_by cells_in h.regions.items };
+
+    fn new_region(&mut self, parent: u32) -> Result<u32, MakeFault> {
+        let number = self.regions.len();
+        if number > self.region_limit as usize {
+            return Err(MakeFault::Full);
+        }
+        match self.regions.push(Some(Region::new(self.alloc, parent))) {
+            Ok(()) => Ok(number as u32),
+            Err(_) => Err(MakeFault::Memory),
+        }
+    }
+
+    fn add_global(&mut self, kind: &Layout, n: u32) -> Result<u32, NoMemory> {
+        let number = object_count(&self.regions, 0);
+        push_object(self.alloc, &mut self.regions, 0, kind, n)?;
+        Ok(number as u32)
+    }
+
+    fn allocate(&mut self, region: u32, kind: &Layout, n: u32) -> Result<u32, MakeFault> {
+        let number = object_count(&self.regions, region);
+        if number >= self.block_limit as usize {
+            return Err(MakeFault::Full);
+        }
+        match push_object(self.alloc, &mut self.regions, region, kind, n) {
+            Ok(()) => Ok(number as u32),
+            Err(NoMemory) => Err(MakeFault::Memory),
+        }
+    }
+
+    fn is_live(&self, region: u32) -> bool {
+        is_live(&self.regions, region)
+    }
+
+    fn elements(&self, region: u32, object: u32) -> u32 {
+        elements(&self.regions, region, object)
+    }
+
+    fn read<L: Ledger>(&self, place: Place, steps: &mut Steps<L>) -> Cell {
+        steps.tick();
+        read_cell(&self.regions, place)
+    }
+
+    fn write_counted<L: Ledger>(&mut self, place: Place, value: Cell, _steps: &mut Steps<L>) {
+        write_cell(&mut self.regions, place, value);
+    }
+
+    fn write_kept(&mut self, place: Place, value: Cell) {
+        write_cell(&mut self.regions, place, value);
+    }
+
+    fn fits<L: Ledger>(&self, note: Note, holder: u32, value: Cell, _steps: &mut Steps<L>) -> bool {
+        fits(&self.regions, note, holder, value)
+    }
+
+    fn reserve_pins(&mut self, n: u32) -> Result<(), NoMemory> {
+        self.pins.reserve(n)
+    }
+
+    fn pin(&mut self, value: Cell) {
+        self.pins.pin(value);
+    }
+
+    fn unpin(&mut self, value: Cell) {
+        self.pins.unpin(value);
+    }
+
+    fn delete<L: Ledger>(&mut self, region: u32, steps: &mut Steps<L>) -> Result<(), Denied> {
+        if region == 0 {
+            return Err(Denied::Root);
+        }
+        if any_child(&self.regions, region) {
+            return Err(Denied::Subregion);
+        }
+        if self.is_named(region, steps) {
+            return Err(Denied::Reference);
+        }
+        self.regions[region as usize] = None;
+        Ok(())
+    }
+
+    fn limit(&mut self, limits: &Limits) {
+        self.region_limit = limits.regions;
+        self.block_limit = limits.blocks;
+    }
+}

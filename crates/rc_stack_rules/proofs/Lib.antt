@@ -1,0 +1,8 @@
+pub mod SoundSteps
+pub mod SoundOperations
+pub mod SoundActs
+pub mod SoundFunctions
+pub mod PinRules
+pub mod Kinding
+pub mod Loading
+pub mod NamedLocals

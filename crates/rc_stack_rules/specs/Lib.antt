@@ -1,0 +1,4 @@
+pub mod LoaderRules
+pub mod Kinded
+pub mod Loadable
+pub mod Named

@@ -1,0 +1,17 @@
+//! The heap: regions with objects, as long as they are live, and the values that are pinned.
+//!
+//! `Heap` is the trait of all heaps. `specs/Kept.antt` says what a heap keeps of the store model of
+//! rc_core, and `specs/Stores.antt` what each call does to it.
+#![tactic(auto)]
+
+mod cell;
+mod heap;
+mod kinds;
+mod laws;
+mod pins;
+
+pub use cell::{Cell, Denied, MakeFault, Place, Pointer};
+pub use heap::Heap;
+pub use kinds::{blank_of, is_counted, kinds_of};
+pub use laws::a_heap_keeps_the_store;
+pub use pins::Pins;

@@ -1,0 +1,7 @@
+//! Tests of images.
+#![tactic(auto)]
+
+#[cfg(test)]
+mod bytes;
+#[cfg(test)]
+mod table;

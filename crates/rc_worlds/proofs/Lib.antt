@@ -1,0 +1,17 @@
+pub mod Looks
+pub mod Counts
+pub mod Does
+pub mod Typed
+pub mod WorldOps
+pub mod Stacks
+pub mod Steps
+pub mod Walks
+pub mod Layouts
+pub mod Whole
+pub mod First
+pub mod Machine
+pub mod Places
+pub mod Begins
+pub mod Meanings
+pub mod Reached
+pub mod Computed
