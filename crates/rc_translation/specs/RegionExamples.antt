@@ -140,7 +140,8 @@ pair target = program_with ((one int ∷ one (pointer SameRegion (struct 0)) ∷
 abbrev value_of_p : (x : ℕ) → Expr
 value_of_p x = read 6 (pointed (local 6 x) (field 0 0 here))
 
-pub record Examples : Type 0 where
+-- each of the programs with its end, whatever it means that a program runs so
+pub record AllRun (Runs : Program → (turns : ℕ) → List Act → End → Type 0) : Type 0 where
   pub pair_traps : Runs (pair 3) 1 (Write 65 ∷ []) (Trapped UnfitSameRegion 8)
   pub pair_exits : Runs (pair 4) 1 (Write 65 ∷ []) (Exit (pos 77))
   pub hello_writes : Runs hello 1 (Write 72 ∷ []) (Exit (pos 0))
@@ -161,3 +162,6 @@ pub record Examples : Type 0 where
   pub nothing_waits : Runs (frames (number (pos 0))) 3 [] (Exit (pos 0))
   pub a_step_back_is_a_turn : Runs counting 3 [] (Exit (pos 3))
   pub and_no_more : Runs counting 2 [] Spent
+
+abbrev pub Examples : Type 0
+Examples = AllRun Runs
