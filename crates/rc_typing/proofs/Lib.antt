@@ -1,17 +1,3 @@
-pub mod Walks
-pub mod Kept
 pub mod Mains
-pub mod Ruled
 pub mod Bounded
-pub mod Blocks
-pub mod Cells
-pub mod Declared
-pub mod Assigned
-pub mod Members
-pub mod Params
-pub mod Functions
-pub mod Whole
-pub mod Totals
-pub mod Globals
-pub mod Alones
 pub mod Programs

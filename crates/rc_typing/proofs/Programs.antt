@@ -1,5 +1,6 @@
 -- The program of a text, from what its parts are.
 use Rattle.std.proofs.Common.{◌≡◌, ◌≤◌, ℕ, refl, ap, sym, ◌∙◌, subst, List, [], ◌∷◌, ◌++◌, length, drop, map, None}
+use Rattle.std.proofs.lemmas.List.{append-nil}
 use Rattle.rc_core.specs.Programs.{Program, Struct, Field}
 use Rattle.rc_core.specs.declared.parts.Parts.{Parts}
 use Rattle.rc_core.specs.Shapes.{field_of, struct_of, program_of}
@@ -15,18 +16,14 @@ use Rattle.rc_operators.specs.declared.stop.Stop.{Stop}
 use Rattle.rc_operators.specs.Stops.{StopsAt}
 use Rattle.rc_terms.specs.declared.fields.NamedField.{NamedField}
 use Rattle.rc_terms.specs.Fields.{named_of}
-use Rattle.rc_typing.specs.Outside.{all_made}
+use Rattle.rc_items.specs.Outside.{all_made}
 use Rattle.rc_terms.proofs.Stops.{part_stops}
 use Rattle.rc_terms.proofs.Walks.{none_left}
-
-append_end : {A : Type 0} (xs : List A) → xs ++ [] ≡ xs
-append_end [] = refl
-append_end (x ∷ xs) = ap (λ ys. x ∷ ys) (append_end xs)
 
 -- a list that is made from another, part by part, is whole
 module _ {A B C : Type 0} (f : A → C) (g : B → C) (all : List A) (i : ℕ) (made : List B) where
   pub made_end : length all ≤ i → map g made ++ map f (drop i all) ≡ map g made
-  made_end l = ap (λ xs. map g made ++ map f xs) (none_left all i l) ∙ append_end (map g made)
+  made_end l = ap (λ xs. map g made ++ map f xs) (none_left all i l) ∙ append-nil (map g made)
 
 abbrev pub own_field : NamedField → Field
 own_field f = field_of f.field

@@ -18,10 +18,10 @@ ghost use Rattle.rc_terms.specs.Fields.{struct_in};
 
 use crate::bounds::{numbers, strings};
 use crate::fault::TypeFault;
-use crate::items::{Whole, items};
 use rc_core::parts::{Field, Parts, Struct};
 use rc_core::program::Program;
 use rc_deletes::{DeletesFault, Fault, Refusal, check_deletes};
+use rc_items::{Whole, items};
 use rc_judgements::{fits_together, keeps_limits};
 use rc_operators::{Stop, add, copy_of};
 use rc_rules::{gives_int, main_shape, takes_nothing};

@@ -1,0 +1,7 @@
+pub mod Ruled
+pub mod Members
+pub mod Params
+pub mod Functions
+pub mod Walked
+pub mod Totals
+pub mod Globals

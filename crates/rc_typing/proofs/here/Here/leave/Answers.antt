@@ -1,5 +1,0 @@
-use Rattle.rc_typing.proofs.Kept.{left_behind}
-use Rattle.rc_typing.proofs.here.Here.leave.Goals as goal
-
-pub returns : goal.returns
-returns c = λ before o own e. left_behind before c.args.self.now c.leave.new.self c.args.outer own o c.leave.ensures e
