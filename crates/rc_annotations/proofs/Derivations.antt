@@ -5,7 +5,7 @@ use Rattle.rc_facts.specs.declared.fact.Fact.{Fact}
 use Rattle.rc_facts.specs.Derivable.{Derivable, stated, in_itself, in_through, up_through, up_by_in, in_back, present_by_in, present_by_up, trad_by_up, up_by_trad, in_by_trad}
 use Rattle.rc_annotations.specs.Laws.{Within}
 use Rattle.rc_annotations.specs.Annotations.{Facts, allowed, assigning}
-use Rattle.rc_annotations.specs.RegionFlow.{Effect}
+use Rattle.rc_rlang.specs.RegionFlow.{Effect}
 use Rattle.std.specs.Prelude.{Option, Some, None}
 
 -- where each given fact is derivable from others, so is what is derivable from them

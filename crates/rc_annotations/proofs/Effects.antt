@@ -7,7 +7,7 @@ use Rattle.rc_core.specs.Heap.{Value, Number, Null, Handle, Pointer, Heap, paren
 use Rattle.rc_facts.specs.declared.fact.Fact.{Fact}
 use Rattle.rc_facts.specs.declared.fact.Fact.TheVariants.{In, Up, Trad, NonNull}
 use Rattle.rc_facts.specs.Derivable.{Derivable}
-use Rattle.rc_annotations.specs.RegionFlow.{Effect, nothing, nulled, moved, fixed, beside, made, under, loaded, looked_at, stored, present, absent, called, entered, assigned}
+use Rattle.rc_rlang.specs.RegionFlow.{Effect, nothing, nulled, moved, fixed, beside, made, under, loaded, looked_at, stored, present, absent, called, entered, assigned}
 use Rattle.rc_facts.specs.Facts.{same_fact}
 use Rattle.rc_annotations.specs.Annotations.{Facts, allowed, assigning, gained, by_note, of_null, some_pair, is_below, fact_with, renamed}
 use Rattle.rc_annotations.specs.Effects.{Absent, EachIs, Says, Happens}

@@ -1,14 +1,14 @@
 -- A turn of the worklist keeps every consistent annotation inside.
 use Rattle.std.proofs.Common.{◌≡◌, ℕ, zero, suc, Bool, true, refl, ◌||◌, ◌&&◌, IsTrue, List, length, get_or, Option, Some, inl, inr}
-use Rattle.std.specs.Prelude.{slice_get}
+use Rattle.std.specs.Prelude.{slice_get, ◌↔◌}
 use Rattle.std.proofs.lemmas.Bool.{or_cases, or_left, or_right, and_parts, and_from}
 use Rattle.rc_facts.specs.declared.fact.Fact.{Fact}
 use Rattle.rc_facts.specs.declared.fact.Fact.TheVariants.{In, Up, Trad, NonNull}
 use Rattle.rc_facts.specs.Derivable.{Derivable}
 use Rattle.rc_rlang.specs.RegionCode.{Routine, Rlang}
-use Rattle.rc_annotations.specs.RegionFlow.{Effect, nothing, nulled, moved, fixed, beside, made, under, loaded, looked_at, stored, present, absent, called, entered, Edge, Node, assigned, copies, result_variable, variables, scratch, routine_nodes}
-use Rattle.rc_annotations.specs.Annotations.{gained, Facts, Annotation, Consistent, is_place, place_in, some_below, pair_fact, exit_facts, allowed, returned_facts, fact_with, renamed}
-use Rattle.rc_annotations.specs.Laws.{Within, Inside, Leaves, united, without_facts}
+use Rattle.rc_rlang.specs.RegionFlow.{Effect, nothing, nulled, moved, fixed, beside, made, under, loaded, looked_at, stored, present, absent, called, entered, Edge, Node, assigned, copies, result_variable, variables, scratch, routine_nodes}
+use Rattle.rc_annotations.specs.Annotations.{gained, Facts, Annotation, Consistent, is_place, place_in, some_below, pair_fact, exit_facts, allowed, returned_facts, fact_with, renamed, Proven, Removable}
+use Rattle.rc_annotations.specs.Laws.{Within, Inside, Leaves, Greatest, united, without_facts}
 use Rattle.rc_annotations.proofs.Derivations.{derivable_more, either_more, allowed_more}
 
 below_more : (test test1 : ℕ → Bool) → ((i : ℕ) → test i ≡ true → test1 i ≡ true) → (m : ℕ) → some_below test m ≡ true → some_below test1 m ≡ true
@@ -106,3 +106,10 @@ without_facts_consistent r temporaries = record {
   exit = λ g f p node given fact there at returns is. cc;
   main = λ fact. refl;
 }
+
+-- where there is a greatest one, it has what any has
+pub has_more : (r : Rlang) (b a : Annotation) → Inside b a → (g p : ℕ) → Proven r b g p → Proven r a g p
+has_more r b a i g p q = record { routine = q.routine; there = q.there; node = q.node; at_point = q.at_point; fact = q.fact; asks = q.asks; has = i.before g p q.fact q.has }
+
+pub greatest_removes : (r : Rlang) (temporaries : ℕ → ℕ) (a : Annotation) → Greatest r temporaries a → (g p : ℕ) → Removable r temporaries g p ↔ Proven r a g p
+greatest_removes r temporaries a great g p = ((λ q. has_more r q.annotation a (great.greatest q.annotation q.consistent) g p q.proven), (λ q. record { annotation = a; consistent = great.consistent; proven = q }))

@@ -5,4 +5,4 @@ pub mod Effects
 pub mod Variables
 pub mod WorldFacts
 pub mod Greatest
-pub mod Along
+pub mod Unions

@@ -9,7 +9,7 @@ use Rattle.rc_core.specs.Layout.{Layout}
 use Rattle.rc_rlang.specs.Points.{change_points, end_points}
 use Rattle.rc_rlang.specs.RegionCode.{Access, Step, set, fork, Steps, none, more, Act, drop, perform, assign, store, update, move, delete, leave, Test, Code, simple, clear, block, branch, loop, repeat, break, continue, Codes, done, then, Routine}
 use Rattle.rc_rlang.specs.RegionPoints.{step_points, steps_points, act_points, branch_points, code_points, codes_points, routine_points}
-use Rattle.rc_annotations.specs.RegionFlow.{Effect, Ends, first_of, step_nodes, steps_nodes, change_effects, cell_effects, in_line, act_nodes, test_nodes, code_nodes, codes_nodes, end_nodes, routine_nodes}
+use Rattle.rc_rlang.specs.RegionFlow.{Effect, Ends, first_of, step_nodes, steps_nodes, change_effects, cell_effects, in_line, act_nodes, test_nodes, code_nodes, codes_nodes, end_nodes, routine_nodes}
 
 four : {A : Type 0} (a b c d : List A) (i j k l : ℕ) → length a ≡ i → length b ≡ j → length c ≡ k → length d ≡ l → length (a ++ (b ++ (c ++ d))) ≡ i + (j + (k + l))
 four a b c d i j k l ea eb ec ed =

@@ -5,7 +5,7 @@ use Rattle.std.proofs.lemmas.List.Sums.{sum_by-cons}
 use Rattle.rc_core.specs.Types.{Ty}
 use Rattle.rc_core.specs.Heap.{Value, Null, update}
 use Rattle.rc_rlang.specs.RegionCode.{Routine}
-use Rattle.rc_annotations.specs.RegionFlow.{is_regional, copies, local_variable, temporary_variable}
+use Rattle.rc_rlang.specs.RegionFlow.{is_regional, copies, local_variable, temporary_variable}
 use Rattle.rc_rlang.specs.RegionRuns.{changed_at}
 use Rattle.rc_annotations.specs.Variables.{picked, past, picks, values_of}
 

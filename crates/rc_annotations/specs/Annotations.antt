@@ -11,7 +11,7 @@ use Rattle.rc_facts.specs.declared.fact.Fact.TheVariants.{In, Up, Trad, NonNull}
 use Rattle.rc_facts.specs.Facts.{same_fact}
 use Rattle.rc_facts.specs.Derivable.{Derivable}
 use Rattle.rc_rlang.specs.RegionCode.{Routine, Rlang}
-use Rattle.rc_annotations.specs.RegionFlow.{Effect, nothing, nulled, moved, fixed, beside, made, under, loaded, looked_at, stored, present, absent, called, entered, assigned, Edge, Node, copies, result_variable, variables, scratch, routine_nodes}
+use Rattle.rc_rlang.specs.RegionFlow.{Effect, nothing, nulled, moved, fixed, beside, made, under, loaded, looked_at, stored, present, absent, called, entered, assigned, Edge, Node, copies, result_variable, variables, scratch, routine_nodes}
 
 -- a set of facts, as its test
 abbrev pub Facts : Type 0
@@ -177,14 +177,24 @@ first_asked (e ∷ es) = asked_of e.effect
 abbrev pub asked_by : Node → Option Fact
 asked_by node = first_asked node.edges
 
--- the check of the store at this point may go: it asks for a fact that some consistent annotation has there
-pub record Removable (r : Rlang) (temporaries : ℕ → ℕ) (function point : ℕ) : Type 0 where
-  pub annotation : Annotation
-  pub consistent : Consistent r temporaries annotation
+-- at the point is a store whose check asks for a fact that the annotation has there
+pub record Proven (r : Rlang) (a : Annotation) (function point : ℕ) : Type 0 where
   pub routine : Routine
   pub there : slice_get r.functions function ≡ Some routine
   pub node : Node
   pub at_point : slice_get (routine_nodes routine) point ≡ Some node
   pub fact : Fact
   pub asks : asked_by node ≡ Some fact
-  pub has : annotation.before function point fact ≡ true
+  pub has : a.before function point fact ≡ true
+
+abbrev pub AllProven : Rlang → Annotation → (marks : (function point : ℕ) → Bool) → Type 0
+AllProven r a marks = (g p : ℕ) → marks g p ≡ true → Proven r a g p
+
+-- its check may go where some consistent annotation has the fact
+pub record Removable (r : Rlang) (temporaries : ℕ → ℕ) (function point : ℕ) : Type 0 where
+  pub annotation : Annotation
+  pub consistent : Consistent r temporaries annotation
+  pub proven : Proven r annotation function point
+
+abbrev pub AllRemovable : Rlang → (temporaries : ℕ → ℕ) → (marks : (function point : ℕ) → Bool) → Type 0
+AllRemovable r temporaries marks = (g p : ℕ) → marks g p ≡ true → Removable r temporaries g p

@@ -3,7 +3,7 @@
 use Rattle.std.specs.Prelude.{◌≡◌, ℕ, ◌<◌, true, IsTrue, List, [], ◌∷◌, Option, Some, None}
 use Rattle.rc_core.specs.Heap.{Value, Heap, parent, is_above, fits}
 use Rattle.rc_facts.specs.declared.fact.Fact.{Fact}
-use Rattle.rc_annotations.specs.RegionFlow.{Effect, nothing, nulled, moved, fixed, beside, made, under, loaded, looked_at, stored, present, absent, called, entered}
+use Rattle.rc_rlang.specs.RegionFlow.{Effect, nothing, nulled, moved, fixed, beside, made, under, loaded, looked_at, stored, present, absent, called, entered}
 use Rattle.rc_rlang.specs.RegionRuns.{changed_at}
 use Rattle.rc_annotations.specs.Annotations.{Facts, assigning}
 use Rattle.rc_annotations.specs.Holding.{is_present, region_in, Holds}

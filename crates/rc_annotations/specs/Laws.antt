@@ -9,8 +9,8 @@ use Rattle.rc_core.specs.Source.{World, source}
 use Rattle.rc_facts.specs.declared.fact.Fact.{Fact}
 use Rattle.rc_facts.specs.Derivable.{Derivable}
 use Rattle.rc_rlang.specs.RegionCode.{Routine, Rlang}
-use Rattle.rc_annotations.specs.RegionFlow.{Effect, called, assigned, Edge, Node, copies, result_variable, variables, scratch, routine_nodes}
-use Rattle.rc_annotations.specs.Annotations.{Facts, Annotation, is_below, gained, allowed, exit_facts, returned_facts, fact_with, renamed, asked}
+use Rattle.rc_rlang.specs.RegionFlow.{Effect, called, assigned, Edge, Node, copies, result_variable, variables, scratch, routine_nodes}
+use Rattle.rc_annotations.specs.Annotations.{Facts, Annotation, Consistent, is_below, gained, allowed, exit_facts, returned_facts, fact_with, renamed, asked}
 use Rattle.rc_annotations.specs.Holding.{region_in, Holds, AllHold, Rooted}
 use Rattle.rc_annotations.specs.Effects.{Happens}
 use Rattle.rc_annotations.specs.Worlds.{Grown, Grounded, Sane, Beside, Anew, Under, Loaded, Stored, Deleted}
@@ -51,6 +51,11 @@ pub record Inside (b a : Annotation) : Type 0 where
   pub before : (g p : ℕ) → Within (b.before g p) (a.before g p)
   pub entry : (g : ℕ) → Within (b.entry g) (a.entry g)
   pub exit : (g : ℕ) → Within (b.exit g) (a.exit g)
+
+-- it is consistent, and each consistent one is inside
+pub record Greatest (r : Rlang) (temporaries : ℕ → ℕ) (a : Annotation) : Type 0 where
+  pub consistent : Consistent r temporaries a
+  pub greatest : (b : Annotation) → Consistent r temporaries b → Inside b a
 
 -- no facts at all
 abbrev pub without_facts : Annotation

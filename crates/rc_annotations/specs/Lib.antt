@@ -1,9 +1,7 @@
-pub mod RegionFlow
 pub mod Annotations
 pub mod Holding
 pub mod Worlds
 pub mod Effects
 pub mod Variables
-pub mod Along
-pub mod RunLaws
+pub mod Heights
 pub mod Laws

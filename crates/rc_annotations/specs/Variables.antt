@@ -2,7 +2,7 @@
 use Rattle.std.specs.Prelude.{ℕ, zero, suc, Bool, true, false, List, [], ◌∷◌, map}
 use Rattle.rc_core.specs.Heap.{Value, Null}
 use Rattle.rc_rlang.specs.RegionCode.{Routine}
-use Rattle.rc_annotations.specs.RegionFlow.{is_regional}
+use Rattle.rc_rlang.specs.RegionFlow.{is_regional}
 
 -- the values at true places
 abbrev pub picked : List Bool → List Value → List Value

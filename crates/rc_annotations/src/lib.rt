@@ -1,17 +1,16 @@
 //! Annotations of region code with facts. `specs/Annotations` says when one is consistent, and which
 //! checks it removes; `specs/Holding` what a fact says of values, `specs/Variables` which values a
 //! function's variables have, `specs/Effects` what happens to them at a point, and `specs/Worlds` what
-//! the operations of the source's world do to them. `specs/Along` says what is asked of the types of
-//! region code, and of a run, so that facts hold along it.
+//! the operations of the source's world do to them. `specs/Heights` counts the
+//! temporaries of functions.
 #![tactic(auto)]
 
-ghost use Rattle.std.specs.Prelude.{◌≡◌, ℕ, length};
+ghost use Rattle.std.specs.Prelude.{◌≡◌, ◌↔◌, ℕ, Bool, length};
 ghost use Rattle.rc_rlang.specs.RegionCode.{Rlang, Routine};
-ghost use Rattle.rc_annotations.specs.RegionFlow.{routine_nodes};
+ghost use Rattle.rc_rlang.specs.RegionFlow.{routine_nodes};
 ghost use Rattle.rc_rlang.specs.RegionPoints.{routine_points};
-ghost use Rattle.rc_annotations.specs.Annotations.{Annotation, Consistent};
-ghost use Rattle.rc_annotations.specs.Laws.{DerivedHolds, HoldsLater, AskedFits, AllowedHolds, OperationsSay, Inside, Leaves, united, without_facts};
-ghost use Rattle.rc_annotations.specs.RunLaws.{InEachCall, StepsKeepFacts, CodeKeepsFacts, RemovedFits, CallsKeepFacts};
+ghost use Rattle.rc_annotations.specs.Annotations.{Annotation, Consistent, Proven, AllProven, Removable, AllRemovable};
+ghost use Rattle.rc_annotations.specs.Laws.{DerivedHolds, HoldsLater, AskedFits, AllowedHolds, OperationsSay, Inside, Leaves, Greatest, united, without_facts};
 
 /// A function of region code has as many nodes as points.
 pub fn points_are_nodes()
@@ -44,26 +43,17 @@ pub fn operations_do_what_effects_say()
 /// Two consistent annotations have a consistent one that has all facts of both (`united`, `left`,
 /// `right`). A search that goes downward from all facts, and takes away only what does not follow,
 /// keeps each consistent annotation inside (`kept`). The annotation without facts is consistent
-/// (`least`).
+/// (`least`). Where there is a greatest consistent annotation, which every consistent one is inside of,
+/// the checks that may go are those that it proves needless (`removable`), and another greatest one
+/// has the same facts (`one`). Checks that may go are proven needless together, by one consistent
+/// annotation (`together`).
 pub fn consistent_annotations_unite()
     ensures united { (r : Rlang) (temporaries : ℕ → ℕ) (a b : Annotation) → Consistent r temporaries a → Consistent r temporaries b → Consistent r temporaries (united a b) }
     ensures left { (a b : Annotation) → Inside a (united a b) }
     ensures right { (a b : Annotation) → Inside b (united a b) }
     ensures kept { (r : Rlang) (temporaries : ℕ → ℕ) (b a : Annotation) → Consistent r temporaries b → Inside b a → Leaves r temporaries b a }
     ensures least { (r : Rlang) (temporaries : ℕ → ℕ) → Consistent r temporaries without_facts }
-{}
-
-/// The facts of a consistent annotation hold along runs of region code over the source's world, where
-/// the code's types agree and the run meets them: deletions, and locals that name deleted regions,
-/// included.
-///
-/// `steps` says it of the steps of an expression, `code` of a statement, with all that is inside it,
-/// and `calls` of calls inside one another: a call that is given the facts of its function's entry
-/// gives back those of the exit. `removed` says that the check of a store finds that the value fits,
-/// whenever the run comes to it, where the annotation has the fact that the check asks.
-pub fn facts_hold_along_runs()
-    ensures steps { (r : Rlang) (temporaries : ℕ → ℕ) (a : Annotation) → Consistent r temporaries a → InEachCall r temporaries a (StepsKeepFacts r temporaries a) }
-    ensures code { (r : Rlang) (temporaries : ℕ → ℕ) (a : Annotation) → Consistent r temporaries a → InEachCall r temporaries a (CodeKeepsFacts r temporaries a) }
-    ensures calls { (r : Rlang) (temporaries : ℕ → ℕ) (a : Annotation) → Consistent r temporaries a → CallsKeepFacts r temporaries a }
-    ensures removed { (r : Rlang) (temporaries : ℕ → ℕ) (a : Annotation) → Consistent r temporaries a → InEachCall r temporaries a (RemovedFits r temporaries a) }
+    ensures removable { (r : Rlang) (temporaries : ℕ → ℕ) (a : Annotation) → Greatest r temporaries a → (g p : ℕ) → Removable r temporaries g p ↔ Proven r a g p }
+    ensures together { (r : Rlang) (temporaries : ℕ → ℕ) (marks : (function point : ℕ) → Bool) → AllRemovable r temporaries marks → (a : Annotation) × Consistent r temporaries a × AllProven r a marks }
+    ensures one { (r : Rlang) (temporaries : ℕ → ℕ) (a b : Annotation) → Greatest r temporaries a → Greatest r temporaries b → Inside a b × Inside b a }
 {}

@@ -13,9 +13,10 @@ use Rattle.rc_rlang.specs.RegionCode as From
 use Rattle.rc_rlang.specs.RegionCode.{kind_of, Operation, Step, Steps, set, fork, none, more}
 use Rattle.rc_rlang.specs.RegionRuns.{Temporaries, temporary, with_temporary, kept, holds, operation_value, step_run, steps_run}
 use Rattle.rc_rlang.specs.RegionLive.{before_steps}
+use Rattle.rc_rlang.specs.RegionKinds.{signed_of}
 use Rattle.rc_emission.specs.StackCode.{Instruction, Line, Onward, walk}
 use Rattle.rc_rlang.specs.RegionFits.{operands, pushed, dropped, step_types, steps_types}
-use Rattle.rc_emission.specs.OperationCode.{line_of, at, signed_of, test_code, wide, spills, reloads, exchange}
+use Rattle.rc_emission.specs.OperationCode.{line_of, at, test_code, wide, spills, reloads, exchange}
 use Rattle.rc_emission.specs.Served.{OperationServed, AllKept, OperationKeeps, StepServed, StepsServed}
 use Rattle.rc_emission.specs.StatementCode.{set_code, steps_lines, step_lines}
 use Rattle.rc_translation.proofs.Sames.{bind_bind}

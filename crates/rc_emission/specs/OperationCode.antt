@@ -7,13 +7,13 @@ use Rattle.std.specs.Prelude.{ℕ, suc, ◌+◌, Bool, true, false, List, [], �
 use Rattle.rc_core.specs.declared.ty.NumberType.{NumberType}
 use Rattle.rc_core.specs.declared.ty.NumberType.TheVariants.{Int, Unsigned, Char}
 use Rattle.rc_core.specs.declared.ty.Signedness.{Signedness}
-use Rattle.rc_core.specs.declared.ty.Signedness.TheVariants.{Signed, Unsigned as Wrapping}
 use Rattle.rc_core.specs.declared.operators.Operator.{Operator}
 use Rattle.rc_core.specs.declared.operators.Operator.TheVariants.{Greater, GreaterEqual, NotEqual, Less, LessEqual, Equal}
 use Rattle.rc_core.specs.Types.{Ty, int, unsigned, char}
 use Rattle.rc_core.specs.Typing.{is_shift}
 use Rattle.rc_rlang.specs.RegionCode as From
 use Rattle.rc_rlang.specs.RegionCode.{Index, Access, Operation, Step, Steps, set, fork, none, more}
+use Rattle.rc_rlang.specs.RegionKinds.{signed_of}
 use Rattle.rc_emission.specs.StackCode.{Instruction, Line}
 use Rattle.rc_emission.specs.StackCode as To
 
@@ -23,11 +23,6 @@ line_of line i = record { line = line; instruction = i }
 
 abbrev pub at : (line : ℕ) → List Instruction → List Line
 at line is = map (λ i. record { line = line; instruction = i }) is
-
--- the signedness of a number that moves a pointer
-abbrev pub signed_of : Ty → Signedness
-signed_of unsigned = Wrapping
-signed_of ty = Signed
 
 -- 1 where the operand is zero or null, and else 0
 abbrev pub zero_test : Ty → List Instruction

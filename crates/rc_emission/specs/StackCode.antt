@@ -52,8 +52,8 @@ pub data Instruction : Type 0 where
   call : (function : ℕ) → (parameters : List Ty) → (pins : List ℕ) → Instruction
   -- of a function without a result
   perform : (function : ℕ) → (parameters : List Ty) → (pins : List ℕ) → Instruction
-  -- out of the function, with no value or one
-  leave : (values : ℕ) → Instruction
+  -- out of the function, with no value or with one of this type
+  leave : (values : List Ty) → Instruction
   putchar : Instruction
   getchar : Instruction
   -- past so many; the second where the operand is zero or null
@@ -156,7 +156,7 @@ module _ {W : Type 0} (ops : Ops W) (deleting : ℕ → Bool) where
       act_of line (store a) = popped (suc (width a)) stack [] (λ vs rest. bind (ops.store line (target_of a a.shift vs) (kept a.cell (last_of vs)) w) (λ _. next 0 rest env)) w
       act_of line (delete pins) = popped 1 stack [] (λ vs rest. bind (ops.delete line (pinned pins env) (value_at vs 0) w) (λ _. next 0 rest env)) w
       act_of line (perform f tys pins) = popped (length tys) stack [] (λ vs rest. bind (given line (call f tys pins) calls env vs w) (λ _. next 0 rest env)) w
-      act_of line (leave n) = popped n stack [] (λ vs rest. Go (value_at vs 0) w) w
+      act_of line (leave tys) = popped (length tys) stack [] (λ vs rest. Go (value_at vs 0) w) w
       act_of line (jump n) = next n stack env w
       act_of line (jump_zero n) = popped 1 stack [] (λ vs rest. branching (is_true (value_at vs 0)) (next 0 rest env) (next n rest env) w) w
       act_of line (back to) = bind (ops.take_turn w) (λ _. again to stack env)

@@ -17,9 +17,10 @@ use Rattle.rc_rlang.specs.RegionCode as From
 use Rattle.rc_rlang.specs.RegionCode.{Access, width, Operation, Step, Steps, set, fork, none, more, Act, Test, Code, simple, clear, block, branch, loop, repeat, break, continue, Codes, done, then, Routine, Rlang}
 use Rattle.rc_rlang.specs.RegionLive.{before_steps, before_act, before_code, before_codes, loop_head, repeat_tail}
 use Rattle.rc_rlang.specs.RegionRuns.{deletes, pins_from}
+use Rattle.rc_rlang.specs.RegionKinds.{signed_of}
 use Rattle.rc_emission.specs.StackCode.{Instruction, Line, StackFunction}
 use Rattle.rc_rlang.specs.RegionFits.{place_types, step_types, steps_types}
-use Rattle.rc_emission.specs.OperationCode.{line_of, at, signed_of, zero_test, test_code, compared, count_code, convert_code, operation_code, wide, spills, reloads, exchange}
+use Rattle.rc_emission.specs.OperationCode.{line_of, at, zero_test, test_code, compared, count_code, convert_code, operation_code, wide, spills, reloads, exchange}
 use Rattle.rc_emission.specs.StackCode as To
 
 -- where a piece of code stands: its first place, and how many instructions lie between its end and where a break and a continue in
@@ -130,7 +131,7 @@ module _ (slot : ℕ → Ty → ℕ) (deleting : ℕ → Bool) (types : List Ty)
       at line (spills slot 0 tys ++ (gets 0 (place_types a) ++ (gets 0 (place_types a) ++ (To.load a ∷ (change_code change a.cell ty (To.get (slot (width a) ty)) ++ To.store a ∷ [])))))
   act_lines (From.move line cells left right) tys live = at line (spills slot 0 tys ++ cells_code cells left right)
   act_lines (From.delete line) tys live = line_of line (To.delete (pins_at live)) ∷ []
-  act_lines (From.leave line result) tys live = line_of line (To.leave (length tys)) ∷ []
+  act_lines (From.leave line result) tys live = line_of line (To.leave tys) ∷ []
 
   -- how many instructions a piece of code has
   abbrev mutual
@@ -190,8 +191,8 @@ module _ (slot : ℕ → Ty → ℕ) (deleting : ℕ → Bool) (types : List Ty)
 
   -- behind a body
   abbrev pub end_lines : Option Ty → (line : ℕ) → List Line
-  end_lines None line = line_of line (To.leave 0) ∷ []
-  end_lines (Some ty) line = line_of line (zero_code ty) ∷ line_of line (To.leave 1) ∷ []
+  end_lines None line = line_of line (To.leave []) ∷ []
+  end_lines (Some ty) line = line_of line (zero_code ty) ∷ line_of line (To.leave (ty ∷ [])) ∷ []
 
 -- a whole function's code
 abbrev pub body_lines : (slot : ℕ → Ty → ℕ) → (deleting : ℕ → Bool) → Routine → List Line

@@ -51,11 +51,30 @@ shift_all before after from to none apart from_below to_below is_none done x y =
     from_still : from < length swapped
     from_still = rw length-set from_below
 
+-- one variable has what another has
+pub double_all : (before after : List ℕ) (from to : ℕ) → to < length after → ((x y : ℕ) → links after x y ≡ links before x (replaced to from y)) → (x y : ℕ) → links (set after to (get_or after from 0)) x y ≡ links before (replaced to from x) (replaced to from y)
+double_all before after from to below done x y = elim (cases_eq x to) [
+  | inl same ↦ rw same (links-set_same after to (get_or after from 0) y below ∙ done from y ∙ sym (ap (λ b. links before (cond b from to) (replaced to from y)) (is_itself to)))
+  | inr other ↦ links-set_other after to (get_or after from 0) x y other ∙ done x y ∙ sym (ap (λ b. links before (cond b from x) (replaced to from y)) (ne_eqb x to other))
+]
+
 -- a row after the same
 pub moved_there : (row rest result from to : ℕ) → from ≢ to → marks row from ≡ true → ((y : ℕ) → marks rest y ≡ ((marks row y && not (y == to)) && not (y == from))) → ((y : ℕ) → marks result y ≡ (marks rest y || y == to)) → (y : ℕ) → marks result y ≡ (marks row (replaced to from y) && not (y == from))
 moved_there row rest result from to apart had is_rest is_result y = elim (cases_eq y to) [
   | inl same ↦ rw same (is_result to ∙ ap (λ b. marks rest to || b) (is_itself to) ∙ or_always (marks rest to) ∙ sym (ap (λ b. marks row (cond b from to) && not (to == from)) (is_itself to) ∙ (λ i. had i && not (ne_eqb to from (λ e. apart (sym e)) i))))
   | inr other ↦ is_result y ∙ (λ i. is_rest y i || ne_eqb y to other i) ∙ or_never _ ∙ ap (λ b. (marks row y && not b) && not (y == from)) (ne_eqb y to other) ∙ ap (λ b. b && not (y == from)) (and_same (marks row y) true refl) ∙ sym (ap (λ b. marks row (cond b from y) && not (y == from)) (ne_eqb y to other))
+]
+
+pub aliased_there : (row result from to : ℕ) → marks row from ≡ true → ((y : ℕ) → marks result y ≡ (marks row y || y == to)) → (y : ℕ) → marks result y ≡ marks row (replaced to from y)
+aliased_there row result from to had is y = elim (cases_eq y to) [
+  | inl same ↦ rw same (is to ∙ ap (λ b. marks row to || b) (is_itself to) ∙ or_always (marks row to) ∙ sym (ap (λ b. marks row (cond b from to)) (is_itself to) ∙ had))
+  | inr other ↦ is y ∙ ap (λ b. marks row y || b) (ne_eqb y to other) ∙ or_never (marks row y) ∙ sym (ap (λ b. marks row (cond b from y)) (ne_eqb y to other))
+]
+
+pub aliased_gone : (row result from to : ℕ) → marks row from ≡ false → ((y : ℕ) → marks result y ≡ (marks row y && not (y == to))) → (y : ℕ) → marks result y ≡ marks row (replaced to from y)
+aliased_gone row result from to lacked is y = elim (cases_eq y to) [
+  | inl same ↦ rw same (is to ∙ ap (λ b. marks row to && not b) (is_itself to) ∙ and_never (marks row to) ∙ sym (ap (λ b. marks row (cond b from to)) (is_itself to) ∙ lacked))
+  | inr other ↦ is y ∙ ap (λ b. marks row y && not b) (ne_eqb y to other) ∙ and_same (marks row y) true refl ∙ sym (ap (λ b. marks row (cond b from y)) (ne_eqb y to other))
 ]
 
 pub eq_swap : (x y : ℕ) → (x == y) ≡ (y == x)

@@ -135,6 +135,11 @@ module _ {f g : Fields} {old : Known} (turns : Turns f g old) where
       by_rule (λ test fact. test (with_replaced to from fact) && not (names from fact)) has
       (λ fact there. replaced_over (length f.within) from to (rw count at below) fact (turns.sound.over (with_replaced to from fact) (and_parts (test_of f (with_replaced to from fact)) _ there).0))
 
+  pub doubled : (from to : ℕ) → to < old.variables → Has g (λ fact. test_of f (with_replaced to from fact)) → IsSound g × ((fact : Fact) → holds (known_of g) fact ≡ holds old (with_replaced to from fact))
+  doubled from to below has =
+      let count : old.variables ≡ length f.within = sym (ap (λ known. known.variables) turns.is) in
+      by_rule (λ test fact. test (with_replaced to from fact)) has (λ fact there. replaced_over (length f.within) from to (rw count at below) fact (turns.sound.over (with_replaced to from fact) there))
+
   pub derived : IsSound g → ((fact : Fact) → IsTrue (test_of g fact) ↔ Derivable (length f.within) (test_of f) fact) → (fact : Fact) → IsTrue (holds (known_of g) fact) ↔ Derivable old.variables (holds old) fact
   derived sound tests fact =
       let told = holds_of g sound fact in

@@ -6,7 +6,7 @@ ghost use Rattle.rc_facts.specs.Facts.{Drops, holds, is_over, names, same_fact, 
 
 use crate::closing::close_rows;
 use crate::fact::Fact;
-use crate::rows::{cut, keep, keep_links, link, linked, moved, shift};
+use crate::rows::{aliased, cut, double, keep, keep_links, link, linked, moved, shift};
 use rc_base::{BitSet, NoMemory};
 use std::alloc::Global;
 use std::marker::Model;
@@ -152,6 +152,20 @@ impl FactSet {
         shift(&mut self.above, from, to);
         self.traditional = moved(self.traditional, from, to);
         self.present = moved(self.present, from, to);
+    }
+
+    /// Drops the facts that name `to`, and lets those that name `from` speak of `to` as well.
+    pub fn alias(&mut self, from: u32, to: u32)
+        requires from { from < self.old.variables }
+        requires to { to < self.old.variables }
+        ensures variables { self.new.variables ≡ self.old.variables }
+        ensures facts { (fact : Fact) → holds self.new fact ≡ holds self.old (with_replaced to from fact) }
+    {
+        let (from, to) = (from as usize, to as usize);
+        double(&mut self.within, from, to);
+        double(&mut self.above, from, to);
+        self.traditional = aliased(self.traditional, from, to);
+        self.present = aliased(self.present, from, to);
     }
 
     /// Takes the facts of the other set in place of its own.

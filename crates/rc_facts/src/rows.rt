@@ -145,6 +145,33 @@ pub(crate) fn shift(rows: &mut [BitSet], from: usize, to: usize)
     rows[from] = BitSet::empty();
 }
 
+/// The row that has `to` exactly where it has `from`.
+pub(crate) fn aliased(row: BitSet, from: usize, to: usize) -> BitSet
+    requires from { from < 128 }
+    requires to { to < 128 }
+    ensures { (y : ℕ) → marks result y ≡ marks row (replaced to from y) }
+{
+    if row.contains(from) {
+        row.with(to)
+    } else {
+        row.without(to)
+    }
+}
+
+/// Gives `to` the links from and to `from`, in place of its own.
+pub(crate) fn double(rows: &mut [BitSet], from: usize, to: usize)
+    requires few { length rows.old ≤ 128 }
+    requires from { from < length rows.old }
+    requires to { to < length rows.old }
+    ensures { (x y : ℕ) → links rows.new x y
+        ≡ links rows.old (replaced to from x) (replaced to from y) }
+{
+    for row in rows.iter_mut() {
+        *row = aliased(*row, from, to);
+    }
+    rows[to] = rows[from];
+}
+
 /// Keeps what is in both, and says whether something was dropped.
 pub(crate) fn keep(row: &mut BitSet, other: BitSet) -> bool
     ensures both { (x : ℕ) → marks row.new x ≡ (marks row.old x && marks other x) }

@@ -6,3 +6,14 @@ pub mod RegionLive
 pub mod RegionRuns
 pub mod RegionPoints
 pub mod RegionFits
+pub mod RegionFlow
+pub mod Touches
+pub mod LiveLists
+pub mod LivePaths
+pub mod Sites
+pub mod Shapes
+pub mod LiveMaps
+pub mod RegionKinds
+pub mod RegionNames
+pub mod RegionVariables
+pub mod IsRlang

@@ -3,6 +3,6 @@ pub mod SoundOperations
 pub mod SoundActs
 pub mod SoundFunctions
 pub mod PinRules
-pub mod Kinding
 pub mod Loading
 pub mod NamedLocals
+pub mod KeptRlang

@@ -1,13 +1,14 @@
 -- What emission makes keeps the loader's rules.
-use Rattle.std.proofs.Common.{◌≡◌, ◌<◌, ℕ, zero, suc, ◌+◌, false, List, [], ◌∷◌, ◌++◌, length, map, Option, Some, None, refl, ap, ◌∙◌, arith}
+use Rattle.std.proofs.Common.{◌≡◌, ℕ, zero, suc, false, List, [], ◌∷◌, ◌++◌, map, Option, Some, None, refl, ap, ◌∙◌}
 use Rattle.std.specs.Prelude.{slice_get, get_or, option_map}
 use Rattle.rc_core.specs.Types.{Ty, int, unsigned, char, region, struct, pointer}
 use Rattle.rc_core.specs.Typing.{value_type}
-use Rattle.rc_core.specs.Programs.{Function, Global, Program}
+use Rattle.rc_core.specs.Programs.{Function, Program}
 use Rattle.rc_core.specs.WellTyped.{IsWellTyped}
 use Rattle.rc_rlang.specs.RegionCode.{Routine}
 use Rattle.rc_translation.specs.Translation.{call_type, routine_of}
 use Rattle.rc_translation.proofs.StatementFitting.{statement_fits}
+use Rattle.rc_rlang.specs.RegionKinds.{kind_ty}
 use Rattle.rc_emission.specs.OperationCode.{wide}
 use Rattle.rc_emission.specs.KeptOperands.{Kept, same_kept, once, kept_code, slots_of}
 use Rattle.rc_emission.specs.Means.{IsThere, Serves}
@@ -16,10 +17,11 @@ use Rattle.rc_emission.proofs.Ordered.{code_served}
 use Rattle.rc_emission.proofs.SameOperands.{kept_is, kept_self}
 use Rattle.rc_emission.proofs.TableLaws.{there_in, table_types}
 use Rattle.rc_emission.proofs.TableServes.{body_serves}
-use Rattle.rc_stack_rules.specs.LoaderRules.{kind_ty, local_kind}
+use Rattle.rc_stack_rules.specs.LoaderRules.{local_kind}
 use Rattle.rc_stack_rules.specs.Loadable.{all_locals, KeepsRules, EndsInReturn, IsInOrder, object_type, AllKeepRules}
 use Rattle.rc_stack_rules.proofs.SoundFunctions.{loaded, ends_in_a_return}
-use Rattle.rc_stack_rules.proofs.Kinding.{statement_agrees}
+use Rattle.rc_region_rules.proofs.Kinding.{statement_agrees}
+use Rattle.rc_region_rules.proofs.Theorem.{global_there, behind_globals, all_char}
 
 kind_wide : (ty : Ty) → kind_ty (wide ty) ≡ kind_ty ty
 kind_wide int = refl
@@ -48,25 +50,6 @@ local_there : (xs ys : List Ty) (x : ℕ) (u : Ty) → slice_get xs x ≡ Some u
 local_there [] ys x u e = absurd (cc e)
 local_there (t ∷ xs) ys zero u e = cc
 local_there (t ∷ xs) ys (suc x) u e = local_there xs ys x u e
-
-global_there : (gs : List Global) (ys : List Ty) (g : ℕ) (d : Global) → slice_get gs g ≡ Some d → get_or (map (λ (d : Global). d.ty) gs ++ ys) g int ≡ d.ty
-global_there [] ys g d e = absurd (cc e)
-global_there (t ∷ gs) ys zero d e = ap (λ (x : Global). x.ty) (same t d e)
-  where
-    same : (a b : Global) → Some a ≡ Some b → a ≡ b
-    same a b e = cc
-global_there (t ∷ gs) ys (suc g) d e = global_there gs ys g d e
-
-behind_globals : (gs : List Global) (ys : List Ty) (k : ℕ) → get_or (map (λ (d : Global). d.ty) gs ++ ys) (length gs + k) int ≡ get_or ys k int
-behind_globals [] ys k = let e : 0 + k ≡ k = omega arith in ap (λ n. get_or ys n int) e
-behind_globals (t ∷ gs) ys k =
-    let e : length (t ∷ gs) + k ≡ suc (length gs + k) = omega arith in
-    ap (λ n. get_or (t.ty ∷ (map (λ (d : Global). d.ty) gs ++ ys)) n int) e ∙ behind_globals gs ys k
-
-all_char : (strings : List (List ℕ)) (k : ℕ) → k < length strings → get_or (map (λ (bytes : List ℕ). char) strings) k int ≡ char
-all_char [] k lt = absurd (omega (arith, lt))
-all_char (s ∷ strings) zero lt = refl
-all_char (s ∷ strings) (suc k) lt = all_char strings k (omega (arith, lt))
 
 abbrev given : Option Ty → Ty
 given None = int

@@ -13,11 +13,12 @@ use Rattle.rc_rlang.specs.RegionFits.{place_types, pushed, act_types, ActFits}
 use Rattle.rc_emission.specs.OperationCode.{line_of, at, spills, convert_code, count_code, compared}
 use Rattle.rc_emission.specs.Served.{AllKept, ActKeeps}
 use Rattle.rc_emission.specs.StatementCode.{further, cell_type, gets, change_code, cells_code, pops, act_lines}
-use Rattle.rc_stack_rules.specs.LoaderRules.{kind_ty, kinds, local_kind}
-use Rattle.rc_stack_rules.specs.Kinded.{ActKinded, ChangeKinded}
+use Rattle.rc_stack_rules.specs.LoaderRules.{kinds, local_kind}
+use Rattle.rc_rlang.specs.RegionKinds.{kind_ty, ActKinded, ChangeKinded}
 use Rattle.rc_emission.proofs.ActsDo.{place_width}
 use Rattle.rc_stack_rules.proofs.SoundSteps.{S, L, at_split, sound_append, spills_sound}
-use Rattle.rc_stack_rules.proofs.SoundOperations.{kinds_pushed, kinds_value, kind_value, drop_all, set_loads, binary_sets, convert_sets}
+use Rattle.rc_rlang.proofs.KindLaws.{kind_value}
+use Rattle.rc_stack_rules.proofs.SoundOperations.{kinds_pushed, kinds_value, drop_all, set_loads, binary_sets, convert_sets}
 use Rattle.rc_emission.specs.StackCode as To
 
 kinds_append : (xs ys : List Ty) → kinds (xs ++ ys) ≡ kinds xs ++ kinds ys
@@ -147,8 +148,8 @@ module _ (locals : List Ty) (global_ty result_ty : ℕ → Ty) (mark : ℕ → T
       subst (λ x. G ok place (line_of line (To.store a) ∷ []) x []) (sym e) (store_sound line a [] ok place [] [] refl)
 
   leave_sound : (line : ℕ) (result : Option Ty) (live : ℕ → Bool) (ok : ℕ → Type 0) (place : ℕ) → G ok place (act_lines slot deleting types (From.leave line result) (pushed (act_types (From.leave line result)) []) live) (kinds (pushed (act_types (From.leave line result)) [])) []
-  leave_sound line None live ok place = (([], [], refl, refl), refl, refl)
-  leave_sound line (Some ty) live ok place = ((kind_ty ty ∷ [], [], refl, refl), refl, refl)
+  leave_sound line None live ok place = (([], refl), refl, refl)
+  leave_sound line (Some ty) live ok place = (([], refl), refl, refl)
 
   pub act_loads : (act : Act) (tys : List Ty) (live : ℕ → Bool) (ok : ℕ → Type 0) (place : ℕ) → ActFits act tys → ActKeeps Has types act tys → ActKinded locals global_ty result_ty act → G ok place (act_lines slot deleting types act tys live) (kinds tys) []
   act_loads From.drop tys live ok place e sp l = pops_sound tys ok place

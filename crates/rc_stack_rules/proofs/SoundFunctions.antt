@@ -7,8 +7,8 @@ use Rattle.rc_emission.specs.StackCode.{Line}
 use Rattle.rc_emission.specs.OperationCode.{line_of}
 use Rattle.rc_emission.specs.StatementCode.{Place, Slots, code_lines, end_lines, body_lines, zero_code}
 use Rattle.rc_emission.specs.Served.{CodeServed}
-use Rattle.rc_stack_rules.specs.LoaderRules.{kind_ty, local_kind, Lands, IsLoadable}
-use Rattle.rc_stack_rules.specs.Kinded.{CodeKinded}
+use Rattle.rc_stack_rules.specs.LoaderRules.{local_kind, Lands, IsLoadable}
+use Rattle.rc_rlang.specs.RegionKinds.{kind_ty, CodeKinded}
 use Rattle.rc_stack_rules.proofs.SoundSteps.{S, L, sound_append, lands_append, lands_mono, code_final, code_sound}
 use Rattle.rc_stack_rules.proofs.SoundOperations.{set_loads}
 use Rattle.rc_stack_rules.proofs.SoundActs.{act_loads}
@@ -35,13 +35,13 @@ module _ (global_ty result_ty : ℕ → Ty) (slots : Routine → Slots) (deletin
   last result = end_lines (slots f).slot deleting f.locals result f.line
 
   end_sound : (result : Option Ty) (ok : ℕ → Type 0) (place : ℕ) → S locals global_ty result_ty mark ok place (last result) [] []
-  end_sound None ok place = (([], [], refl, refl), refl, refl)
-  end_sound (Some int) ok place = (([], refl), tt, ((int ∷ [], [], refl, refl), refl, refl))
-  end_sound (Some unsigned) ok place = (([], refl), tt, ((unsigned ∷ [], [], refl, refl), refl, refl))
-  end_sound (Some char) ok place = (([], refl), tt, ((int ∷ [], [], refl, refl), refl, refl))
-  end_sound (Some region) ok place = (([], refl), tt, ((region ∷ [], [], refl, refl), refl, refl))
-  end_sound (Some (struct k)) ok place = (([], refl), tt, ((struct k ∷ [], [], refl, refl), refl, refl))
-  end_sound (Some (pointer note target)) ok place = (([], refl), tt, ((kind_ty (pointer note target) ∷ [], [], refl, refl), refl, refl))
+  end_sound None ok place = (([], refl), refl, refl)
+  end_sound (Some int) ok place = (([], refl), tt, (([], refl), refl, refl))
+  end_sound (Some unsigned) ok place = (([], refl), tt, (([], refl), refl, refl))
+  end_sound (Some char) ok place = (([], refl), tt, (([], refl), refl, refl))
+  end_sound (Some region) ok place = (([], refl), tt, (([], refl), refl, refl))
+  end_sound (Some (struct k)) ok place = (([], refl), tt, (([], refl), refl, refl))
+  end_sound (Some (pointer note target)) ok place = (([], refl), tt, (([], refl), refl, refl))
 
   lands_last : (result : Option Ty) → L locals global_ty result_ty mark (λ m. ⊥) (last result) [] 0
   lands_last None = refl
@@ -59,6 +59,6 @@ module _ (global_ty result_ty : ℕ → Ty) (slots : Routine → Slots) (deletin
       sound_append locals global_ty result_ty mark (λ m. ⊥) 0 (0 + length body) body (last f.result) [] [] [] refl sb (end_sound f.result (λ m. ⊥) (0 + length body))
 
   -- the last instruction is a return
-  pub ends_in_a_return : (result : Option Ty) → (before : List Line) × (values : ℕ) × (body ++ last result ≡ before ++ line_of f.line (To.leave values) ∷ [])
-  ends_in_a_return None = (body, 0, refl)
-  ends_in_a_return (Some ty) = (body ++ line_of f.line (zero_code ty) ∷ [], 1, sym (append_assoc body (line_of f.line (zero_code ty) ∷ []) (line_of f.line (To.leave 1) ∷ [])))
+  pub ends_in_a_return : (result : Option Ty) → (before : List Line) × (values : List Ty) × (body ++ last result ≡ before ++ line_of f.line (To.leave values) ∷ [])
+  ends_in_a_return None = (body, [], refl)
+  ends_in_a_return (Some ty) = (body ++ line_of f.line (zero_code ty) ∷ [], ty ∷ [], sym (append_assoc body (line_of f.line (zero_code ty) ∷ []) (line_of f.line (To.leave (ty ∷ [])) ∷ [])))

@@ -3,7 +3,6 @@ use Rattle.std.proofs.Common.{◌≡◌, ℕ, suc, ◌+◌, Bool, true, false, L
 use Rattle.rc_core.specs.declared.ty.NumberType.{NumberType}
 use Rattle.rc_core.specs.declared.ty.NumberType.TheVariants.{Int, Unsigned, Char}
 use Rattle.rc_core.specs.declared.ty.Signedness.{Signedness}
-use Rattle.rc_core.specs.declared.ty.Signedness.TheVariants.{Signed, Unsigned as Wrapping}
 use Rattle.rc_core.specs.declared.operators.Operator.{Operator}
 use Rattle.rc_core.specs.declared.operators.Operator.TheVariants.{Multiply, Divide, Remainder, Add, Subtract, ShiftLeft, ShiftRight, Less, Greater, LessEqual, GreaterEqual, Equal, NotEqual, And, Xor, Or}
 use Rattle.rc_core.specs.Types.{Ty, int, unsigned, char, region, struct, pointer}
@@ -12,28 +11,17 @@ use Rattle.rc_rlang.specs.RegionCode as From
 use Rattle.rc_rlang.specs.RegionCode.{Operation}
 use Rattle.rc_emission.specs.StackCode.{Line}
 use Rattle.rc_rlang.specs.RegionFits.{operands, place_types, pushed, dropped}
-use Rattle.rc_emission.specs.OperationCode.{at, signed_of}
+use Rattle.rc_emission.specs.OperationCode.{at}
 use Rattle.rc_emission.specs.Served.{OperationKeeps, OperationServed}
 use Rattle.rc_emission.specs.StatementCode.{set_code}
-use Rattle.rc_stack_rules.specs.LoaderRules.{kind_ty, kinds, local_kind}
-use Rattle.rc_stack_rules.specs.Kinded.{OperationKinded}
+use Rattle.rc_stack_rules.specs.LoaderRules.{kinds, local_kind}
+use Rattle.rc_rlang.specs.RegionKinds.{kind_ty, signed_of, OperationKinded}
+use Rattle.rc_rlang.proofs.KindLaws.{kind_arith, kind_value}
 use Rattle.rc_stack_rules.proofs.SoundSteps.{S, drop_pushed}
 
 pub kinds_pushed : (xs below : List Ty) → kinds (pushed xs below) ≡ pushed (kinds xs) (kinds below)
 kinds_pushed [] below = refl
 kinds_pushed (x ∷ xs) below = kinds_pushed xs (x ∷ below)
-
-pub kind_arith : (s : Signedness) → kind_ty (arithmetic s) ≡ arithmetic s
-kind_arith Signed = refl
-kind_arith Wrapping = refl
-
-pub kind_value : (ty : Ty) → kind_ty (value_type ty) ≡ kind_ty ty
-kind_value int = refl
-kind_value unsigned = refl
-kind_value char = refl
-kind_value region = refl
-kind_value (struct k) = refl
-kind_value (pointer note target) = refl
 
 pub kinds_value : (tys : List Ty) → kinds (map value_type tys) ≡ kinds tys
 kinds_value [] = refl

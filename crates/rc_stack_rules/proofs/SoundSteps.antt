@@ -9,8 +9,8 @@ use Rattle.rc_rlang.specs.RegionLive.{before_steps, before_act, before_code, bef
 use Rattle.rc_emission.specs.StatementCode.{Place, zero_code, exit_size, act_lines, code_size, codes_size, code_lines, codes_lines, exit_test, exit_lines, set_code, steps_lines, step_lines}
 use Rattle.rc_emission.specs.Served.{ActKeeps, CodeServed, CodesServed, AllKept, OperationKeeps, OperationServed, StepServed, StepsServed}
 use Rattle.rc_emission.proofs.CodesDo.{size_is, sizes_are, exit_long}
-use Rattle.rc_stack_rules.specs.LoaderRules.{kind_ty, kinds, local_kind, Way, onward, forward, backward, away, way_of, after, Lands, Leads, Sound}
-use Rattle.rc_stack_rules.specs.Kinded.{OperationKinded, StepKinded, StepsKinded, ActKinded, CodeKinded, CodesKinded}
+use Rattle.rc_stack_rules.specs.LoaderRules.{kinds, local_kind, Way, onward, forward, backward, away, way_of, after, Lands, Leads, Sound}
+use Rattle.rc_rlang.specs.RegionKinds.{kind_ty, OperationKinded, StepKinded, StepsKinded, ActKinded, CodeKinded, CodesKinded}
 use Rattle.rc_emission.specs.StackCode as To
 use Rattle.std.specs.Prelude.{◌||◌, ◌&&◌, is_some}
 use Rattle.rc_core.specs.Live.{Ways, then_live, round}

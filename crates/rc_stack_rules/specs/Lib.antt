@@ -1,4 +1,3 @@
 pub mod LoaderRules
-pub mod Kinded
 pub mod Loadable
 pub mod Named

@@ -12,7 +12,7 @@ use Rattle.rc_emission.specs.StatementCode.{body_lines}
 use Rattle.rc_emission.specs.KeptOperands.{slots_of}
 use Rattle.rc_emission.specs.Served.{CodeNames}
 use Rattle.rc_stack_rules.specs.LoaderRules.{IsLoadable}
-use Rattle.rc_stack_rules.specs.Kinded.{CodeKinded}
+use Rattle.rc_rlang.specs.RegionKinds.{CodeKinded}
 
 -- the types of the locals in a function's stack code
 abbrev pub all_locals : Routine → List Ty
@@ -24,7 +24,7 @@ module _ (global_ty result_ty : ℕ → Ty) (f : Routine) where
   KeepsRules = (deleting : ℕ → Bool) → IsLoadable (all_locals f) global_ty result_ty (body_lines (slots_of f).slot deleting f)
 
   abbrev pub EndsInReturn : Type 0
-  EndsInReturn = (deleting : ℕ → Bool) → (before : List Line) × (values : ℕ) × (body_lines (slots_of f).slot deleting f ≡ before ++ line_of f.line (leave values) ∷ [])
+  EndsInReturn = (deleting : ℕ → Bool) → (before : List Line) × (values : List Ty) × (body_lines (slots_of f).slot deleting f ≡ before ++ line_of f.line (leave values) ∷ [])
 
   abbrev pub IsInOrder : Type 0
   IsInOrder = CodeFits f.body × CodeNames f.locals f.body × CodeKinded (all_locals f) global_ty result_ty f.body

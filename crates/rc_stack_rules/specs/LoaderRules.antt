@@ -8,32 +8,20 @@ use Rattle.rc_core.specs.declared.ty.Note.TheVariants.{Plain}
 use Rattle.rc_core.specs.declared.ty.NumberType.{NumberType}
 use Rattle.rc_core.specs.declared.ty.NumberType.TheVariants.{Int, Unsigned, Char}
 use Rattle.rc_core.specs.declared.ty.Signedness.{Signedness}
-use Rattle.rc_core.specs.Types.{Ty, int, unsigned, char, region, struct, pointer}
+use Rattle.rc_core.specs.Types.{Ty, int, unsigned, region, pointer}
 use Rattle.rc_core.specs.Typing.{arithmetic, number, is_shift, is_comparison}
 use Rattle.rc_rlang.specs.RegionCode.{regional, kind_of}
 use Rattle.rc_emission.specs.StackCode.{Instruction, Line, number as push, null, global, get, set, arithmetic as compute, unary, zero_test, null_test, same, convert, move, load, store, new_region, new_subregion, region_of, allocate, allocate_array, delete, call, perform, leave, putchar, getchar, jump, jump_zero, back, pop}
 use Rattle.rc_rlang.specs.RegionFits.{place_types, pushed, dropped}
-
--- the kinds of operands: `char` is kept as an `int`, and notes of pointers don't matter
-abbrev pub kind_ty : Ty → Ty
-kind_ty int = int
-kind_ty unsigned = unsigned
-kind_ty char = int
-kind_ty region = region
-kind_ty (struct k) = struct k
-kind_ty (pointer note target) = pointer Plain target
+use Rattle.rc_rlang.specs.RegionKinds.{kind_ty, result_kind}
 
 abbrev pub kinds : List Ty → List Ty
 kinds tys = map kind_ty tys
 
--- of the right operand, and of the value: the count of a shift is an `int`, and so is what a comparison gives
+-- of the right operand: the count of a shift is an `int`
 abbrev pub right_kind : Bool → Signedness → Ty
 right_kind true s = int
 right_kind false s = arithmetic s
-
-abbrev pub result_kind : Bool → Signedness → Ty
-result_kind true s = int
-result_kind false s = arithmetic s
 
 -- what a conversion to this type takes
 abbrev pub converted_from : NumberType → Ty
@@ -52,7 +40,7 @@ abbrev pub way_of : Instruction → Way
 way_of (jump n) = forward n
 way_of (jump_zero n) = forward n
 way_of (back to) = backward to
-way_of (leave n) = away
+way_of (leave tys) = away
 way_of i = onward
 
 -- the locals' types, the globals' and the functions' results
@@ -80,6 +68,7 @@ module _ (locals : List Ty) (global_ty result_ty : ℕ → Ty) where
   wants (call f tys pins) = kinds tys
   wants (perform f tys pins) = kinds tys
   wants putchar = int ∷ []
+  wants (leave tys) = kinds tys
   wants (jump_zero n) = int ∷ []
   wants i = []
 
@@ -109,7 +98,6 @@ module _ (locals : List Ty) (global_ty result_ty : ℕ → Ty) where
   -- the kinds on the stack behind an instruction
   abbrev pub after : Instruction → List Ty → List Ty
   after pop ks = dropped 1 ks
-  after (leave n) ks = dropped n ks
   after i ks = pushed (gives i) (dropped (length (wants i)) ks)
 
   abbrev pub AtLeast : ℕ → List Ty → Type 0
@@ -118,7 +106,6 @@ module _ (locals : List Ty) (global_ty result_ty : ℕ → Ty) where
   -- OPERANDS: they are there and have their kinds
   abbrev pub Operands : Instruction → List Ty → Type 0
   Operands pop ks = AtLeast 1 ks
-  Operands (leave n) ks = AtLeast n ks
   Operands i ks = (below : List Ty) × (ks ≡ pushed (wants i) below)
 
   -- TARGETS: so many instructions on there is one, and the stack is empty there; past the end it is as `ok` says

@@ -3,7 +3,7 @@
 use Rattle.std.specs.Prelude.{◌≡◌, ◌<◌, ℕ, Bool, List, [], ◌∷◌, length, Some, slice_get}
 use Rattle.rc_core.specs.Types.{Ty}
 use Rattle.rc_core.specs.Programs.{Function, Program}
-use Rattle.rc_rlang.specs.RegionCode.{Act, assign, Code, simple, clear, block, branch, loop, repeat, break, continue, Codes, done, then, Routine}
+use Rattle.rc_rlang.specs.RegionCode.{Act, assign, Code, simple, clear, block, branch, loop, repeat, break, continue, Codes, done, then, Routine, Rlang}
 use Rattle.rc_rlang.specs.RegionFits.{CodeFits}
 use Rattle.rc_translation.specs.Translation.{routine_of}
 use Rattle.rc_emission.specs.StackCode.{Instruction, get, set, delete, call, perform as act_call, Line}
@@ -11,7 +11,8 @@ use Rattle.rc_emission.specs.StatementCode.{body_lines}
 use Rattle.rc_emission.specs.KeptOperands.{slots_of}
 use Rattle.rc_emission.specs.Served.{CodeNames}
 use Rattle.rc_stack_rules.specs.LoaderRules.{Pins}
-use Rattle.rc_stack_rules.specs.Loadable.{all_locals}
+use Rattle.rc_rlang.specs.RegionNames.{object_type, result_type}
+use Rattle.rc_stack_rules.specs.Loadable.{all_locals, KeepsRules}
 
 -- of a function with these locals in its source, and so many in all
 module _ (source : List Ty) (count : ℕ) where
@@ -59,3 +60,7 @@ HasLocals f = CodeFits f.body × CodeNames f.locals f.body × CodeSets f.locals 
 
 abbrev pub AllNameLocals : Program → Type 0
 AllNameLocals program = (k : ℕ) (f : Function) → slice_get program.functions k ≡ Some f → NamesLocals (routine_of program f)
+
+-- of every function of region code
+abbrev pub RlangKeepsRules : Rlang → Type 0
+RlangKeepsRules r = (k : ℕ) (f : Routine) → slice_get r.functions k ≡ Some f → KeepsRules (object_type r) (result_type r) f × NamesLocals f

@@ -5,10 +5,11 @@ ghost use Rattle.std.specs.Prelude.{ℕ, Bool, List};
 ghost use Rattle.rc_core.specs.Programs.{Program};
 ghost use Rattle.rc_core.specs.Types.{Ty};
 ghost use Rattle.rc_core.specs.WellTyped.{IsWellTyped};
-ghost use Rattle.rc_rlang.specs.RegionCode.{Routine};
+ghost use Rattle.rc_rlang.specs.RegionCode.{Routine, Rlang};
+ghost use Rattle.rc_rlang.specs.IsRlang.{IsRlang};
 ghost use Rattle.rc_rlang.specs.RegionRuns.{pins_from};
 ghost use Rattle.rc_stack_rules.specs.LoaderRules.{Pins};
-ghost use Rattle.rc_stack_rules.specs.Named.{HasLocals, NamesLocals, AllNameLocals};
+ghost use Rattle.rc_stack_rules.specs.Named.{HasLocals, NamesLocals, AllNameLocals, RlangKeepsRules};
 ghost use Rattle.rc_stack_rules.specs.Loadable.{IsInOrder, KeepsRules, EndsInReturn, AllKeepRules};
 
 /// The stack code of a function whose region code is in order keeps the loader's rules: each
@@ -39,4 +40,10 @@ pub fn locals_are_there()
 /// What a deletion holds stands in order, each once, and is a local that is a region or a pointer.
 pub fn pins_stand_in_order()
     ensures { (locals : List Ty) (live : ℕ → Bool) → Pins locals 0 (pins_from locals 0 live) }
+{}
+
+/// The stack code of each function of region code whose parts fit together keeps the loader's rules,
+/// and each local that it names is there.
+pub fn region_code_keeps_the_rules()
+    ensures { (r : Rlang) → IsRlang r → RlangKeepsRules r }
 {}

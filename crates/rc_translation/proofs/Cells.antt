@@ -25,7 +25,7 @@ use Rattle.rc_rlang.specs.RegionRuns as R
 use Rattle.rc_rlang.specs.RegionRuns.{kept_cell}
 
 -- a value of the cell's kind is kept as it is
-kept_in_cell : (l : Ledger) (kind : CellKind) (v : Value) → CellSuits l kind v → kept_cell kind v ≡ v
+pub kept_in_cell : (l : Ledger) (kind : CellKind) (v : Value) → CellSuits l kind v → kept_cell kind v ≡ v
 kept_in_cell l int_cell v s = refl
 kept_in_cell l unsigned_cell v s = refl
 kept_in_cell l char_cell (Number (pos n)) s = ap (λ m. Number (pos m)) (mod-eq_of_lt (less_is n 256 s))
@@ -59,10 +59,10 @@ module _ (program : Program) where
   pub aims_at : (l : Ledger) (t : Ty) (tg : Target) → Aims program.structs l t tg → AimsAt l (cells program.structs t) tg
   aims_at l t tg a = record { element = a.element; pointer = a.pointer; stands = a.stands }
 
-  still_at : (l l1 : Ledger) (kinds : Layout) (tg : Target) → Grows l l1 → AimsAt l kinds tg → AimsAt l1 kinds tg
+  pub still_at : (l l1 : Ledger) (kinds : Layout) (tg : Target) → Grows l l1 → AimsAt l kinds tg → AimsAt l1 kinds tg
   still_at l l1 kinds tg g a = record { element = a.element; pointer = still_suits l l1 g (pointer Plain a.element) tg.pointer a.pointer; stands = a.stands }
 
-  next_at : (l : Ledger) (kind : CellKind) (kinds : Layout) (tg : Target) → AimsAt l (kind ∷ kinds) tg → AimsAt l kinds (record tg { offset = suc tg.offset })
+  pub next_at : (l : Ledger) (kind : CellKind) (kinds : Layout) (tg : Target) → AimsAt l (kind ∷ kinds) tg → AimsAt l kinds (record tg { offset = suc tg.offset })
   next_at l kind kinds tg a =
       let e : suc (cell_of tg) ≡ cell_of (record tg { offset = suc tg.offset }) = omega arith in
       record { element = a.element; pointer = a.pointer; stands = λ all. subst (Stands (cells program.structs a.element) kinds) e (stands_next (cells program.structs a.element) kinds kind (cell_of tg) (a.stands all)) }
@@ -101,7 +101,7 @@ module _ (program : Program) where
       let o = object_of w.heap spot in
       stands_within (kinds_of o) o.layout kinds (spot.element * length o.layout) spot.cell (place_of o spot) refl (copy_stands o.layout o.count spot.element (spot.element * length o.layout) is.inside refl) is.stands
 
-  load_suits : (l : Ledger) (line : ℕ) (kind : CellKind) (kinds : Layout) (tg : Target) (w : World) → AimsAt l (kind ∷ kinds) tg → WorldSuits program l w → Keeps program l (λ l v. CellSuits l kind v) (source.load line tg w)
+  pub load_suits : (l : Ledger) (line : ℕ) (kind : CellKind) (kinds : Layout) (tg : Target) (w : World) → AimsAt l (kind ∷ kinds) tg → WorldSuits program l w → Keeps program l (λ l v. CellSuits l kind v) (source.load line tg w)
   load_suits l line kind kinds tg w a suits =
       at_cells_keeps l line (kind ∷ kinds) tg w (λ l v. CellSuits l kind v) _ a suits (λ spot is.
       let o = object_of w.heap spot in
@@ -132,7 +132,7 @@ module _ (program : Program) where
           (subst (λ ks. AllZip (CellSuits l) ks (overwritten (length s.before) (v ∷ []) o.values)) (sym s.whole_is)
           (zip_overwritten (CellSuits l) s.before (kind ∷ []) (kinds ++ s.rest) (v ∷ []) o.values (subst (λ ks. AllZip (CellSuits l) ks o.values) s.whole_is is.object.values) (new, tt))))
 
-  store_suits : (l : Ledger) (line : ℕ) (kind : CellKind) (kinds : Layout) (tg : Target) (v : Value) (w : World) → AimsAt l (kind ∷ kinds) tg → CellSuits l kind v → WorldSuits program l w → Keeps program l Nothing (source.store line tg v w)
+  pub store_suits : (l : Ledger) (line : ℕ) (kind : CellKind) (kinds : Layout) (tg : Target) (v : Value) (w : World) → AimsAt l (kind ∷ kinds) tg → CellSuits l kind v → WorldSuits program l w → Keeps program l Nothing (source.store line tg v w)
   store_suits l line kind kinds tg v w a new suits =
       at_cells_keeps l line (kind ∷ kinds) tg w Nothing _ a suits (λ spot is.
       keeps_touching program l Nothing (list_all (is_fresh (live w.heap)) (v ∷ [])) line w _

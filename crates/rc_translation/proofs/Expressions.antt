@@ -39,14 +39,14 @@ pub record Stored (ty : Ty) (h : ℕ) (t : Temporaries) (v : Value) (t1 : Tempor
   pub value : temporary ty t1 h ≡ v
   pub lower : Lower h t t1
 
-further_at : (a : Access) (n : ℕ) (t : Temporaries) (h : ℕ) → target_at (record a { offset = a.offset + n }) t h ≡ further n (target_at a t h)
+pub further_at : (a : Access) (n : ℕ) (t : Temporaries) (h : ℕ) → target_at (record a { offset = a.offset + n }) t h ≡ further n (target_at a t h)
 further_at a n t h = by_shift a.shift
   where
     by_shift : (s : Option Signedness) → target_shifted s (record a { offset = a.offset + n }) t h ≡ further n (target_shifted s a t h)
     by_shift None = refl
     by_shift (Some s) = refl
 
-behind_index : (a : Access) (i : Index) (t : Temporaries) (h : ℕ) (n : ℕ) → n ≡ h + width a →
+pub behind_index : (a : Access) (i : Index) (t : Temporaries) (h : ℕ) (n : ℕ) → n ≡ h + width a →
     target_at (record a { indices = a.indices ++ i ∷ [] }) t h ≡ choosing (record { index = number_in (t.numbers n); count = i.count; stride = i.stride }) (target_at a t h)
 behind_index a i t h n e = by_shift a.shift e
   where

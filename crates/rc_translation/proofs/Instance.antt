@@ -50,7 +50,7 @@ of_kind l (pointer note target) Null s = tt
 of_kind l (pointer note target) (Handle r) s = absurd s
 of_kind l (pointer note target) (Pointer a) s = tt
 
-all_of_kind : (l : Ledger) (tys : List Ty) (env : List Value) → K.AllSuit l tys env → Kinded tys env
+pub all_of_kind : (l : Ledger) (tys : List Ty) (env : List Value) → K.AllSuit l tys env → Kinded tys env
 all_of_kind l [] [] all = tt
 all_of_kind l [] (v ∷ env) all = absurd all
 all_of_kind l (ty ∷ tys) [] all = absurd all

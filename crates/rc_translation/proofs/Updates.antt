@@ -107,7 +107,7 @@ module _ (program : Program) (f : Function) where
   operand_is : (e : Expr) (s : Signedness) → HasType program f.locals e (arithmetic s) → expression_type program f.locals e ≡ arithmetic s
   operand_is e s he = types_are program f.locals e (arithmetic s) (number_not_null program f.locals e s (arithmetic s) refl he) he
 
-  new_same : (line : ℕ) (t : Ty) (change : Change) (e : Expr) (h : Takes program f.locals t change e) (old v : Value) (l : Ledger) (w : World) → K.Suits l t old → K.Suits l (taken_has program f t change e h).0 v →
+  pub new_same : (line : ℕ) (t : Ty) (change : Change) (e : Expr) (h : Takes program f.locals t change e) (old v : Value) (l : Ledger) (w : World) → K.Suits l t old → K.Suits l (taken_has program f t change e h).0 v →
       new_value source (deletes program) f.locals line change (expression_type program f.locals e) old v w ≡ changed source program line change old v w
   new_same line t (Compute from op s) e h old v l w so sv =
       let r = h.3.0 in

@@ -1,0 +1,12 @@
+pub mod Naming
+pub mod Standing
+pub mod Settings
+pub mod Crossing
+pub mod CallsPass
+pub mod StepsHold
+pub mod ActsHold
+pub mod CodeHolds
+pub mod RoutinesHold
+pub mod MarkedActs
+pub mod MarkedCode
+pub mod Along

@@ -1,0 +1,4 @@
+pub mod Along
+pub mod RunLaws
+pub mod MarkedRuns
+pub mod MarkedLaws

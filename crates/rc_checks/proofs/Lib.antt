@@ -1,0 +1,3 @@
+mod Rights
+mod Typed
+mod Whole

@@ -1,0 +1,781 @@
+-- The types of a typed program's region code agree: of the steps of its expressions.
+use Rattle.std.proofs.Common.{◌≡◌, ℕ, zero, suc, pos, ◌+◌, ◌<◌, ◌≤◌, Bool, true, false, ◌||◌, not, nat_eq, List, [], ◌∷◌, length, map, get_or, Option, Some, None, refl, sym, ap, ◌∙◌, subst, arith, rules}
+use Rattle.std.specs.Prelude.{IsTrue, IfSome, slice_get, take, option_map, is_some, max}
+use Rattle.std.proofs.lemmas.Bool.{or_right, and_from}
+use Rattle.std.proofs.lemmas.Option.{slice_get-map, get_or_from_slice_get}
+use Rattle.rc_core.specs.declared.ty.Note.TheVariants.{Plain}
+use Rattle.rc_core.specs.declared.ty.NumberType.{NumberType}
+use Rattle.rc_core.specs.declared.ty.NumberType.TheVariants.{Int, Unsigned, Char}
+use Rattle.rc_core.specs.declared.ty.Signedness.{Signedness}
+use Rattle.rc_core.specs.declared.ty.Signedness.TheVariants.{Signed, Unsigned as Wrapping}
+use Rattle.rc_core.specs.declared.operators.UnaryOperator.TheVariants.{Negate, Plus, Complement}
+use Rattle.rc_core.specs.Types.{Ty, int, unsigned, char, region, struct, pointer}
+use Rattle.rc_core.specs.Layout.{cells}
+use Rattle.rc_core.specs.declared.stmt.Change.{Change}
+use Rattle.rc_core.specs.declared.stmt.Change.TheVariants.{Compute, Step as Stepping}
+use Rattle.rc_core.specs.Execution.{local_type}
+use Rattle.rc_core.specs.Programs.{Stmt, block, declare, assign, store, update, copy, evaluate, delete, branch, while, repeat, for, break, continue, return, Stmts, done, then, Expr, constant, null, string, local, read, address, step, step_from, unary, binary, convert, not_zero, and, or, choose, is_null, same, call, new_region, new_subregion, region_of, allocate, allocate_array, putchar, getchar, Arguments, none, more, Place, global, pointed, indexed, Path, here, field, element, Function, Program}
+use Rattle.rc_core.specs.Typing.{number, arithmetic, value_type, is_struct, is_reference, is_pointer, result_if, is_comparison, parameters_of, NotNull, is_null_word, HasType, AreArguments, IsPlace, LeadsTo, IsValue, Runs, Takes, IsTyped, AreTyped}
+use Rattle.rc_core.specs.WellTyped.{IsVariable, IsWellTyped}
+use Rattle.rc_rlang.specs.RegionCode as To
+use Rattle.rc_kinds.proofs.Executions.{taken_has}
+use Rattle.rc_rlang.specs.Variables.{end_temporaries}
+use Rattle.rc_rlang.specs.RegionCode.{Kind, numeric, regional, kind_of, Access, width, Operation, Step, Steps, both, one, Test, Routine, Rlang}
+use Rattle.rc_rlang.specs.RegionFlow.{one_of, is_regional}
+use Rattle.rc_translation.specs.Translation.{expression_type, pointer_type, index_type, signedness, parameter_types, argument_types, global_type, expression_code, arguments_code, place_code, path_code, path_access, access, whole, condition_code, condition_test, optional_condition, has_result, evaluate_code, returned_type, statement_code, body_code, routine_of, region_of_program}
+use Rattle.rc_translation.proofs.ValueKinds.{kind_arithmetic, kind_number, kind_reference, kind_pointer, kind_value}
+use Rattle.rc_translation.proofs.TypesFound.{types_are, kind_found, place_is, number_not_null, char_not_null}
+use Rattle.rc_annotations.specs.Heights.{temporaries_in, temporaries_of}
+use Rattle.rc_rlang.specs.RegionVariables.{step_temporaries, steps_temporaries, code_temporaries, codes_temporaries, routine_temporaries}
+use Rattle.rc_along.specs.RunLaws.{AllRight}
+use Rattle.rc_along.specs.Along.{Whole, AllWhole, Written, written_in, written_by, written_by_all, AllWritten, CallRight, RightOperation, RightSteps, nowhere, RightAct, RightTest, RightCode, RightCodes, RightRoutine}
+
+eq_self : (n : ℕ) → nat_eq n n ≡ true
+eq_self n = search rules
+
+-- types that have a variable or none
+
+pub whole_type : (t : Ty) → IsTrue (not (is_struct t)) → Whole t
+whole_type int h = refl
+whole_type unsigned h = refl
+whole_type char h = refl
+whole_type region h = refl
+whole_type (struct k) h = cc
+whole_type (pointer note target) h = refl
+
+pub whole_value : (t : Ty) → Whole t → Whole (value_type t)
+whole_value int h = refl
+whole_value unsigned h = refl
+whole_value char h = refl
+whole_value region h = refl
+whole_value (struct k) h = h
+whole_value (pointer note target) h = refl
+
+pub whole_arithmetic : (s : Signedness) → Whole (arithmetic s)
+whole_arithmetic Signed = refl
+whole_arithmetic Wrapping = refl
+
+pub whole_number : (k : NumberType) → Whole (number k)
+whole_number Int = refl
+whole_number Unsigned = refl
+whole_number Char = refl
+
+pub whole_reference : (t : Ty) → IsTrue (is_reference t) → Whole t
+whole_reference int h = cc
+whole_reference unsigned h = cc
+whole_reference char h = cc
+whole_reference region h = refl
+whole_reference (struct k) h = cc
+whole_reference (pointer note target) h = refl
+
+pub whole_pointer : (t : Ty) → IsTrue (is_pointer t) → Whole t
+whole_pointer int h = cc
+whole_pointer unsigned h = cc
+whole_pointer char h = cc
+whole_pointer region h = cc
+whole_pointer (struct k) h = cc
+whole_pointer (pointer note target) h = refl
+
+whole_result : (b : Bool) (s : Signedness) → Whole (result_if b s)
+whole_result true s = refl
+whole_result false s = whole_arithmetic s
+
+kind_result : (b : Bool) (s : Signedness) → kind_of (result_if b s) ≡ numeric
+kind_result true s = refl
+kind_result false s = kind_arithmetic s
+
+pub regional_value : (t : Ty) → is_regional (value_type t) ≡ is_regional t
+regional_value int = refl
+regional_value unsigned = refl
+regional_value char = refl
+regional_value region = refl
+regional_value (struct k) = refl
+regional_value (pointer note target) = refl
+
+-- whole types of one kind both have a variable or none
+pub regional_same : (t u : Ty) → Whole t → Whole u → kind_of t ≡ kind_of u → is_regional t ≡ is_regional u
+regional_same t u wt wu e = by (is_regional t) (is_regional u) (sym wt ∙ e ∙ wu)
+  where
+    by : (a b : Bool) → one_of a regional numeric ≡ one_of b regional numeric → a ≡ b
+    by true true e = refl
+    by true false e = cc
+    by false true e = cc
+    by false false e = refl
+
+pub mapped_at : (tys : List Ty) (x : ℕ) (t : Ty) → slice_get tys x ≡ Some t → get_or (map is_regional tys) x false ≡ is_regional t
+mapped_at [] x t e = cc
+mapped_at (u ∷ tys) zero t e = let q : u ≡ t = cc in ap is_regional q
+mapped_at (u ∷ tys) (suc x) t e = mapped_at tys x t e
+
+-- heights
+
+max_parts : (a b n : ℕ) → max a b ≤ n → (a ≤ n) × (b ≤ n)
+max_parts a b n h = (grind (arith, h), grind (arith, h))
+
+pub heights_both : (a b : Steps) (n : ℕ) → steps_temporaries (both a b) ≤ n → (steps_temporaries a ≤ n) × (steps_temporaries b ≤ n)
+heights_both To.none b n h = (omega arith, h)
+heights_both (To.more s a) b n h =
+    let p = max_parts (step_temporaries s) (steps_temporaries (both a b)) n h in
+    let q = heights_both a b n p.1 in
+    (max_least (step_temporaries s) (steps_temporaries a) n p.0 q.0, q.1)
+  where
+    max_least : (i j n : ℕ) → i ≤ n → j ≤ n → max i j ≤ n
+    max_least i j n a b = grind (arith, a, b)
+
+pub height_one : (line h : ℕ) (ty : Ty) (op : Operation) (n : ℕ) → steps_temporaries (one (To.set line h ty op)) ≤ n → h < n
+height_one line h ty op n le = let p = max_parts (suc h) 0 n le in p.0
+
+-- what is written, with the new one
+
+abbrev pub Wider : Written → Written → Type 0
+Wider written w1 = (j : ℕ) → written j ≡ true → w1 j ≡ true
+
+pub wider_trans : (a b c : Written) → Wider a b → Wider b c → Wider a c
+wider_trans a b c f g j e = g j (f j e)
+
+pub record Has (n : ℕ) (ty : Ty) (h : ℕ) (written w1 : Written) : Type 0 where
+  pub wider : Wider written w1
+  pub new : is_regional ty ≡ true → w1 h ≡ true
+  pub below : h < n
+
+has_set : (n : ℕ) (ty : Ty) (h : ℕ) (written w1 : Written) → Wider written w1 → h < n → Has n ty h written (written_in ty h w1)
+has_set n ty h written w1 wide lt = record {
+  wider = λ j e. old (is_regional ty) j (wide j e);
+  new = λ e. rw (e, eq_self h) refl;
+  below = lt;
+}
+  where
+    old : (b : Bool) (j : ℕ) → w1 j ≡ true → one_of b (nat_eq j h || w1 j) (w1 j) ≡ true
+    old true j e = or_right (nat_eq j h) (w1 j) e
+    old false j e = e
+
+module _ (program : Program) (well : IsWellTyped program) (g : ℕ) (f : Function) (there : slice_get program.functions g ≡ Some f) (n : ℕ) where
+  abbrev locals : List Ty
+  locals = f.locals
+
+  abbrev r : Rlang
+  r = region_of_program program
+
+  abbrev fr : Routine
+  fr = routine_of program f
+
+  pub record Right (x : Steps) (written : Written) (P : Written → Type 0) : Type 0 where
+    pub steps : RightSteps r fr n x written
+    pub after : P (written_by_all x written)
+
+  right_both : (a b : Steps) (written : Written) (P Q : Written → Type 0) → Right a written P → ((w1 : Written) → P w1 → Right b w1 Q) → Right (both a b) written Q
+  right_both To.none b written P Q ra k = k written ra.after
+  right_both (To.more s a) b written P Q ra k =
+      let q = right_both a b (written_by s written) P Q (record { steps = ra.steps.1; after = ra.after }) k in
+      record { steps = (ra.steps.0, q.steps); after = q.after }
+
+  right_one : (line h : ℕ) (ty : Ty) (op : Operation) (written : Written) (P : Written → Type 0) → h < n → RightOperation r fr n written h ty op → P (written_in ty h written) → Right (one (To.set line h ty op)) written P
+  right_one line h ty op written P lt right p = record { steps = ((lt, right), tt); after = p }
+
+  -- an operation behind operands
+  right_set : (a : Steps) (line h : ℕ) (ty : Ty) (op : Operation) (written : Written) (P : Written → Type 0) → steps_temporaries (both a (one (To.set line h ty op))) ≤ n → Right a written P
+      → ((w1 : Written) → P w1 → Wider written w1 × RightOperation r fr n w1 h ty op) → Right (both a (one (To.set line h ty op))) written (Has n ty h written)
+  right_set a line h ty op written P le ra k =
+      let lt = height_one line h ty op n (heights_both a (one (To.set line h ty op)) n le).1 in
+      right_both a (one (To.set line h ty op)) written P (Has n ty h written) ra (λ w1 p. let q = k w1 p in right_one line h ty op w1 (Has n ty h written) lt q.1 (has_set n ty h written w1 q.0 lt))
+
+  -- one without operands
+  right_first : (line h : ℕ) (ty : Ty) (op : Operation) (written : Written) → steps_temporaries (one (To.set line h ty op)) ≤ n → RightOperation r fr n written h ty op → Right (one (To.set line h ty op)) written (Has n ty h written)
+  right_first line h ty op written le right = let lt = height_one line h ty op n le in right_one line h ty op written (Has n ty h written) lt right (has_set n ty h written written (λ j e. e) lt)
+
+  right_fork : (a : Steps) (line h : ℕ) (test ty : Ty) (x y : Steps) (written : Written) → steps_temporaries (both a (one (To.fork line h test ty x y))) ≤ n → Whole test → Right a written (Has n test h written)
+      → ((w1 : Written) → steps_temporaries x ≤ n → Right x w1 (Has n ty h w1)) → ((w1 : Written) → steps_temporaries y ≤ n → Right y w1 (Has n ty h w1)) → Right (both a (one (To.fork line h test ty x y))) written (Has n ty h written)
+  right_fork a line h test ty x y written le whole ra rx ry =
+      let own = (heights_both a (one (To.fork line h test ty x y)) n le).1 in
+      let parts = max_parts (max (suc h) (max (steps_temporaries x) (steps_temporaries y))) 0 n own in
+      let inner = max_parts (suc h) (max (steps_temporaries x) (steps_temporaries y)) n parts.0 in
+      let arms = max_parts (steps_temporaries x) (steps_temporaries y) n inner.1 in
+      right_both a (one (To.fork line h test ty x y)) written (Has n test h written) (Has n ty h written) ra (λ w1 p.
+      let qx = rx w1 arms.0 in
+      let qy = ry w1 arms.1 in
+      record {
+        steps = ((p.below, whole, p.new, qx.steps, qy.steps), tt);
+        after = record {
+          wider = λ j e. and_from (written_by_all x w1 j) (written_by_all y w1 j) (qx.after.wider j (p.wider j e)) (qy.after.wider j (p.wider j e));
+          new = λ e. and_from (written_by_all x w1 h) (written_by_all y w1 h) (qx.after.new e) (qy.after.new e);
+          below = p.below;
+        };
+      })
+
+  not_struct : (k : ℕ) (h : Function) → slice_get program.functions k ≡ Some h → (x : ℕ) (t : Ty) → slice_get h.locals x ≡ Some t → Whole t
+  not_struct k h e x t q = whole_type t ((well.functions k h e).locals x t q).1
+
+  result_whole : (o : Option Ty) (t : Ty) → IfSome o (IsVariable program.structs) → option_map value_type o ≡ Some t → Whole t
+  result_whole None t v e = cc
+  result_whole (Some u) t v e = let q : value_type u ≡ t = cc in subst Whole q (whole_value u (whole_type u v.1))
+
+  typed_whole : (e : Expr) (t : Ty) → HasType program locals e t → Whole t
+  typed_whole (constant line s k) t h = subst Whole (sym h.0) (whole_arithmetic s)
+  typed_whole (null line) t h = whole_reference t h.0
+  typed_whole (string line k) t h = subst Whole (sym h.0) refl
+  typed_whole (local line x) t h = subst Whole (sym h.1.1) (whole_value h.0 (not_struct g f there x h.0 h.1.0))
+  typed_whole (read line place) t h = subst Whole (sym h.1.2) (whole_value h.0 (whole_type h.0 h.1.1))
+  typed_whole (address line k) t h = subst Whole (sym h.1.1) refl
+  typed_whole (step line direction p i) t h = whole_pointer t h.0
+  typed_whole (step_from line i p) t h = whole_pointer t h.0
+  typed_whole (unary line operator s e) t h = subst Whole (sym h.0) (whole_arithmetic s)
+  typed_whole (binary line operator s a b) t h = subst Whole (sym h.0) (whole_result (is_comparison operator) s)
+  typed_whole (convert line from to e) t h = subst Whole (sym h.0) (whole_number to)
+  typed_whole (not_zero line e) t h = subst Whole (sym h.0) refl
+  typed_whole (and line a b) t h = subst Whole (sym h.0) refl
+  typed_whole (or line a b) t h = subst Whole (sym h.0) refl
+  typed_whole (choose line test a b) t h = subst Whole (sym h.2.1) (whole_arithmetic h.2.0)
+  typed_whole (is_null line wanted e) t h = subst Whole (sym h.0) refl
+  typed_whole (same line wanted a b) t h = subst Whole (sym h.0) refl
+  typed_whole (call line k arguments) t h = result_whole h.0.result t (well.functions k h.0 h.1.0).result h.1.1
+  typed_whole (new_region line) t h = subst Whole (sym h) refl
+  typed_whole (new_subregion line e) t h = subst Whole (sym h.0) refl
+  typed_whole (region_of line e) t h = subst Whole (sym h.0) refl
+  typed_whole (allocate line e u) t h = subst Whole (sym h.0) refl
+  typed_whole (allocate_array line e k u) t h = subst Whole (sym h.0) refl
+  typed_whole (putchar line e) t h = subst Whole (sym h.0) refl
+  typed_whole (getchar line) t h = subst Whole (sym h) refl
+
+  -- the type that is found for a value
+  found_whole : (e : Expr) (t : Ty) → HasType program locals e t → Whole (expression_type program locals e)
+  found_whole e t h = by (is_null_word e) refl
+    where
+      null_type : (e : Expr) → is_null_word e ≡ true → Whole (expression_type program locals e)
+      null_type (null line) q = refl
+      null_type _ q = cc
+
+      by : (b : Bool) → is_null_word e ≡ b → Whole (expression_type program locals e)
+      by true q = null_type e q
+      by false q = subst Whole (sym (types_are program locals e t (ap not q) h)) (typed_whole e t h)
+
+  abbrev code : Expr → Ty → ℕ → Steps
+  code e ty h = expression_code program locals e ty h
+
+  abbrev found : Expr → Ty
+  found e = expression_type program locals e
+
+  -- the types of arguments
+  arguments_same : (es : Arguments) (tys : List Ty) → AreArguments program locals es tys → argument_types program locals es tys ≡ tys
+  arguments_same none [] ha = refl
+  arguments_same none (ty ∷ tys) ha = absurd ha
+  arguments_same (more e es) [] ha = absurd ha
+  arguments_same (more e es) (ty ∷ tys) ha = ap (λ ts. ty ∷ ts) (arguments_same es tys ha.1)
+
+  abbrev types_in : Option Function → List Ty
+  types_in None = []
+  types_in (Some h) = parameters_of h
+
+  all_whole : (m : ℕ) (tys : List Ty) → ((x : ℕ) (t : Ty) → slice_get tys x ≡ Some t → Whole t) → AllWhole (take m tys)
+  all_whole zero tys k = tt
+  all_whole (suc m) [] k = tt
+  all_whole (suc m) (ty ∷ tys) k = (k 0 ty refl, all_whole m tys (λ x t e. k (suc x) t e))
+
+  take_length : (m : ℕ) (tys : List Ty) → m ≤ length tys → length (take m tys) ≡ m
+  take_length zero tys le = refl
+  take_length (suc m) [] le = absurd (omega (arith, le))
+  take_length (suc m) (ty ∷ tys) le = ap suc (take_length m tys (omega (arith, le)))
+
+  -- a call of a function with these parameters
+  pub call_right : (h : ℕ) (ty t : Ty) (k : ℕ) (callee : Function) → slice_get program.functions k ≡ Some callee → Whole ty → (is_regional ty ≡ true → (u : Ty) × (callee.result ≡ Some u) × (is_regional u ≡ true)) → h + length (parameters_of callee) ≤ n → CallRight r fr n h ty k (parameters_of callee)
+  call_right h ty t k callee e whole gives room = record {
+    callee = routine_of program callee;
+    found = slice_get-map (routine_of program) program.functions k ∙ ap (option_map (routine_of program)) e;
+    parameters = refl;
+    wholes = all_whole callee.parameters callee.locals (not_struct k callee e);
+    room = room;
+    count = take_length callee.parameters callee.locals (well.functions k callee e).parameters;
+    result = whole;
+    gives_back = gives;
+  }
+
+  gives_of : (o : Option Ty) (t ty : Ty) → option_map value_type o ≡ Some t → is_regional ty ≡ is_regional t → is_regional ty ≡ true → (u : Ty) × (o ≡ Some u) × (is_regional u ≡ true)
+  gives_of None t ty e q b = cc
+  gives_of (Some u) t ty e q b = let s : value_type u ≡ t = cc in (u, refl, sym (regional_value u) ∙ ap is_regional s ∙ sym q ∙ b)
+
+  pub record Passes (tys : List Ty) (h : ℕ) (written w1 : Written) : Type 0 where
+    pub wider : Wider written w1
+    pub all : AllWritten w1 tys h
+    pub room : h + length tys ≤ n
+
+  pub record Points (h : ℕ) (written w1 : Written) : Type 0 where
+    pub wider : Wider written w1
+    pub new : w1 h ≡ true
+    pub below : h < n
+
+  all_wider : (tys : List Ty) (h : ℕ) (a b : Written) → Wider a b → AllWritten a tys h → AllWritten b tys h
+  all_wider [] h a b w all = tt
+  all_wider (ty ∷ tys) h a b w all = ((λ e. w h (all.0 e)), all_wider tys (suc h) a b w all.1)
+
+  abbrev Does : Expr → Type 0
+  Does e = (t : Ty) → HasType program locals e t → (ty : Ty) (h : ℕ) → kind_of ty ≡ kind_of t → Whole ty → steps_temporaries (code e ty h) ≤ n → (written : Written) → Right (code e ty h) written (Has n ty h written)
+
+  -- one operand, of whatever kind, and an operation that asks nothing more of it
+  right_numeric : (e : Expr) → Does e → (u own : Ty) (line h : ℕ) (ty : Ty) (op : Operation) (written : Written) → HasType program locals e u → kind_of own ≡ kind_of u → Whole own → steps_temporaries (both (code e own h) (one (To.set line h ty op))) ≤ n
+      → ((w1 : Written) → RightOperation r fr n w1 h ty op) → Right (both (code e own h) (one (To.set line h ty op))) written (Has n ty h written)
+  right_numeric e does u own line h ty op written he hk hw le right =
+      right_set (code e own h) line h ty op written (Has n own h written) le (does u he own h hk hw (heights_both (code e own h) (one (To.set line h ty op)) n le).0 written) (λ w1 p. (p.wider, right w1))
+
+  -- one that has to be written
+  right_held : (e : Expr) → Does e → (u own : Ty) (line h : ℕ) (ty : Ty) (op : Operation) (written : Written) → HasType program locals e u → kind_of own ≡ kind_of u → Whole own → is_regional own ≡ true → steps_temporaries (both (code e own h) (one (To.set line h ty op))) ≤ n
+      → ((w1 : Written) → w1 h ≡ true → RightOperation r fr n w1 h ty op) → Right (both (code e own h) (one (To.set line h ty op))) written (Has n ty h written)
+  right_held e does u own line h ty op written he hk hw reg le right =
+      right_set (code e own h) line h ty op written (Has n own h written) le (does u he own h hk hw (heights_both (code e own h) (one (To.set line h ty op)) n le).0 written) (λ w1 p. (p.wider, right w1 (p.new reg)))
+
+  right_two : (a b : Expr) → Does a → Does b → (u v own other : Ty) (line h : ℕ) (ty : Ty) (op : Operation) (written : Written) → HasType program locals a u → HasType program locals b v → kind_of own ≡ kind_of u → kind_of other ≡ kind_of v → Whole own → Whole other
+      → steps_temporaries (both (code a own h) (both (code b other (suc h)) (one (To.set line h ty op)))) ≤ n → ((w1 : Written) → RightOperation r fr n w1 h ty op) → Right (both (code a own h) (both (code b other (suc h)) (one (To.set line h ty op)))) written (Has n ty h written)
+  right_two a b does_a does_b u v own other line h ty op written ha hb ka kb wa wb le right =
+      let last = one (To.set line h ty op) in
+      let p = heights_both (code a own h) (both (code b other (suc h)) last) n le in
+      let q = heights_both (code b other (suc h)) last n p.1 in
+      right_both (code a own h) (both (code b other (suc h)) last) written (Has n own h written) (Has n ty h written) (does_a u ha own h ka wa p.0 written) (λ w1 q1.
+      right_both (code b other (suc h)) last w1 (Has n other (suc h) w1) (Has n ty h written) (does_b v hb other (suc h) kb wb q.0 w1) (λ w2 q2.
+      right_one line h ty op w2 (Has n ty h written) q1.below (right w2) (has_set n ty h written w2 (wider_trans written w1 w2 q1.wider q2.wider) q1.below)))
+
+  right_index : (i : Expr) → Does i → (s : Signedness) → HasType program locals i (arithmetic s) → (h : ℕ) → steps_temporaries (code i (index_type program locals i) h) ≤ n → (written : Written) → Right (code i (index_type program locals i) h) written (Has n (index_type program locals i) h written)
+  right_index i does s hi h le written =
+      does (arithmetic s) hi (index_type program locals i) h (kind_arithmetic (signedness program locals (found i)) ∙ sym (kind_arithmetic s)) (whole_arithmetic (signedness program locals (found i))) le written
+
+  right_pointed : (h : ℕ) → h < n → (written w1 : Written) → Wider written w1 → w1 h ≡ true → (x : Steps) → Right x w1 (Wider w1) → Right x w1 (Points h written)
+  right_pointed h lt written w1 wide new x q = record { steps = q.steps; after = record { wider = wider_trans written w1 _ wide q.after; new = q.after h new; below = lt } }
+
+  mutual
+    pub right_expression : (e : Expr) (t : Ty) → HasType program locals e t → (ty : Ty) (h : ℕ) → kind_of ty ≡ kind_of t → Whole ty → steps_temporaries (code e ty h) ≤ n → (written : Written) → Right (code e ty h) written (Has n ty h written)
+    right_expression (constant line s k) t he ty h hk hw le written = right_first line h ty (To.constant s k) written le (hk ∙ ap kind_of he.0 ∙ kind_arithmetic s)
+    right_expression (null line) t he ty h hk hw le written = right_first line h ty To.null written le (hk ∙ kind_reference t he.0)
+    right_expression (string line k) t he ty h hk hw le written = right_first line h ty (To.static (length program.globals + k)) written le (hk ∙ ap kind_of he.0)
+    right_expression (local line x) t he ty h hk hw le written =
+        right_first line h ty (To.copy x) written le (hw, mapped_at locals x he.0 he.1.0 ∙ sym (regional_same ty he.0 hw (not_struct g f there x he.0 he.1.0) (hk ∙ ap kind_of he.1.1 ∙ kind_value he.0)))
+    right_expression (read line place) t he ty h hk hw le written =
+        right_set (place_code program locals line place h) line h ty (To.load (access program locals place)) written (Points h written) le
+        (right_place line place he.0 he.1.0 h (heights_both (place_code program locals line place h) (one (To.set line h ty (To.load (access program locals place)))) n le).0 written)
+        (λ w1 p. (p.wider, (hw, p.new)))
+    right_expression (address line k) t he ty h hk hw le written = right_first line h ty (To.static k) written le (hk ∙ ap kind_of he.1.1)
+    right_expression (step line direction p i) t he ty h hk hw le written =
+        let pt = pointer_type program locals p in
+        let it = index_type program locals i in
+        let last = one (To.set line h ty (To.step direction pt it)) in
+        let a = heights_both (code p pt h) (both (code i it (suc h)) last) n le in
+        let b = heights_both (code i it (suc h)) last n a.1 in
+        right_both (code p pt h) (both (code i it (suc h)) last) written (Has n pt h written) (Has n ty h written) (right_expression p t he.2 pt h (sym (kind_pointer t he.0)) refl a.0 written) (λ w1 q1.
+        right_both (code i it (suc h)) last w1 (Has n it (suc h) w1) (Has n ty h written) (right_index i (right_expression i) he.3.0 he.3.1 (suc h) b.0 w1) (λ w2 q2.
+        right_one line h ty (To.step direction pt it) w2 (Has n ty h written) q1.below (hk ∙ kind_pointer t he.0, refl, q2.wider h (q1.new refl)) (has_set n ty h written w2 (wider_trans written w1 w2 q1.wider q2.wider) q1.below)))
+    right_expression (step_from line i p) t he ty h hk hw le written =
+        let pt = pointer_type program locals p in
+        let it = index_type program locals i in
+        let last = one (To.set line h ty (To.step_from it pt)) in
+        let a = heights_both (code i it h) (both (code p pt (suc h)) last) n le in
+        let b = heights_both (code p pt (suc h)) last n a.1 in
+        right_both (code i it h) (both (code p pt (suc h)) last) written (Has n it h written) (Has n ty h written) (right_index i (right_expression i) he.3.0 he.3.1 h a.0 written) (λ w1 q1.
+        right_both (code p pt (suc h)) last w1 (Has n pt (suc h) w1) (Has n ty h written) (right_expression p t he.2 pt (suc h) (sym (kind_pointer t he.0)) refl b.0 w1) (λ w2 q2.
+        right_one line h ty (To.step_from it pt) w2 (Has n ty h written) q1.below (hk ∙ kind_pointer t he.0, refl, q2.below, q2.new refl) (has_set n ty h written w2 (wider_trans written w1 w2 q1.wider q2.wider) q1.below)))
+    right_expression (unary line Negate s e) t he ty h hk hw le written =
+        right_numeric e (right_expression e) (arithmetic s) (arithmetic s) line h ty (To.unary Negate s) written he.1 refl (whole_arithmetic s) le (λ w1. hk ∙ ap kind_of he.0 ∙ kind_arithmetic s)
+    right_expression (unary line Plus s e) t he ty h hk hw le written = right_expression e (arithmetic s) he.1 ty h (hk ∙ ap kind_of he.0) hw le written
+    right_expression (unary line Complement s e) t he ty h hk hw le written =
+        right_numeric e (right_expression e) (arithmetic s) (arithmetic s) line h ty (To.unary Complement s) written he.1 refl (whole_arithmetic s) le (λ w1. hk ∙ ap kind_of he.0 ∙ kind_arithmetic s)
+    right_expression (binary line operator s a b) t he ty h hk hw le written =
+        right_two a b (right_expression a) (right_expression b) (arithmetic s) (arithmetic he.2.0) (arithmetic s) (found b) line h ty (To.binary operator s (found b)) written he.1 he.2.1.1 refl (kind_found program locals b (arithmetic he.2.0) he.2.1.1) (whole_arithmetic s) (found_whole b (arithmetic he.2.0) he.2.1.1) le
+        (λ w1. hk ∙ ap kind_of he.0 ∙ kind_result (is_comparison operator) s)
+    right_expression (convert line from to e) t he ty h hk hw le written =
+        right_numeric e (right_expression e) (number from) (number from) line h ty (To.convert from to) written he.2 refl (whole_number from) le (λ w1. hk ∙ ap kind_of he.0 ∙ kind_number to)
+    right_expression (not_zero line e) t he ty h hk hw le written =
+        right_numeric e (right_expression e) (number he.1.0) (found e) line h ty (To.not_zero (found e)) written he.1.1 (kind_found program locals e (number he.1.0) he.1.1) (found_whole e (number he.1.0) he.1.1) le (λ w1. hk ∙ ap kind_of he.0)
+    right_expression (and line a b) t he ty h hk hw le written =
+        let x = both (code b (found b) h) (one (To.set line h ty (To.truth (found b)))) in
+        let y = one (To.set line h ty (To.constant Signed (pos 0))) in
+        right_fork (code a (found a) h) line h (found a) ty x y written le (found_whole a he.3.0 he.3.1)
+        (right_expression a he.3.0 he.3.1 (found a) h (kind_found program locals a he.3.0 he.3.1) (found_whole a he.3.0 he.3.1) (heights_both (code a (found a) h) (one (To.fork line h (found a) ty x y)) n le).0 written)
+        (λ w1 lx. right_numeric b (right_expression b) he.4.0 (found b) line h ty (To.truth (found b)) w1 he.4.1 (kind_found program locals b he.4.0 he.4.1) (found_whole b he.4.0 he.4.1) lx (λ w1. hk ∙ ap kind_of he.0))
+        (λ w1 ly. right_first line h ty (To.constant Signed (pos 0)) w1 ly (hk ∙ ap kind_of he.0))
+    right_expression (or line a b) t he ty h hk hw le written =
+        let x = one (To.set line h ty (To.constant Signed (pos 1))) in
+        let y = both (code b (found b) h) (one (To.set line h ty (To.truth (found b)))) in
+        right_fork (code a (found a) h) line h (found a) ty x y written le (found_whole a he.3.0 he.3.1)
+        (right_expression a he.3.0 he.3.1 (found a) h (kind_found program locals a he.3.0 he.3.1) (found_whole a he.3.0 he.3.1) (heights_both (code a (found a) h) (one (To.fork line h (found a) ty x y)) n le).0 written)
+        (λ w1 lx. right_first line h ty (To.constant Signed (pos 1)) w1 lx (hk ∙ ap kind_of he.0))
+        (λ w1 ly. right_numeric b (right_expression b) he.4.0 (found b) line h ty (To.truth (found b)) w1 he.4.1 (kind_found program locals b he.4.0 he.4.1) (found_whole b he.4.0 he.4.1) ly (λ w1. hk ∙ ap kind_of he.0))
+    right_expression (choose line test a b) t he ty h hk hw le written =
+        right_fork (code test (found test) h) line h (found test) ty (code a ty h) (code b ty h) written le (found_whole test he.1.0 he.1.1)
+        (right_expression test he.1.0 he.1.1 (found test) h (kind_found program locals test he.1.0 he.1.1) (found_whole test he.1.0 he.1.1) (heights_both (code test (found test) h) (one (To.fork line h (found test) ty (code a ty h) (code b ty h))) n le).0 written)
+        (λ w1 lx. right_expression a t he.3 ty h hk hw lx w1)
+        (λ w1 ly. right_expression b t he.4 ty h hk hw ly w1)
+    right_expression (is_null line wanted e) t he ty h hk hw le written =
+        right_numeric e (right_expression e) he.2.0 (found e) line h ty (To.is_null wanted (found e)) written he.2.1.1 (kind_found program locals e he.2.0 he.2.1.1) (found_whole e he.2.0 he.2.1.1) le (λ w1. hk ∙ ap kind_of he.0)
+    right_expression (same line wanted a b) t he ty h hk hw le written =
+        right_two a b (right_expression a) (right_expression b) he.3.0 he.3.0 (found a) (found a) line h ty (To.same wanted (found a)) written he.3.1.1 he.3.1.2 (kind_found program locals a he.3.0 he.3.1.1) (kind_found program locals a he.3.0 he.3.1.1) (found_whole a he.3.0 he.3.1.1) (found_whole a he.3.0 he.3.1.1) le (λ w1. hk ∙ ap kind_of he.0)
+    right_expression (call line k es) t he ty h hk hw le written =
+        let tys : parameter_types program k ≡ parameters_of he.0 = ap types_in he.1.0 in
+        let now = λ (ts us : List Ty). both (arguments_code program locals es ts h) (one (To.set line h ty (To.call k us))) in
+        let us : argument_types program locals es (parameters_of he.0) ≡ parameters_of he.0 = arguments_same es (parameters_of he.0) he.1.2 in
+        subst (λ ts. Right (now ts (argument_types program locals es ts)) written (Has n ty h written)) (sym tys)
+        (subst (λ vs. Right (now (parameters_of he.0) vs) written (Has n ty h written)) (sym us)
+        (let le1 : steps_temporaries (now (parameters_of he.0) (parameters_of he.0)) ≤ n = subst (λ vs. steps_temporaries (now (parameters_of he.0) vs) ≤ n) us (subst (λ ts. steps_temporaries (now ts (argument_types program locals es ts)) ≤ n) tys le) in
+        let parts = heights_both (arguments_code program locals es (parameters_of he.0) h) (one (To.set line h ty (To.call k (parameters_of he.0)))) n le1 in
+        let lt = height_one line h ty (To.call k (parameters_of he.0)) n parts.1 in
+        right_set (arguments_code program locals es (parameters_of he.0) h) line h ty (To.call k (parameters_of he.0)) written (Passes (parameters_of he.0) h written) le1
+        (right_arguments es (parameters_of he.0) he.1.2 h (omega (arith, lt)) parts.0 written)
+        (λ w1 p. (p.wider, (call_right h ty t k he.0 he.1.0 hw (gives_of he.0.result t ty he.1.1 (regional_same ty t hw (typed_whole (call line k es) t he) hk)) p.room, p.all)))))
+    right_expression (new_region line) t he ty h hk hw le written = right_first line h ty To.new_region written le (hk ∙ ap kind_of he)
+    right_expression (new_subregion line e) t he ty h hk hw le written = right_held e (right_expression e) region region line h ty To.new_subregion written he.1 refl refl refl le (λ w1 new. (hk ∙ ap kind_of he.0, new))
+    right_expression (region_of line e) t he ty h hk hw le written =
+        right_held e (right_expression e) he.2.0 (found e) line h ty (To.region_of (found e)) written he.2.1.1 (kind_found program locals e he.2.0 he.2.1.1) (found_whole e he.2.0 he.2.1.1) (regional_same (found e) (pointer Plain int) (found_whole e he.2.0 he.2.1.1) refl (kind_found program locals e he.2.0 he.2.1.1 ∙ kind_pointer he.2.0 he.2.1.0)) le
+        (λ w1 new. (hk ∙ ap kind_of he.0, kind_found program locals e he.2.0 he.2.1.1 ∙ kind_pointer he.2.0 he.2.1.0, new))
+    right_expression (allocate line e u) t he ty h hk hw le written = right_held e (right_expression e) region region line h ty (To.allocate u (cells program.structs u)) written he.2 refl refl refl le (λ w1 new. (hk ∙ ap kind_of he.0, new))
+    right_expression (allocate_array line e k u) t he ty h hk hw le written =
+        let last = one (To.set line h ty (To.allocate_array u (cells program.structs u))) in
+        let a = heights_both (code e region h) (both (code k int (suc h)) last) n le in
+        let b = heights_both (code k int (suc h)) last n a.1 in
+        right_both (code e region h) (both (code k int (suc h)) last) written (Has n region h written) (Has n ty h written) (right_expression e region he.2 region h refl refl a.0 written) (λ w1 q1.
+        right_both (code k int (suc h)) last w1 (Has n int (suc h) w1) (Has n ty h written) (right_expression k int he.3 int (suc h) refl refl b.0 w1) (λ w2 q2.
+        right_one line h ty (To.allocate_array u (cells program.structs u)) w2 (Has n ty h written) q1.below (hk ∙ ap kind_of he.0, q2.wider h (q1.new refl)) (has_set n ty h written w2 (wider_trans written w1 w2 q1.wider q2.wider) q1.below)))
+    right_expression (putchar line e) t he ty h hk hw le written = right_numeric e (right_expression e) int int line h ty To.putchar written he.1 refl refl le (λ w1. hk ∙ ap kind_of he.0)
+    right_expression (getchar line) t he ty h hk hw le written = right_first line h ty To.getchar written le (hk ∙ ap kind_of he)
+
+    pub right_arguments : (es : Arguments) (tys : List Ty) → AreArguments program locals es tys → (h : ℕ) → h ≤ n → steps_temporaries (arguments_code program locals es tys h) ≤ n → (written : Written) → Right (arguments_code program locals es tys h) written (Passes tys h written)
+    right_arguments none [] ha h lh le written = record { steps = tt; after = record { wider = λ j e. e; all = tt; room = omega (arith, lh) } }
+    right_arguments none (ty ∷ tys) ha h lh le written = absurd ha
+    right_arguments (more e es) [] ha h lh le written = absurd ha
+    right_arguments (more e es) (ty ∷ tys) ha h lh le written =
+        let own = value_type ty in
+        let parts = heights_both (code e own h) (arguments_code program locals es tys (suc h)) n le in
+        right_both (code e own h) (arguments_code program locals es tys (suc h)) written (Has n own h written) (Passes (ty ∷ tys) h written) (right_expression e own ha.0 own h refl (typed_whole e own ha.0) parts.0 written) (λ w1 q1.
+        let q = right_arguments es tys ha.1 (suc h) (let lt = q1.below in omega (arith, lt)) parts.1 w1 in
+        record {
+          steps = q.steps;
+          after = record { wider = wider_trans written w1 _ q1.wider q.after.wider; all = ((λ b. q.after.wider h (q1.new (regional_value ty ∙ b))), q.after.all); room = let room = q.after.room in omega (arith, room) };
+        })
+
+    pub right_place : (line : ℕ) (place : Place) (t : Ty) → IsPlace program locals place t → (h : ℕ) → steps_temporaries (place_code program locals line place h) ≤ n → (written : Written) → Right (place_code program locals line place h) written (Points h written)
+    right_place line (global k path) t hp h le written =
+        let first = one (To.set line h (pointer Plain (global_type program k)) (To.static k)) in
+        let parts = heights_both first (path_code program locals path (suc h)) n le in
+        right_both first (path_code program locals path (suc h)) written (Has n (pointer Plain (global_type program k)) h written) (Points h written) (right_first line h (pointer Plain (global_type program k)) (To.static k) written parts.0 refl) (λ w1 q1.
+        right_pointed h q1.below written w1 q1.wider (q1.new refl) (path_code program locals path (suc h)) (right_path path hp.0.ty t hp.1.2 (suc h) parts.1 w1))
+    right_place line (pointed p path) t hp h le written =
+        let pt = pointer_type program locals p in
+        let parts = heights_both (code p pt h) (path_code program locals path (suc h)) n le in
+        right_both (code p pt h) (path_code program locals path (suc h)) written (Has n pt h written) (Points h written) (right_expression p (pointer Plain hp.1.0) hp.1.1.0 pt h refl refl parts.0 written) (λ w1 q1.
+        right_pointed h q1.below written w1 q1.wider (q1.new refl) (path_code program locals path (suc h)) (right_path path hp.1.0 t hp.1.1.1 (suc h) parts.1 w1))
+    right_place line (indexed p i path) t hp h le written =
+        let pt = pointer_type program locals p in
+        let it = index_type program locals i in
+        let rest = path_code program locals path (suc (suc h)) in
+        let a = heights_both (code p pt h) (both (code i it (suc h)) rest) n le in
+        let b = heights_both (code i it (suc h)) rest n a.1 in
+        right_both (code p pt h) (both (code i it (suc h)) rest) written (Has n pt h written) (Points h written) (right_expression p (pointer Plain hp.1.0) hp.1.1.0 pt h refl refl a.0 written) (λ w1 q1.
+        right_both (code i it (suc h)) rest w1 (Has n it (suc h) w1) (Points h written) (right_index i (right_expression i) hp.1.1.1.0 hp.1.1.1.1 (suc h) b.0 w1) (λ w2 q2.
+        right_pointed h q1.below written w2 (wider_trans written w1 w2 q1.wider q2.wider) (q2.wider h (q1.new refl)) rest (right_path path hp.1.0 t hp.1.1.2 (suc (suc h)) b.1 w2)))
+
+    right_path : (path : Path) (u t : Ty) → LeadsTo program locals path u t → (h : ℕ) → steps_temporaries (path_code program locals path h) ≤ n → (written : Written) → Right (path_code program locals path h) written (Wider written)
+    right_path here u t hl h le written = record { steps = tt; after = λ j e. e }
+    right_path (field s k rest) u t hl h le written = right_path rest hl.1.0.ty t hl.1.1.2 h le written
+    right_path (element s k i rest) u t hl h le written =
+        let it = index_type program locals i in
+        let parts = heights_both (code i it h) (path_code program locals rest (suc h)) n le in
+        right_both (code i it h) (path_code program locals rest (suc h)) written (Has n it h written) (Wider written) (right_index i (right_expression i) hl.1.1.2.0 hl.1.1.2.1 h parts.0 written) (λ w1 q1.
+        let q = right_path rest hl.1.0.ty t hl.1.1.3 (suc h) parts.1 w1 in
+        record { steps = q.steps; after = wider_trans written w1 _ q1.wider q.after })
+
+  -- statements
+
+  abbrev CodeIs : To.Code → Type 0
+  CodeIs x = RightCode r fr n x
+
+  right_simple : (x : Steps) (act : To.Act) (P : Written → Type 0) → Right x nowhere P → ((w1 : Written) → P w1 → RightAct r fr n act w1) → CodeIs (To.simple x act)
+  right_simple x act P ra k = (ra.steps, k (written_by_all x nowhere) ra.after)
+
+  local_whole : (x : ℕ) (t : Ty) → slice_get locals x ≡ Some t → Whole t
+  local_whole x t e = not_struct g f there x t e
+
+  right_assign : (line x : ℕ) (t ty : Ty) (e : Expr) → slice_get locals x ≡ Some t → ty ≡ t → HasType program locals e (value_type t) → code_temporaries (To.simple (code e (value_type ty) 0) (To.assign line x ty)) ≤ n → CodeIs (To.simple (code e (value_type ty) 0) (To.assign line x ty))
+  right_assign line x t ty e at alike he le =
+      subst (λ u. code_temporaries (To.simple (code e (value_type u) 0) (To.assign line x u)) ≤ n → CodeIs (To.simple (code e (value_type u) 0) (To.assign line x u))) (sym alike)
+      (λ le1.
+      right_simple (code e (value_type t) 0) (To.assign line x t) (Has n (value_type t) 0 nowhere) (right_expression e (value_type t) he (value_type t) 0 refl (whole_value t (local_whole x t at)) (max_parts (steps_temporaries (code e (value_type t) 0)) 0 n le1).0 nowhere)
+      (λ w1 p. (local_whole x t at, mapped_at locals x t at, p.below, (λ b. p.new (regional_value t ∙ b))))) le
+
+  record PlaceThen (cell : Ty) (k : ℕ) (w1 : Written) : Type 0 where
+    pointer : w1 0 ≡ true
+    first : 0 < n
+    value : is_regional cell ≡ true → w1 k ≡ true
+    below : k < n
+
+  right_place_then : (line : ℕ) (place : Place) (pt : Ty) → IsPlace program locals place pt → (e : Expr) (v own : Ty) → HasType program locals e v → kind_of own ≡ kind_of v → Whole own
+      → let a = access program locals place in steps_temporaries (both (place_code program locals line place 0) (code e own (width a))) ≤ n → Right (both (place_code program locals line place 0) (code e own (width a))) nowhere (PlaceThen own (width a))
+  right_place_then line place pt hp e v own he hk hw le =
+      let a = access program locals place in
+      let parts = heights_both (place_code program locals line place 0) (code e own (width a)) n le in
+      right_both (place_code program locals line place 0) (code e own (width a)) nowhere (Points 0 nowhere) (PlaceThen own (width a)) (right_place line place pt hp 0 parts.0 nowhere) (λ w1 p1.
+      let q = right_expression e v he own (width a) hk hw parts.1 w1 in
+      record { steps = q.steps; after = record { pointer = q.after.wider 0 p1.new; first = p1.below; value = q.after.new; below = q.after.below } })
+
+  path_cell : (path : Path) (a : Access) → (path_access program locals path a).cell ≡ a.cell
+  path_cell here a = refl
+  path_cell (field s j rest) a = path_cell rest _
+  path_cell (element s j i rest) a = path_cell rest _
+
+  cell_is : (place : Place) (t : Ty) → IsPlace program locals place t → (access program locals place).cell ≡ t
+  cell_is (global k path) t hp = path_cell path _ ∙ place_is program locals (global k path) t hp
+  cell_is (pointed p path) t hp = path_cell path _ ∙ place_is program locals (pointed p path) t hp
+  cell_is (indexed p i path) t hp = path_cell path _ ∙ place_is program locals (indexed p i path) t hp
+
+  right_store : (line : ℕ) (place : Place) (pt : Ty) → IsPlace program locals place pt → IsTrue (not (is_struct pt)) → (e : Expr) → HasType program locals e (value_type pt) → code_temporaries (statement_code program f (store line place e)) ≤ n → CodeIs (statement_code program f (store line place e))
+  right_store line place pt hp h e he le =
+      let a = access program locals place in
+      let x = both (place_code program locals line place 0) (code e (value_type a.cell) (width a)) in
+      let whole : Whole a.cell = subst Whole (sym (cell_is place pt hp)) (whole_type pt h) in
+      right_simple x (To.store line a) (PlaceThen (value_type a.cell) (width a))
+      (right_place_then line place pt hp e (value_type pt) (value_type a.cell) he (ap (λ c. kind_of (value_type c)) (cell_is place pt hp)) (whole_value a.cell whole) (max_parts (steps_temporaries x) 0 n le).0)
+      (λ w1 p. (whole, p.first, p.below, p.pointer, (λ b. p.value (regional_value a.cell ∙ b))))
+
+  pointer_regional : (t : Ty) → IsTrue (is_pointer t) → is_regional t ≡ true
+  pointer_regional int h = cc
+  pointer_regional unsigned h = cc
+  pointer_regional char h = cc
+  pointer_regional region h = cc
+  pointer_regional (struct k) h = cc
+  pointer_regional (pointer note target) h = refl
+
+  right_update : (line : ℕ) (place : Place) (pt : Ty) → IsPlace program locals place pt → (change : Change) (e : Expr) → Takes program locals pt change e → code_temporaries (statement_code program f (update line place change e)) ≤ n → CodeIs (statement_code program f (update line place change e))
+  right_update line place pt hp change e takes le =
+      let a = access program locals place in
+      let x = both (place_code program locals line place 0) (code e (found e) (width a)) in
+      let has = taken_has program f pt change e takes in
+      let parts = max_parts (steps_temporaries x) (suc (suc (width a))) n le in
+      right_simple x (To.update line a change (found e)) (PlaceThen (found e) (width a)) (right_place_then line place pt hp e has.0 (found e) has.1 (kind_found program locals e has.0 has.1) (found_whole e has.0 has.1) parts.0) (λ w1 p. act change takes w1 parts.1 p.first p.pointer)
+    where
+      act : (change : Change) → Takes program locals pt change e → (w1 : Written) → suc (suc (width (access program locals place))) ≤ n → 0 < n → w1 0 ≡ true → RightAct r fr n (To.update line (access program locals place) change (found e)) w1
+      act (Compute from operator s) takes w1 room first new = (first, new)
+      act (Stepping direction) takes w1 room first new = (ap is_regional (cell_is place pt hp) ∙ pointer_regional pt takes.0, room, new)
+
+  record TwoPlaces (k : ℕ) (w1 : Written) : Type 0 where
+    first : w1 0 ≡ true
+    second : w1 k ≡ true
+
+  right_copy : (line s : ℕ) (left right : Place) → IsPlace program locals left (struct s) → IsPlace program locals right (struct s) → code_temporaries (statement_code program f (copy line s left right)) ≤ n → CodeIs (statement_code program f (copy line s left right))
+  right_copy line s left right hl hr le =
+      let a = access program locals left in
+      let b = access program locals right in
+      let x = both (place_code program locals line left 0) (place_code program locals line right (width a)) in
+      let parts = max_parts (steps_temporaries x) (suc (width a + width b)) n le in
+      let two = heights_both (place_code program locals line left 0) (place_code program locals line right (width a)) n parts.0 in
+      right_simple x (To.move line (cells program.structs (struct s)) a b) (TwoPlaces (width a))
+      (right_both (place_code program locals line left 0) (place_code program locals line right (width a)) nowhere (Points 0 nowhere) (TwoPlaces (width a)) (right_place line left (struct s) hl 0 two.0 nowhere) (λ w1 p1.
+      let q = right_place line right (struct s) hr (width a) two.1 w1 in
+      record { steps = q.steps; after = record { first = q.after.wider 0 p1.new; second = q.after.new } }))
+      (λ w1 p. (parts.1, p.first, p.second))
+
+  right_dropped : (e : Expr) (u : Ty) → HasType program locals e u → code_temporaries (To.simple (code e (found e) 0) To.drop) ≤ n → CodeIs (To.simple (code e (found e) 0) To.drop)
+  right_dropped e u he le =
+      right_simple (code e (found e) 0) To.drop (Has n (found e) 0 nowhere) (right_expression e u he (found e) 0 (kind_found program locals e u he) (found_whole e u he) (max_parts (steps_temporaries (code e (found e) 0)) 0 n le).0 nowhere) (λ w1 p. tt)
+
+  right_perform : (line k : ℕ) (es : Arguments) (callee : Function) → slice_get program.functions k ≡ Some callee → AreArguments program locals es (parameters_of callee)
+      → code_temporaries (To.simple (arguments_code program locals es (parameter_types program k) 0) (To.perform line k (argument_types program locals es (parameter_types program k)))) ≤ n
+      → CodeIs (To.simple (arguments_code program locals es (parameter_types program k) 0) (To.perform line k (argument_types program locals es (parameter_types program k))))
+  right_perform line k es callee e ha le =
+      let tys = parameters_of callee in
+      subst (λ ts. steps_temporaries (arguments_code program locals es ts 0) ≤ n → CodeIs (To.simple (arguments_code program locals es ts 0) (To.perform line k (argument_types program locals es ts)))) (sym (ap types_in e))
+      (λ le1.
+      subst (λ us. CodeIs (To.simple (arguments_code program locals es tys 0) (To.perform line k us))) (sym (arguments_same es tys ha))
+      (right_simple (arguments_code program locals es tys 0) (To.perform line k tys) (Passes tys 0 nowhere) (right_arguments es tys ha 0 (omega arith) le1 nowhere) (λ w1 p. (call_right 0 int int k callee e refl (λ b. cc) p.room, p.all))))
+      (max_parts (steps_temporaries (arguments_code program locals es (parameter_types program k) 0)) 1 n le).0
+
+  abbrev gives_in : Option Function → Bool
+  gives_in None = true
+  gives_in (Some h) = is_some h.result
+
+  right_evaluate : (line : ℕ) (e : Expr) → Runs program locals e → code_temporaries (evaluate_code program locals line e) ≤ n → CodeIs (evaluate_code program locals line e)
+  right_evaluate line (call own k es) h le = by (has_result program k) refl le
+    where
+      typed : (o : Option Ty) → is_some o ≡ true → (u : Ty) × (option_map value_type o ≡ Some u)
+      typed None e = cc
+      typed (Some u) e = (value_type u, refl)
+
+      whole_call : To.Code
+      whole_call = To.simple (whole program locals (call own k es)) To.drop
+
+      performed : To.Code
+      performed = To.simple (arguments_code program locals es (parameter_types program k) 0) (To.perform own k (argument_types program locals es (parameter_types program k)))
+
+      by : (b : Bool) → has_result program k ≡ b → code_temporaries (Rattle.rc_translation.specs.Translation.one_of b whole_call performed) ≤ n → CodeIs (Rattle.rc_translation.specs.Translation.one_of b whole_call performed)
+      by true e le = let q = typed h.0.result (sym (ap gives_in h.1.0) ∙ e) in right_dropped (call own k es) q.0 (h.0, (h.1.0, q.1, h.1.1)) le
+      by false e le = right_perform own k es h.0 h.1.0 h.1.1 le
+  right_evaluate line (constant own s k) h le = right_dropped (constant own s k) h.1.0 h.1.1 le
+  right_evaluate line (null own) h le = right_dropped (null own) h.1.0 h.1.1 le
+  right_evaluate line (string own k) h le = right_dropped (string own k) h.1.0 h.1.1 le
+  right_evaluate line (local own x) h le = right_dropped (local own x) h.1.0 h.1.1 le
+  right_evaluate line (read own place) h le = right_dropped (read own place) h.1.0 h.1.1 le
+  right_evaluate line (address own k) h le = right_dropped (address own k) h.1.0 h.1.1 le
+  right_evaluate line (step own d p i) h le = right_dropped (step own d p i) h.1.0 h.1.1 le
+  right_evaluate line (step_from own i p) h le = right_dropped (step_from own i p) h.1.0 h.1.1 le
+  right_evaluate line (unary own o s a) h le = right_dropped (unary own o s a) h.1.0 h.1.1 le
+  right_evaluate line (binary own o s a b) h le = right_dropped (binary own o s a b) h.1.0 h.1.1 le
+  right_evaluate line (convert own from to a) h le = right_dropped (convert own from to a) h.1.0 h.1.1 le
+  right_evaluate line (not_zero own a) h le = right_dropped (not_zero own a) h.1.0 h.1.1 le
+  right_evaluate line (and own a b) h le = right_dropped (and own a b) h.1.0 h.1.1 le
+  right_evaluate line (or own a b) h le = right_dropped (or own a b) h.1.0 h.1.1 le
+  right_evaluate line (choose own c a b) h le = right_dropped (choose own c a b) h.1.0 h.1.1 le
+  right_evaluate line (is_null own is a) h le = right_dropped (is_null own is a) h.1.0 h.1.1 le
+  right_evaluate line (same own is a b) h le = right_dropped (same own is a b) h.1.0 h.1.1 le
+  right_evaluate line (new_region own) h le = right_dropped (new_region own) h.1.0 h.1.1 le
+  right_evaluate line (new_subregion own a) h le = right_dropped (new_subregion own a) h.1.0 h.1.1 le
+  right_evaluate line (region_of own a) h le = right_dropped (region_of own a) h.1.0 h.1.1 le
+  right_evaluate line (allocate own a made) h le = right_dropped (allocate own a made) h.1.0 h.1.1 le
+  right_evaluate line (allocate_array own a b made) h le = right_dropped (allocate_array own a b made) h.1.0 h.1.1 le
+  right_evaluate line (putchar own a) h le = right_dropped (putchar own a) h.1.0 h.1.1 le
+  right_evaluate line (getchar own) h le = right_dropped (getchar own) h.1.0 h.1.1 le
+
+  abbrev Head : Steps → Option Test → Type 0
+  Head x None = x ≡ To.none
+  Head x (Some test) = RightSteps r fr n x nowhere × RightTest r fr n test (written_by_all x nowhere)
+
+  right_tested : (e : Expr) (u : Ty) → HasType program locals e u → (test : Test) → test.ty ≡ found e → steps_temporaries (whole program locals e) ≤ n → Head (whole program locals e) (Some test)
+  right_tested e u he test alike le =
+      let q = right_expression e u he (found e) 0 (kind_found program locals e u he) (found_whole e u he) le nowhere in
+      (q.steps, (subst Whole (sym alike) (found_whole e u he), (λ b. q.after.new (ap is_regional (sym alike) ∙ b))))
+
+  right_whole : (line : ℕ) (wanted : Bool) (e : Expr) (u : Ty) → HasType program locals e u → steps_temporaries (whole program locals e) ≤ n → Head (whole program locals e) (Some (record { line = line; ty = found e; wanted = wanted }))
+  right_whole line wanted e u he le = right_tested e u he (record { line = line; ty = found e; wanted = wanted }) refl le
+
+  number_there : (e : Expr) (k : NumberType) → HasType program locals e (number k) → NotNull e
+  number_there e Int he = number_not_null program locals e Signed _ refl he
+  number_there e Unsigned he = number_not_null program locals e Wrapping _ refl he
+  number_there e Char he = char_not_null program locals e he
+
+  right_condition : (line : ℕ) (wanted : Bool) (e : Expr) → IsValue program locals e → steps_temporaries (condition_code program locals e) ≤ n → Head (condition_code program locals e) (Some (condition_test program locals line wanted e))
+  right_condition line wanted (not_zero own e) v le = right_condition line (not wanted) e (number_there e v.1.1.1.0 v.1.1.1.1, (number v.1.1.1.0, v.1.1.1.1)) le
+  right_condition line wanted (is_null own isnull e) v le = right_tested e v.1.1.2.0 v.1.1.2.1.1 (condition_test program locals line wanted (is_null own isnull e)) refl le
+  right_condition line wanted (constant own s k) v le = right_whole line wanted (constant own s k) v.1.0 v.1.1 le
+  right_condition line wanted (null own) v le = right_whole line wanted (null own) v.1.0 v.1.1 le
+  right_condition line wanted (string own k) v le = right_whole line wanted (string own k) v.1.0 v.1.1 le
+  right_condition line wanted (local own x) v le = right_whole line wanted (local own x) v.1.0 v.1.1 le
+  right_condition line wanted (read own place) v le = right_whole line wanted (read own place) v.1.0 v.1.1 le
+  right_condition line wanted (address own k) v le = right_whole line wanted (address own k) v.1.0 v.1.1 le
+  right_condition line wanted (step own d p i) v le = right_whole line wanted (step own d p i) v.1.0 v.1.1 le
+  right_condition line wanted (step_from own i p) v le = right_whole line wanted (step_from own i p) v.1.0 v.1.1 le
+  right_condition line wanted (unary own o s a) v le = right_whole line wanted (unary own o s a) v.1.0 v.1.1 le
+  right_condition line wanted (binary own o s a b) v le = right_whole line wanted (binary own o s a b) v.1.0 v.1.1 le
+  right_condition line wanted (convert own from to a) v le = right_whole line wanted (convert own from to a) v.1.0 v.1.1 le
+  right_condition line wanted (and own a b) v le = right_whole line wanted (and own a b) v.1.0 v.1.1 le
+  right_condition line wanted (or own a b) v le = right_whole line wanted (or own a b) v.1.0 v.1.1 le
+  right_condition line wanted (choose own c a b) v le = right_whole line wanted (choose own c a b) v.1.0 v.1.1 le
+  right_condition line wanted (same own is a b) v le = right_whole line wanted (same own is a b) v.1.0 v.1.1 le
+  right_condition line wanted (new_region own) v le = right_whole line wanted (new_region own) v.1.0 v.1.1 le
+  right_condition line wanted (new_subregion own a) v le = right_whole line wanted (new_subregion own a) v.1.0 v.1.1 le
+  right_condition line wanted (region_of own a) v le = right_whole line wanted (region_of own a) v.1.0 v.1.1 le
+  right_condition line wanted (allocate own a made) v le = right_whole line wanted (allocate own a made) v.1.0 v.1.1 le
+  right_condition line wanted (allocate_array own a b made) v le = right_whole line wanted (allocate_array own a b made) v.1.0 v.1.1 le
+  right_condition line wanted (putchar own a) v le = right_whole line wanted (putchar own a) v.1.0 v.1.1 le
+  right_condition line wanted (getchar own) v le = right_whole line wanted (getchar own) v.1.0 v.1.1 le
+  right_condition line wanted (call own k es) v le = right_whole line wanted (call own k es) v.1.0 v.1.1 le
+
+  right_loop : (line : ℕ) (x : Steps) (test : Option Test) (third a : To.Code) → Head x test → CodeIs third → CodeIs a → CodeIs (To.loop line x test third a)
+  right_loop line x None third a h r3 ra = (h, r3, ra)
+  right_loop line x (Some test) third a h r3 ra = (h.0, h.1, r3, ra)
+
+  right_optional : (line : ℕ) (test : Option Expr) → IfSome test (IsValue program locals) → steps_temporaries (optional_condition program locals test) ≤ n → Head (optional_condition program locals test) (option_map (condition_test program locals line true) test)
+  right_optional line None v le = refl
+  right_optional line (Some e) v le = right_condition line true e v le
+
+  right_returned : (line : ℕ) (e : Expr) (rt : Ty) → f.result ≡ Some rt → HasType program locals e (value_type rt) → code_temporaries (To.simple (code e (returned_type f.result) 0) (To.leave line (option_map value_type f.result))) ≤ n → CodeIs (To.simple (code e (returned_type f.result) 0) (To.leave line (option_map value_type f.result)))
+  right_returned line e rt er he le =
+      subst (λ ty. steps_temporaries (code e ty 0) ≤ n → CodeIs (To.simple (code e ty 0) (To.leave line (option_map value_type f.result)))) (sym (ap returned_type er))
+      (λ le1.
+      right_simple (code e (value_type rt) 0) (To.leave line (option_map value_type f.result)) (Has n (value_type rt) 0 nowhere) (right_expression e (value_type rt) he (value_type rt) 0 refl (typed_whole e (value_type rt) he) le1 nowhere) (λ w1 p. (
+        (λ ty q reg. (value_type ty, ap (option_map value_type) q, regional_value ty ∙ reg)),
+        (λ ty q. let alike : value_type rt ≡ ty = some_same (sym (ap (option_map value_type) er) ∙ q) in (subst Whole alike (typed_whole e (value_type rt) he), p.below, (λ b. p.new (ap is_regional alike ∙ b)))),
+      )))
+      (max_parts (steps_temporaries (code e (returned_type f.result) 0)) 0 n le).0
+    where
+      some_same : {t u : Ty} → Some t ≡ Some u → t ≡ u
+      some_same e = cc
+
+  mutual
+    right_statement : (loop : Bool) (s : Stmt) → IsTyped program f loop s → code_temporaries (statement_code program f s) ≤ n → CodeIs (statement_code program f s)
+    right_statement loop (block body) h le = right_statements loop body h le
+    right_statement loop (declare line x None) h le =
+        let alike = get_or_from_slice_get locals x h.0 int h.1.0 in
+        subst (λ ty. CodeIs (To.clear line x ty)) (sym alike) (local_whole x h.0 h.1.0, mapped_at locals x h.0 h.1.0)
+    right_statement loop (declare line x (Some e)) h le = right_assign line x h.0 (local_type f x) e h.1.0 (get_or_from_slice_get locals x h.0 int h.1.0) h.1.1 le
+    right_statement loop (assign line x e) h le = right_assign line x h.0 (local_type f x) e h.1.0 (get_or_from_slice_get locals x h.0 int h.1.0) h.1.1 le
+    right_statement loop (store line place e) h le = right_store line place h.0 h.1.0 h.1.1 e h.1.2 le
+    right_statement loop (update line place change e) h le = right_update line place h.0 h.1.0 change e h.1.1 le
+    right_statement loop (copy line s left right) h le = right_copy line s left right h.0 h.1 le
+    right_statement loop (evaluate line e) h le = right_evaluate line e h le
+    right_statement loop (delete line e) h le =
+        right_simple (code e region 0) (To.delete line) (Has n region 0 nowhere) (right_expression e region h region 0 refl refl (max_parts (steps_temporaries (code e region 0)) 0 n le).0 nowhere) (λ w1 p. (p.below, p.new refl))
+    right_statement loop (branch line test a b) h le =
+        let x = condition_code program locals test in
+        let parts = max_parts (steps_temporaries x) (max (code_temporaries (statement_code program f a)) (code_temporaries (statement_code program f b))) n le in
+        let arms = max_parts (code_temporaries (statement_code program f a)) (code_temporaries (statement_code program f b)) n parts.1 in
+        let q = right_condition line true test h.0 parts.0 in
+        (q.0, q.1, right_statement loop a h.1 arms.0, right_statement loop b h.2 arms.1)
+    right_statement loop (while line test a) h le =
+        let x = condition_code program locals test in
+        let parts = max_parts (steps_temporaries x) (max (code_temporaries (statement_code program f a)) 0) n le in
+        let arms = max_parts (code_temporaries (statement_code program f a)) 0 n parts.1 in
+        let q = right_condition line true test h.0 parts.0 in
+        (q.0, q.1, tt, right_statement true a h.1 arms.0)
+    right_statement loop (repeat line a test) h le =
+        let x = condition_code program locals test in
+        let parts = max_parts (code_temporaries (statement_code program f a)) (steps_temporaries x) n le in
+        let q = right_condition line true test h.1 parts.1 in
+        (q.0, q.1, right_statement true a h.0 parts.0)
+    right_statement loop (for line first test third a) h le =
+        let x = optional_condition program locals test in
+        let ct = option_map (condition_test program locals line true) test in
+        let c3 = statement_code program f third in
+        let ca = statement_code program f a in
+        let p = max_parts (code_temporaries (statement_code program f first)) (max (code_temporaries (To.loop line x ct c3 ca)) 0) n le in
+        let q = max_parts (code_temporaries (To.loop line x ct c3 ca)) 0 n p.1 in
+        let s = max_parts (steps_temporaries x) (max (code_temporaries ca) (code_temporaries c3)) n q.0 in
+        let u = max_parts (code_temporaries ca) (code_temporaries c3) n s.1 in
+        (right_statement loop first h.0 p.0, (right_loop line x ct c3 ca (right_optional line test h.1 s.0) (right_statement loop third h.2 u.1) (right_statement true a h.3 u.0), tt))
+    right_statement loop (break line) h le = tt
+    right_statement loop (continue line) h le = tt
+    right_statement loop (return line None) h le = (tt, ((λ ty q reg. let none_some : None ≡ Some ty = sym h ∙ q in cc), (λ ty q. cc)))
+    right_statement loop (return line (Some e)) h le = right_returned line e h.0 h.1.0 h.1.1 le
+
+    right_statements : (loop : Bool) (body : Stmts) → AreTyped program f loop body → codes_temporaries (body_code program f body) ≤ n → RightCodes r fr n (body_code program f body)
+    right_statements loop done h le = tt
+    right_statements loop (then s rest) h le =
+        let p = max_parts (code_temporaries (statement_code program f s)) (codes_temporaries (body_code program f rest)) n le in
+        (right_statement loop s h.0 p.0, right_statements loop rest h.1 p.1)
+
+  pub right_routine : routine_temporaries fr ≤ n → RightRoutine r fr n
+  right_routine le =
+      let p = max_parts (code_temporaries (statement_code program f f.body)) (end_temporaries f.result) n le in
+      record {
+        parameters = (well.functions g f there).parameters;
+        body = right_statement false f.body (well.functions g f there).body p.0;
+        result = λ ty e. (returned_whole f.result ty (well.functions g f there).result e, at_least f.result ty e p.1);
+      }
+    where
+      returned_whole : (o : Option Ty) (ty : Ty) → IfSome o (IsVariable program.structs) → o ≡ Some ty → Whole ty
+      returned_whole None ty v e = cc
+      returned_whole (Some u) ty v e = let q : u ≡ ty = cc in subst Whole q (whole_type u v.1)
+
+      at_least : (o : Option Ty) (ty : Ty) → o ≡ Some ty → end_temporaries o ≤ n → 0 < n
+      at_least None ty e le = cc
+      at_least (Some u) ty e le = le
+
+-- of a whole program
+pub all_right : (program : Program) → IsWellTyped program → AllRight (region_of_program program) (temporaries_of (region_of_program program))
+all_right program well k fk e = by (slice_get program.functions k) refl
+  where
+    r : Rlang
+    r = region_of_program program
+
+    by : (o : Option Function) → slice_get program.functions k ≡ o → RightRoutine r fk (temporaries_of r k)
+    by None q = absurd (none_some (sym (slice_get-map (routine_of program) program.functions k ∙ ap (option_map (routine_of program)) q) ∙ e))
+      where
+        none_some : None ≡ Some fk → ⊥
+        none_some e = cc
+    by (Some f) q =
+        let at : slice_get r.functions k ≡ Some (routine_of program f) = slice_get-map (routine_of program) program.functions k ∙ ap (option_map (routine_of program)) q in
+        let alike : routine_of program f ≡ fk = some_same (sym at ∙ e) in
+        subst (λ m. RightRoutine r fk m) (sym (ap temporaries_in e))
+        (subst (λ fx. RightRoutine r fx (routine_temporaries fx)) alike (right_routine program well k f q (routine_temporaries (routine_of program f)) (omega arith)))
+      where
+        some_same : {x y : Routine} → Some x ≡ Some y → x ≡ y
+        some_same e = cc

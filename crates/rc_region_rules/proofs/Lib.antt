@@ -1,0 +1,5 @@
+pub mod Kinding
+pub mod AccessPlaces
+pub mod Standing
+pub mod VariablesCounted
+pub mod Theorem

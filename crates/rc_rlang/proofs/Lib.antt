@@ -1,0 +1,4 @@
+pub mod Searching
+pub mod KindLaws
+pub mod CodeRows
+pub mod ShapeRows

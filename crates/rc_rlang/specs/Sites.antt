@@ -1,0 +1,71 @@
+-- The sites of region code: its stores to cells whose types are annotated, each of which may have to check what it stores. A store and an
+-- update have one where their cell is annotated, and a struct copy one for each annotated cell, in the order of the cells. They are
+-- numbered from 0 in the order of the text, a program's through its functions, one after another. A site stands at the point that stores:
+-- an update's last one, and the second of the two that each cell of a copy has.
+use Rattle.std.specs.Prelude.{ℕ, suc, ◌+◌, List, [], ◌∷◌, ◌++◌, length}
+use Rattle.rc_core.specs.declared.ty.Note.{Note}
+use Rattle.rc_core.specs.declared.ty.Note.TheVariants.{Plain, SameRegion, ParentPtr, Traditional}
+use Rattle.rc_core.specs.declared.stmt.Change.{Change}
+use Rattle.rc_core.specs.declared.stmt.Change.TheVariants.{Compute, Step as Stepping}
+use Rattle.rc_core.specs.Layout.{Layout, note_of}
+use Rattle.rc_core.specs.Arithmetic.{type_of}
+use Rattle.rc_rlang.specs.Points.{conversion_points}
+use Rattle.rc_rlang.specs.RegionCode.{Act, store, update, move, Code, simple, clear, block, branch, loop, repeat, break, continue, Codes, done, then, Routine, Rlang}
+use Rattle.rc_rlang.specs.RegionFlow.{note_in}
+use Rattle.rc_rlang.specs.RegionPoints.{steps_points, branch_points, code_points, routine_points}
+
+pub record Site : Type 0 where
+  pub point : ℕ
+  pub line : ℕ
+  pub note : Note
+
+-- of one store to a cell with this annotation
+abbrev pub store_sites : Note → (line point : ℕ) → List Site
+store_sites Plain line point = []
+store_sites SameRegion line point = record { point = point; line = line; note = SameRegion } ∷ []
+store_sites ParentPtr line point = record { point = point; line = line; note = ParentPtr } ∷ []
+store_sites Traditional line point = record { point = point; line = line; note = Traditional } ∷ []
+
+-- the points of an update that stand before its last
+abbrev pub before_store : Change → ℕ
+before_store (Compute from operator s) = 2 + conversion_points from (type_of s) + conversion_points (type_of s) from
+before_store (Stepping direction) = 2
+
+abbrev pub cells_sites : Layout → (line here : ℕ) → List Site
+cells_sites [] line here = []
+cells_sites (kind ∷ kinds) line here = store_sites (note_of kind) line (suc here) ++ cells_sites kinds line (suc (suc here))
+
+abbrev pub act_sites : Act → (here : ℕ) → List Site
+act_sites (store line a) here = store_sites (note_in a.cell) line here
+act_sites (update line a change ty) here = store_sites (note_in a.cell) line (here + before_store change)
+act_sites (move line cells left right) here = cells_sites cells line here
+act_sites act here = []
+
+abbrev mutual
+  pub code_sites : Code → (here : ℕ) → List Site
+  code_sites (simple steps act) here = act_sites act (here + steps_points steps)
+  code_sites (clear line x ty) here = []
+  code_sites (block codes) here = codes_sites codes here
+  code_sites (branch steps test a b) here =
+      let at_a = suc (here + steps_points steps) in
+      code_sites a at_a ++ code_sites b (at_a + code_points a)
+  code_sites (loop line steps test third body) here =
+      let at_body = suc here + steps_points steps + branch_points test in
+      code_sites body at_body ++ code_sites third (at_body + code_points body)
+  code_sites (repeat line body steps test) here = code_sites body (suc here)
+  code_sites (break line) here = []
+  code_sites (continue line) here = []
+
+  pub codes_sites : Codes → (here : ℕ) → List Site
+  codes_sites done here = []
+  codes_sites (then c rest) here = code_sites c here ++ codes_sites rest (here + code_points c)
+
+abbrev pub functions_sites : List Routine → (here : ℕ) → List Site
+functions_sites [] here = []
+functions_sites (f ∷ fs) here = code_sites f.body (suc here) ++ functions_sites fs (here + routine_points f)
+
+abbrev pub sites : Rlang → List Site
+sites r = functions_sites r.functions 0
+
+abbrev pub site_count : Rlang → ℕ
+site_count r = length (sites r)
