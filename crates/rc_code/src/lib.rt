@@ -8,11 +8,16 @@ mod instruction;
 mod items;
 mod kind;
 mod laws;
+mod loaded;
 mod opcode;
 
 pub use image::{Function, Global, Image, Index, Initial, Parts, Path};
 pub use instruction::Instruction;
 pub use items::Items;
 pub use kind::{Cell, Storage};
-pub use laws::{numbers_are_those_of_the_table, tags_are_those_of_cells, tags_are_those_of_locals};
-pub use opcode::{Arithmetic, Jump, Opcode, Simple, Typed};
+pub use laws::{
+    numbers_are_those_of_the_table, operands_are_those_of_the_table, tags_are_those_of_cells,
+    tags_are_those_of_locals,
+};
+pub use loaded::Loaded;
+pub use opcode::{Arithmetic, Jump, Opcode, Operand, Simple, Typed};

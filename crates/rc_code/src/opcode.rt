@@ -1,6 +1,6 @@
 // The table of instructions, without their operands: numbers and names.
 ghost use Rattle.std.specs.Prelude.{◌≡◌};
-ghost use Rattle.rc_code.specs.Table.{arithmetic_number, typed_number, jump_number, simple_number, number_of, arithmetic_name, typed_name, jump_name, simple_name, name_of, opcodes, numbered};
+ghost use Rattle.rc_code.specs.Table.{arithmetic_number, typed_number, jump_number, simple_number, number_of, arithmetic_name, typed_name, jump_name, simple_name, name_of, opcodes, numbered, operands_named};
 
 use rc_core::ty::Signedness;
 
@@ -96,6 +96,33 @@ pub enum Simple {
     GetChar,
     /// `POP`. Takes an operand of any kind.
     Pop,
+}
+
+/// What an operand is. Each is one number, but for pins.
+#[derive(Clone, Copy, Debug, PartialEq, Eq)]
+pub enum Operand {
+    /// A value modulo 2^32. That of `INT` is signed.
+    Value,
+    /// The number of a global.
+    Global,
+    /// The number of a local.
+    Local,
+    /// The number of a path.
+    Path,
+    /// The number of a type.
+    Type,
+    /// The kind of numbers: 0 for `int` and 1 for `unsigned`.
+    Kind,
+    /// 0 for forwards and 1 for backwards.
+    Direction,
+    /// 1 where the check of the annotation is left out, else 0.
+    Mark,
+    /// The number of a function.
+    Function,
+    /// The number of an instruction of the function.
+    Target,
+    /// How many locals are pinned, and the number of each.
+    Pins,
 }
 
 /// An instruction without its operands: a row of the table.
@@ -379,6 +406,26 @@ impl Opcode {
             Opcode::Typed(typed) => typed.name(),
             Opcode::Simple(simple) => simple.name(),
             Opcode::Jump(jump) => jump.name(),
+        }
+    }
+
+    /// What its operands are, in their order.
+    pub fn operands(self) -> &'static [Operand]
+        ensures { result.now ≡ operands_named self }
+    {
+        match self {
+            Opcode::Constant(_) => &[Operand::Value],
+            Opcode::Global => &[Operand::Global],
+            Opcode::Get | Opcode::Set => &[Operand::Local],
+            Opcode::Load => &[Operand::Path],
+            Opcode::Typed(_) => &[Operand::Type],
+            Opcode::Arithmetic(_) => &[Operand::Kind],
+            Opcode::Move => &[Operand::Type, Operand::Kind, Operand::Direction],
+            Opcode::Store => &[Operand::Path, Operand::Mark],
+            Opcode::Simple(_) => &[],
+            Opcode::Delete => &[Operand::Pins],
+            Opcode::Call => &[Operand::Function, Operand::Pins],
+            Opcode::Jump(_) => &[Operand::Target],
         }
     }
 

@@ -1,10 +1,14 @@
 -- An image as it is written: it keeps what a run needs, its first world is good, and its store names types as it does.
-use Rattle.std.proofs.Common.{◌≡◌, ℕ, zero, suc, ◌+◌, ◌<◌, ◌≤◌, ℤ, pos, Bool, true, false, List, [], ◌∷◌, length, map, drop, replicate, flat_map, get_or, slice_get, Some, refl, sym, ap, ◌∙◌, subst, arith}
+use Rattle.std.proofs.Common.{◌≡◌, ℕ, zero, suc, ◌+◌, ◌<◌, ◌≤◌, pos, Bool, true, false, List, [], ◌∷◌, length, map, drop, replicate, flat_map, get_or, slice_get, Some, refl, sym, ap, ◌∙◌, subst, arith, Option}
 use Rattle.std.specs.List.{AllByRecursion as Every, AllZip, list_all}
 use Rattle.rc_base.specs.declared.ends.Limits.{Limits}
 use Rattle.rc_core.specs.declared.ty.NumberType.TheVariants as numbers
+use Rattle.rc_core.specs.declared.ty.NumberType.TheVariants.{Int}
 use Rattle.rc_core.specs.Types.{CellKind, int_cell, unsigned_cell, char_cell, region_cell, pointer_cell}
 use Rattle.rc_core.specs.Layout.{Layout, note_of}
+use Rattle.rc_core.specs.Numbers.{IsByte}
+use Rattle.rc_core.specs.Arithmetic.{as_int}
+use Rattle.rc_kinds.proofs.InRange.{is_less, byte_fits, converted_fits}
 use Rattle.rc_core.specs.Heap.{kinds_of, Value, Number, Object, Heap, blank, live, parent}
 use Rattle.rc_core.specs.Source.{chosen_in_range, cells_chosen}
 use Rattle.rc_safety.specs.Soundness.{CellIsSound, ObjectIsSound, EachIsSound, HeapIsSound}
@@ -22,11 +26,11 @@ use Rattle.rc_code.specs.Running.{pointee, Reading, reading_of, layout_of, cell_
 use Rattle.rc_code.specs.Soundness.{ReadingIsSound}
 use Rattle.rc_code.specs.ImageMeaning.{first_values, global_object, first_objects, first_held}
 use Rattle.rc_worlds.specs.Worlds.{Compared, named_cell, renamed, model}
-use Rattle.rc_worlds.specs.Typed.{layout_in, Stored, HeapIsTyped, IsSoundBy, Good}
+use Rattle.rc_worlds.specs.Typed.{Shape, shape_in, Stored, HeapIsTyped, IsSoundBy, Good}
 use Rattle.rc_worlds.specs.Facts.{PathIsSound, ImageIsSound}
-use Rattle.rc_worlds.specs.Meanings.{image_world, looking}
+use Rattle.rc_worlds.specs.Meanings.{image_world, AreBytes, GlobalsHaveBytes}
 use Rattle.rc_worlds.proofs.Typed.{blank_is_typed}
-use Rattle.rc_worlds.proofs.Layouts.{own}
+use Rattle.rc_worlds.specs.Worlds.{own}
 use Rattle.rc_worlds.proofs.Places.{inside_span, is_reached_there, alike_there}
 
 every_at : {A : Type 0} (P : A → Type 0) (xs : List A) (n : ℕ) (none : A) → Every P xs → n < length xs → P (get_or xs n none)
@@ -110,48 +114,51 @@ module _ (parts : Parts) (fields : FieldsFit parts) where
 -- ---- the first world
 
 -- where each number may stand in a number cell, and a blank object is in order, each global is
-module _ (R : CellKind → Value → Type 0) (ints : (n : ℤ) → R int_cell (Number n)) (unsigneds : (n : ℤ) → R unsigned_cell (Number n)) (chars : (n : ℤ) → R char_cell (Number n))
-    (blanks : (layout : Layout) (count : ℕ) → AllZip R (kinds_of (blank layout count)) (blank layout count).values) where
+module _ (R : CellKind → Value → Type 0) (ranged : Bool) (ints : (n : ℕ) → R int_cell (Number (as_int (pos n)))) (unsigneds : (n : ℕ) → n < 4294967296 → R unsigned_cell (Number (pos n)))
+    (chars : (n : ℕ) → (ranged ≡ true → n < 256) → R char_cell (Number (pos n))) (blanks : (layout : Layout) (count : ℕ) → AllZip R (kinds_of (blank layout count)) (blank layout count).values) where
   abbrev Holds : Layout → ℕ → List Value → Type 0
   Holds layout count values = AllZip R (flat_map (λ (l : Layout). l) (replicate count layout)) values
 
   number_holds : (cells : List Cell) (n : ℕ) → n < bound_of cells → Holds (layout_of cells) 1 (first_values (layout_of cells) (initial.Number n) [])
   number_holds [] n below = absurd (omega (arith, below))
-  number_holds (cell.Number numbers.Int ∷ []) n below = (ints _, tt)
-  number_holds (cell.Number numbers.Unsigned ∷ []) n below = (unsigneds _, tt)
-  number_holds (cell.Number numbers.Char ∷ []) n below = (chars _, tt)
+  number_holds (cell.Number numbers.Int ∷ []) n below = (ints n, tt)
+  number_holds (cell.Number numbers.Unsigned ∷ []) n below = (unsigneds n below, tt)
+  number_holds (cell.Number numbers.Char ∷ []) n below = (chars n (λ _. below), tt)
   number_holds (cell.Region ∷ []) n below = absurd (omega (arith, below))
   number_holds (cell.Pointer note type ∷ []) n below = absurd (omega (arith, below))
   number_holds (c ∷ d ∷ cells) n below = absurd (omega (arith, below))
 
-  bytes_hold : (cells : List Cell) (bytes : List ℕ) → bound_of cells ≡ 256 → Holds (layout_of cells) (length bytes) (map (λ b. Number (pos b)) bytes)
-  bytes_hold [] bytes e = absurd (omega (arith, e))
-  bytes_hold (cell.Number numbers.Int ∷ []) bytes e = absurd (omega (arith, e))
-  bytes_hold (cell.Number numbers.Unsigned ∷ []) bytes e = absurd (omega (arith, e))
-  bytes_hold (cell.Number numbers.Char ∷ []) [] e = tt
-  bytes_hold (cell.Number numbers.Char ∷ []) (b ∷ bytes) e = (chars _, bytes_hold (cell.Number numbers.Char ∷ []) bytes e)
-  bytes_hold (cell.Region ∷ []) bytes e = absurd (omega (arith, e))
-  bytes_hold (cell.Pointer note type ∷ []) bytes e = absurd (omega (arith, e))
-  bytes_hold (c ∷ d ∷ cells) bytes e = absurd (omega (arith, e))
+  bytes_hold : (cells : List Cell) (bytes : List ℕ) → bound_of cells ≡ 256 → (ranged ≡ true → Every IsByte bytes) → Holds (layout_of cells) (length bytes) (map (λ b. Number (pos b)) bytes)
+  bytes_hold [] bytes e all = absurd (omega (arith, e))
+  bytes_hold (cell.Number numbers.Int ∷ []) bytes e all = absurd (omega (arith, e))
+  bytes_hold (cell.Number numbers.Unsigned ∷ []) bytes e all = absurd (omega (arith, e))
+  bytes_hold (cell.Number numbers.Char ∷ []) [] e all = tt
+  bytes_hold (cell.Number numbers.Char ∷ []) (b ∷ bytes) e all = (chars b (λ r. (all r).0), bytes_hold (cell.Number numbers.Char ∷ []) bytes e (λ r. (all r).1))
+  bytes_hold (cell.Region ∷ []) bytes e all = absurd (omega (arith, e))
+  bytes_hold (cell.Pointer note type ∷ []) bytes e all = absurd (omega (arith, e))
+  bytes_hold (c ∷ d ∷ cells) bytes e all = absurd (omega (arith, e))
 
-  first_holds : (cells : List Cell) (count : ℕ) (first : Initial) → InitialFits cells count first → Holds (layout_of cells) count (first_values (layout_of cells) first (blank (layout_of cells) count).values)
-  first_holds cells count initial.Zeros fits = blanks (layout_of cells) count
-  first_holds cells count (initial.Number n) fits = subst (λ k. Holds (layout_of cells) k (first_values (layout_of cells) (initial.Number n) [])) (sym fits.0) (number_holds cells n fits.1)
-  first_holds cells count (initial.Bytes bytes) fits = subst (λ k. Holds (layout_of cells) k (map (λ b. Number (pos b)) bytes)) fits.1 (bytes_hold cells bytes fits.0)
+  first_holds : (cells : List Cell) (count : ℕ) (first : Initial) → InitialFits cells count first → (ranged ≡ true → AreBytes first) → Holds (layout_of cells) count (first_values (layout_of cells) first (blank (layout_of cells) count).values)
+  first_holds cells count initial.Zeros fits all = blanks (layout_of cells) count
+  first_holds cells count (initial.Number n) fits all = subst (λ k. Holds (layout_of cells) k (first_values (layout_of cells) (initial.Number n) [])) (sym fits.0) (number_holds cells n fits.1)
+  first_holds cells count (initial.Bytes bytes) fits all = subst (λ k. Holds (layout_of cells) k (map (λ b. Number (pos b)) bytes)) fits.1 (bytes_hold cells bytes fits.0 all)
 
-  global_holds : (parts : Parts) (g : Global) → GlobalFits parts.types g → AllZip R (kinds_of (global_object (reading_of parts) g)) (global_object (reading_of parts) g).values
-  global_holds parts g fits =
+  global_holds : (parts : Parts) (g : Global) → GlobalFits parts.types g → (ranged ≡ true → AreBytes g.initial) → AllZip R (kinds_of (global_object (reading_of parts) g)) (global_object (reading_of parts) g).values
+  global_holds parts g fits bytes =
       subst (λ (l : Layout). Holds l g.elements (first_values l g.initial (blank l g.elements).values)) (sym (layout_is_written parts g.type_number))
-      (first_holds (cells_at parts.types g.type_number) g.elements g.initial fits.initial)
+      (first_holds (cells_at parts.types g.type_number) g.elements g.initial fits.initial bytes)
 
-  globals_hold : (parts : Parts) (gs : List Global) → Every (GlobalFits parts.types) gs → Every (λ (o : Object). AllZip R (kinds_of o) o.values) (map (global_object (reading_of parts)) gs)
-  globals_hold parts [] all = tt
-  globals_hold parts (g ∷ gs) all = (global_holds parts g all.0, globals_hold parts gs all.1)
+  globals_hold : (parts : Parts) (gs : List Global) → Every (GlobalFits parts.types) gs → (ranged ≡ true → Every (λ (g : Global). AreBytes g.initial) gs) → Every (λ (o : Object). AllZip R (kinds_of o) o.values) (map (global_object (reading_of parts)) gs)
+  globals_hold parts [] all bytes = tt
+  globals_hold parts (g ∷ gs) all bytes = (global_holds parts g all.0 (λ e. (bytes e).0), globals_hold parts gs all.1 (λ e. (bytes e).1))
 
-globals_there : (code : Reading) (gs : List Global) (n : ℕ) (g : Global) → slice_get gs n ≡ Some g → layout_in (slice_get (map (global_object code) gs) n) ≡ Some (layout_at code g.type_number)
+globals_there : (code : Reading) (gs : List Global) (n : ℕ) (g : Global) → slice_get gs n ≡ Some g → shape_in (slice_get (map (global_object code) gs) n) ≡ Some (record { layout = layout_at code g.type_number; count = g.elements })
 globals_there code [] zero g e = cc
 globals_there code [] (suc n) g e = cc
-globals_there code (x ∷ gs) zero g e = let same : x ≡ g = cc in ap (λ (g : Global). Some (layout_at code g.type_number)) same
+globals_there code (x ∷ gs) zero g e = let same : x ≡ g = cc in ap of_global same
+  where
+    of_global : Global → Option Shape
+    of_global g = Some (record { layout = layout_at code g.type_number; count = g.elements })
 globals_there code (x ∷ gs) (suc n) g e = globals_there code gs n g e
 
 module _ (parts : Parts) (fields : FieldsFit parts) (input : List ℕ) (limits : Limits) where
@@ -159,8 +166,8 @@ module _ (parts : Parts) (fields : FieldsFit parts) (input : List ℕ) (limits :
   heap = (image_world (reading_of parts) input limits).heap
 
   sound_objects : (lives : ℕ → Bool) (parents : ℕ → ℕ) → Every (ObjectIsSound lives parents 0) (first_objects (reading_of parts))
-  sound_objects lives parents = globals_hold (CellIsSound lives parents 0) (λ n. record { fresh = refl; fit = refl }) (λ n. record { fresh = refl; fit = refl }) (λ n. record { fresh = refl; fit = refl })
-      (blank_object_is_sound lives parents 0) parts parts.globals fields.globals
+  sound_objects lives parents = globals_hold (CellIsSound lives parents 0) false (λ n. record { fresh = refl; fit = refl }) (λ n below. record { fresh = refl; fit = refl }) (λ n byte. record { fresh = refl; fit = refl })
+      (blank_object_is_sound lives parents 0) parts parts.globals fields.globals (λ e. cc)
 
   heap_is_sound : HeapIsSound heap
   heap_is_sound = record { root = refl; regions = each }
@@ -169,15 +176,31 @@ module _ (parts : Parts) (fields : FieldsFit parts) (input : List ℕ) (limits :
       each zero l = record { parent_lives = refl; made_later = λ e. cc; objects = sound_objects (live heap) (parent heap) }
       each (suc r) l = cc
 
-  heap_is_typed : HeapIsTyped (reading_of parts) heap
-  heap_is_typed = record { regions = (globals_hold (Stored (reading_of parts) heap) (λ n. record { suits = tt }) (λ n. record { suits = tt }) (λ n. record { suits = tt }) (blank_is_typed (looking true parts) heap) parts parts.globals fields.globals, tt) }
+  heap_is_typed : (image : Compared) → image.code ≡ reading_of parts → (image.ranged ≡ true → GlobalsHaveBytes parts) → HeapIsTyped image heap
+  heap_is_typed image is bytes = record {
+    regions = (
+      globals_hold (Stored image heap) image.ranged
+          (λ n. record { kind = record { suits = λ _. converted_fits Int (pos n) }; narrow = tt })
+          (λ n below. record { kind = record { suits = λ _. is_less n 4294967296 below }; narrow = tt })
+          (λ n byte. record { kind = record { suits = λ e. byte_fits n (byte e) }; narrow = λ e. is_less n 256 (byte e) })
+          (blank_is_typed image heap) parts parts.globals fields.globals bytes,
+      tt,
+    );
+  }
 
   by_watching : (b : Bool) → IsSoundBy b heap
   by_watching true = heap_is_sound
   by_watching false = record { root = refl; parents = parent_is_live heap heap_is_sound }
 
-  pub begins_good : (marked : Bool) (watching : Bool) → Good (record { code = reading_of parts; marked = marked; name = λ ty. ty; watching = watching }) (image_world (reading_of parts) input limits)
-  begins_good marked watching = record { sound = by_watching watching; typed = heap_is_typed; globals = λ g global e. globals_there (reading_of parts) parts.globals g global e; waiting = tt }
+  pub begins_good : (marked watching ranged : Bool) → (ranged ≡ true → GlobalsHaveBytes parts × Every IsByte input)
+      → Good (record { code = reading_of parts; marked = marked; name = λ ty. ty; watching = watching; ranged = ranged }) (image_world (reading_of parts) input limits)
+  begins_good marked watching ranged bytes = record {
+    sound = by_watching watching;
+    typed = heap_is_typed (record { code = reading_of parts; marked = marked; name = λ ty. ty; watching = watching; ranged = ranged }) refl (λ e. (bytes e).0);
+    globals = λ g global e. globals_there (reading_of parts) parts.globals g global e;
+    waiting = tt;
+    input = λ e. (bytes e).1;
+  }
 
 -- ---- a store that names types as the image does
 
@@ -208,5 +231,5 @@ first_is_model code input limits = ap (λ os. record {
   store = record { regions = Some (record { parent = 0; objects = os }) ∷ []; pins = []; spare = 0; region_limit = limits.regions; block_limit = limits.blocks };
 }) (objects_same (first_objects code))
 
-pub own_is_written : (parts : Parts) (marked watching : Bool) → (own (record { code = reading_of parts; marked = marked; name = λ ty. ty; watching = watching })).code ≡ reading_of parts
-own_is_written parts marked watching = ap (λ ls. record { parts = parts; layouts = ls; numbered = pointee }) (layouts_same (map layout_of parts.types))
+pub own_is_written : (parts : Parts) (marked watching ranged : Bool) → (own (record { code = reading_of parts; marked = marked; name = λ ty. ty; watching = watching; ranged = ranged })).code ≡ reading_of parts
+own_is_written parts marked watching ranged = ap (λ ls. record { parts = parts; layouts = ls; numbered = pointee }) (layouts_same (map layout_of parts.types))

@@ -70,25 +70,25 @@ module _ (image : Compared) (heap : Heap) (r q : ℕ) (out : Outside heap r q) w
           cc
 
   -- a cell that isn't counted names r no more than one that is
-  cell_counts : (kind : CellKind) (v : Value) → CellIsSound (live heap) (parent heap) q kind v → Stored image.code heap kind v → (is_counted kind && names r v) ≡ names r v
+  cell_counts : (kind : CellKind) (v : Value) → CellIsSound (live heap) (parent heap) q kind v → Stored image heap kind v → (is_counted kind && names r v) ≡ names r v
   cell_counts region_cell v cell typed = refl
-  cell_counts int_cell v cell typed = number v typed.suits
+  cell_counts int_cell v cell typed = number v typed.kind.suits
     where
-      number : (v : Value) → Suits image.code heap (kind_of (storage_of image.code int_cell)) v → false ≡ names r v
+      number : (v : Value) → Suits image heap (kind_of (storage_of image.code int_cell)) v → false ≡ names r v
       number (Number n) s = refl
       number Null s = refl
       number (Handle p) s = absurd s
       number (Pointer a) s = absurd s
-  cell_counts unsigned_cell v cell typed = number v typed.suits
+  cell_counts unsigned_cell v cell typed = number v typed.kind.suits
     where
-      number : (v : Value) → Suits image.code heap (kind_of (storage_of image.code unsigned_cell)) v → false ≡ names r v
+      number : (v : Value) → Suits image heap (kind_of (storage_of image.code unsigned_cell)) v → false ≡ names r v
       number (Number n) s = refl
       number Null s = refl
       number (Handle p) s = absurd s
       number (Pointer a) s = absurd s
-  cell_counts char_cell v cell typed = number v typed.suits
+  cell_counts char_cell v cell typed = number v typed.kind.suits
     where
-      number : (v : Value) → Suits image.code heap (kind_of (storage_of image.code char_cell)) v → false ≡ names r v
+      number : (v : Value) → Suits image heap (kind_of (storage_of image.code char_cell)) v → false ≡ names r v
       number (Number n) s = refl
       number Null s = refl
       number (Handle p) s = absurd s
@@ -116,7 +116,7 @@ module _ (image : Compared) (heap : Heap) (r q : ℕ) (out : Outside heap r q) w
       by (Handle s) e = sym (fitting_apart Traditional s e (λ e. cc))
       by (Pointer a) e = sym (fitting_apart Traditional a.region e (λ e. cc))
 
-  cells_count : (kinds : List CellKind) (vs : List Value) → AllZip (CellIsSound (live heap) (parent heap) q) kinds vs → AllZip (Stored image.code heap) kinds vs
+  cells_count : (kinds : List CellKind) (vs : List Value) → AllZip (CellIsSound (live heap) (parent heap) q) kinds vs → AllZip (Stored image heap) kinds vs
       → count_by (λ (c : CellKind × Value). is_counted c.0 && names r c.1) (zip (map (named_cell image.name) kinds) vs) ≡ count_by (names r) vs
   cells_count [] [] sound typed = refl
   cells_count [] (v ∷ vs) sound typed = absurd sound
@@ -127,7 +127,7 @@ module _ (image : Compared) (heap : Heap) (r q : ℕ) (out : Outside heap r q) w
       ∙ ap (λ n. cond (names r v) 1 0 + n) (cells_count kinds vs sound.1 typed.1)
       ∙ sym (sum_by-cons (λ u. cond (names r u) 1 0) v vs)
 
-  objects_count : (os : List Object) → Every (ObjectIsSound (live heap) (parent heap) q) os → Every (ObjectIsTyped image.code heap) os
+  objects_count : (os : List Object) → Every (ObjectIsSound (live heap) (parent heap) q) os → Every (ObjectIsTyped image heap) os
       → sum_by (object_refs r) (map (renamed image.name) os) ≡ count_by (names r) (flat_map (λ (o : Object). o.values) os)
   objects_count [] sound typed = refl
   objects_count (o ∷ os) sound typed =
@@ -138,7 +138,7 @@ module _ (image : Compared) (heap : Heap) (r q : ℕ) (out : Outside heap r q) w
 
 -- so the counts of all regions but r are the values of all their cells that name r
 module _ (image : Compared) (heap : Heap) (r : ℕ) (sound : HeapIsSound heap) (inner : nat_eq r 0 ≡ false) (childless : has_child r heap ≡ false) where
-  region_counts : (g : Region) (q : ℕ) → region_at heap q ≡ g → RegionIsTyped image.code heap g → (apart : Bool) → nat_eq q r ≡ apart
+  region_counts : (g : Region) (q : ℕ) → region_at heap q ≡ g → RegionIsTyped image heap g → (apart : Bool) → nat_eq q r ≡ apart
       → (if apart then 0 else view_refs r ((seen image.name) g)) ≡ count_by (names r) (if apart then [] else values_of g)
   region_counts g q is typed true e = refl
   region_counts g q is typed false e = by g.alive refl
@@ -150,7 +150,7 @@ module _ (image : Compared) (heap : Heap) (r : ℕ) (sound : HeapIsSound heap) (
           objects_count image heap r q (record { sound = sound; inner = inner; childless = childless; alive = l2; apart = e }) g.objects
           (subst (λ (g : Region). Every (ObjectIsSound (live heap) (parent heap) q) g.objects) is (sound.regions q l2).objects) typed
 
-  views_count : (rest : Heap) (at : ℕ) → ((k : ℕ) → region_at heap (at + k) ≡ region_at rest k) → Every (RegionIsTyped image.code heap) rest
+  views_count : (rest : Heap) (at : ℕ) → ((k : ℕ) → region_at heap (at + k) ≡ region_at rest k) → Every (RegionIsTyped image heap) rest
       → refs_outside r at (map (seen image.name) rest) ≡ count_by (names r) (values_outside r at rest)
   views_count [] at stands typed = refl
   views_count (g ∷ rest) at stands typed =
@@ -197,7 +197,7 @@ none_named p (v ∷ vs) = ap (λ n. nat_eq n 0) (sum_by-cons (λ u. cond (p u) 1
     by rest false = let e : 0 + count_by p vs ≡ count_by p vs = omega arith in ap (λ n. nat_eq n 0) e ∙ rest
 
 -- the heart: looking and counting decide alike
-pub decisions_agree : (image : Compared) (w : World) (held : List Value) (r : ℕ) → HeapIsSound w.heap → HeapIsTyped image.code w.heap → live w.heap r ≡ true → nat_eq r 0 ≡ false → has_child r w.heap ≡ false
+pub decisions_agree : (image : Compared) (w : World) (held : List Value) (r : ℕ) → HeapIsSound w.heap → HeapIsTyped image w.heap → live w.heap r ≡ true → nat_eq r 0 ≡ false → has_child r w.heap ≡ false
     → nat_eq (refs (record (model image.name w).store { pins = filter (is_fresh (live w.heap)) held ++ (model image.name w).store.pins }) r) 0 ≡ is_empty (references r held w)
 decisions_agree image w held r sound typed l inner childless =
     let count = λ (vs : List Value). count_by (names r) vs in

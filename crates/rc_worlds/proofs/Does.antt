@@ -8,13 +8,9 @@ use Rattle.rc_core.specs.Runs.{Ends, Stale, Run, Go, Stopped, bind, branching, t
 use Rattle.rc_core.specs.Source.{World, Spot, at_region, at_address, at_spot, is_index, chosen_in_range, cell_of}
 use Rattle.std.specs.Prelude.{◌+ℤ◌, pos, unsigned_abs, get_or}
 use Rattle.rc_code.specs.StoreModel.{Held, lives, on_region, on_address, on_spot}
-use Rattle.rc_worlds.specs.Worlds.{Compared, model}
+use Rattle.rc_worlds.specs.Worlds.{Compared, model, mapped}
 use Rattle.rc_worlds.specs.Typed.{Good, Grows, AsFresh, Reaches}
 use Rattle.rc_worlds.proofs.Looks.{lives_same, in_view, counts_renamed}
-
-abbrev pub mapped : Compared → {A : Type 0} → Run World A → Run Held A
-mapped image (Go x w) = Go x (model image.name w)
-mapped image (Stopped s w) = Stopped s (model image.name w)
 
 -- a check with a mark failed where the source's world watches them: nothing is said of the store
 abbrev pub Excused : Compared → {A : Type 0} → Run World A → Type 0
@@ -35,10 +31,10 @@ pub record Does (image : Compared) {A : Type 0} (w : World) (P : A → World →
   pub goes : IfGoes (λ x w1. Reaches image w w1 × P x w1) m
 
 pub grows_itself : (heap : Heap) → Grows heap heap
-grows_itself heap = record { regions = omega arith; objects = λ r o layout e. e }
+grows_itself heap = record { regions = omega arith; objects = λ r o shape e. e }
 
 pub grows_on : (a b c : Heap) → Grows a b → Grows b c → Grows a c
-grows_on a b c f g = record { regions = let x = f.regions in let y = g.regions in omega (arith, x, y); objects = λ r o layout e. g.objects r o layout (f.objects r o layout e) }
+grows_on a b c f g = record { regions = let x = f.regions in let y = g.regions in omega (arith, x, y); objects = λ r o shape e. g.objects r o shape (f.objects r o shape e) }
 
 every_both : {A : Type 0} (P Q R : A → Type 0) → ((x : A) → P x → Q x → R x) → (xs : List A) → Every P xs → Every Q xs → Every R xs
 every_both P Q R k [] p q = tt

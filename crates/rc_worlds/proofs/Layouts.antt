@@ -15,11 +15,7 @@ use Rattle.rc_code.specs.declared.image.Function.{Function}
 use Rattle.rc_code.specs.declared.instruction.Instruction.{Instruction}
 use Rattle.rc_code.specs.Running.{line_at, layout_at, path_at, function_at, cell_at, pointee, storage_by, storage_of, value_at, kept, width, target_on, Next, onward, backward, done, Onward, pinned, result_pushed, first_locals, effect, resume, walk, rounds, calls_within, run_main}
 use Rattle.rc_code.specs.StoreModel.{Held, store_model, stored}
-use Rattle.rc_worlds.specs.Worlds.{Compared, trusting, named_cell}
-
--- as the image has it: its own layouts, cells that name types by number
-abbrev pub own : Compared → Compared
-own image = record image { code = record image.code { layouts = map (map (named_cell image.name)) image.code.layouts; numbered = pointee } }
+use Rattle.rc_worlds.specs.Worlds.{Compared, trusting, named_cell, own}
 
 module _ (image : Compared) (same_number : (ty : Ty) → pointee (image.name ty) ≡ image.code.numbered ty) where
   pub own_layout : (t : ℕ) → layout_at (own image).code t ≡ map (named_cell image.name) (layout_at image.code t)

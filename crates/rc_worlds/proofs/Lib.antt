@@ -1,6 +1,7 @@
 pub mod Looks
 pub mod Counts
 pub mod Does
+pub mod Ranges
 pub mod Typed
 pub mod WorldOps
 pub mod Stacks
@@ -9,7 +10,11 @@ pub mod Walks
 pub mod Layouts
 pub mod Whole
 pub mod First
+pub mod Carried
 pub mod Machine
+pub mod Turns
+pub mod Small
+pub mod Ended
 pub mod Places
 pub mod Begins
 pub mod Meanings

@@ -12,9 +12,9 @@ use Rattle.rc_code.specs.Soundness.{ReadingIsSound, Sound, SoundUnmarked}
 use Rattle.rc_code.specs.StoreModel.{stored}
 use Rattle.rc_code.specs.ImageMeaning.{first_held, image_run, view_left}
 use Rattle.rc_code.specs.ImageMeaning as Image
-use Rattle.rc_worlds.specs.Worlds.{Compared, renamed, seen, model}
+use Rattle.rc_worlds.specs.Worlds.{mapped, Compared, renamed, seen, model}
 use Rattle.rc_worlds.specs.Meanings.{image_world, looking, counting, world_run, world_meaning, AreTheSame, IsNotStale}
-use Rattle.rc_worlds.proofs.Does.{Excused, mapped}
+use Rattle.rc_worlds.proofs.Does.{Excused}
 use Rattle.rc_worlds.proofs.Walks.{exact, unmarked, trusted}
 use Rattle.rc_worlds.proofs.Layouts.{same_run}
 use Rattle.rc_worlds.proofs.Begins.{image_is_sound, begins_good, first_is_model, own_is_written}
@@ -33,14 +33,14 @@ regions_left (g ∷ heap) = ap (λ v. v ∷ map view_left (map (seen (λ ty. ty)
 
 module _ (parts : Parts) (fields : FieldsFit parts) (marked watching : Bool) (rules : ReadingIsSound marked (reading_of parts)) (input : List ℕ) (limits : Limits) where
   abbrev image : Compared
-  image = record { code = reading_of parts; marked = marked; name = λ ty. ty; watching = watching }
+  image = record { code = reading_of parts; marked = marked; name = λ ty. ty; watching = watching; ranged = false }
 
   runs : (Excused image (world_run image input limits) → ⊥) → image_run parts input limits ≡ mapped image (world_run image input limits)
   runs none =
       ap (λ w. run_main stored (reading_of parts) w) (sym (first_is_model (reading_of parts) input limits))
-      ∙ ap (λ code. run_main stored code (model (λ ty. ty) (image_world (reading_of parts) input limits))) (sym (own_is_written parts marked watching))
+      ∙ ap (λ code. run_main stored code (model (λ ty. ty) (image_world (reading_of parts) input limits))) (sym (own_is_written parts marked watching false))
       ∙ sym (same_run image (λ ty. refl) (model (λ ty. ty) (image_world (reading_of parts) input limits)))
-      ∙ exact image (image_is_sound parts fields image refl rules) (image_world (reading_of parts) input limits) (begins_good parts fields input limits marked watching) none
+      ∙ exact image (image_is_sound parts fields image refl rules) (image_world (reading_of parts) input limits) (begins_good parts fields input limits marked watching false (λ e. cc)) none
 
   same_meaning : (m : Run World Value) → Image.meaning_of_run input (mapped image m) ≡ meaning_of_run input m
   same_meaning (Go v w) = refl
@@ -67,5 +67,5 @@ unmarked_same parts fields rules input limits = same parts fields false true rul
 pub marked_same : (parts : Parts) → FieldsFit parts → Sound parts → (input : List ℕ) (limits : Limits) → IsNotStale (world_meaning (looking true parts) input limits) → AreTheSame parts (looking true parts) input limits
 marked_same parts fields rules input limits never = same parts fields true true rules input limits (not_excused parts fields true true rules input limits (world_run (looking true parts) input limits) never)
 
-pub trusted_same : (parts : Parts) → FieldsFit parts → Sound parts → (input : List ℕ) (limits : Limits) → AreTheSame parts (counting parts) input limits
-trusted_same parts fields rules input limits = same parts fields true false rules input limits (trusted (counting parts) (image_is_sound parts fields (counting parts) refl rules) refl (world_run (counting parts) input limits))
+pub trusted_same : (parts : Parts) → FieldsFit parts → Sound parts → (input : List ℕ) (limits : Limits) → AreTheSame parts (counting false parts) input limits
+trusted_same parts fields rules input limits = same parts fields true false rules input limits (trusted (counting false parts) (image_is_sound parts fields (counting false parts) refl rules) refl (world_run (counting false parts) input limits))

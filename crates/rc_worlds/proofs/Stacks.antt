@@ -10,7 +10,8 @@ use Rattle.std.specs.Prelude.{◌+ℤ◌}
 use Rattle.rc_core.specs.Heap.{Value, Null, Pointer, Address, Heap, no_region, no_object, objects, object_at, update}
 use Rattle.rc_core.specs.Runs.{Chosen, Target}
 use Rattle.rc_core.specs.Source.{World, Spot, object_of, values_from, chosen_in_range, cells_chosen, first_of}
-use Rattle.rc_core.specs.Evaluation.{local_at}
+use Rattle.rc_core.specs.Evaluation.{local_at, number_in}
+use Rattle.rc_kinds.proofs.InRange.{converted_fits}
 use Rattle.rc_safety.proofs.Lists.{every_map, every_get_or, zip_more, zip_append}
 use Rattle.rc_code.specs.declared.kind.Storage.TheVariants as storage
 use Rattle.rc_code.specs.declared.kind.Storage.{Storage}
@@ -20,11 +21,12 @@ use Rattle.rc_code.specs.declared.image.Function.{Function}
 use Rattle.rc_code.specs.Running.{layout_at, cell_at, storage_of, kept, kept_all, first_in, chosen_values, shift_count, width, target_of, target_on, pinned, first_locals}
 use Rattle.rc_code.specs.Soundness.{Kind, numbers, pointers, kind_of, shift_kinds, place_kinds, parameter_kinds}
 use Rattle.rc_worlds.specs.Worlds.{Compared}
-use Rattle.rc_worlds.specs.Typed.{HasKind, Stored, ObjectIsTyped, RegionIsTyped, IsMade, Good, Grows}
+use Rattle.rc_worlds.specs.Typed.{Shape, HasKind, Keeps, Stored, ObjectIsTyped, RegionIsTyped, IsMade, Good, Grows}
 use Rattle.rc_worlds.specs.Facts.{PathIsSound}
 use Rattle.rc_worlds.proofs.Does.{IsSpot}
-use Rattle.rc_worlds.proofs.Typed.{layout_is, suits_grow, suits_made, element_zip}
+use Rattle.rc_worlds.proofs.Typed.{shape_is, suits_grow, keeps_grow, suits_made, element_zip}
 use Rattle.rc_worlds.proofs.WorldOps.{index_is_below}
+use Rattle.rc_worlds.proofs.Ranges.{byte_is_int}
 
 pub zip_length : {A B : Type 0} (R : A → B → Type 0) (xs : List A) (ys : List B) → AllZip R xs ys → length ys ≡ length xs
 zip_length R [] [] all = refl
@@ -79,44 +81,44 @@ length_kinds (i ∷ is) = ap suc (length_kinds is)
 
 module _ (image : Compared) where
   abbrev pub AreKinds : Heap → List Kind → List Value → Type 0
-  AreKinds heap kinds vs = AllZip (HasKind image.code heap) kinds vs
-
-  abbrev pub InLocal : Heap → Storage → Value → Type 0
-  InLocal heap s v = HasKind image.code heap (kind_of s) v
+  AreKinds heap kinds vs = AllZip (HasKind image heap) kinds vs
 
   abbrev pub AreLocals : Heap → List Storage → List Value → Type 0
-  AreLocals heap ss env = AllZip (InLocal heap) ss env
+  AreLocals heap ss env = AllZip (Keeps image heap) ss env
 
   pub kinds_grow : (a b : Heap) → Grows a b → (kinds : List Kind) (vs : List Value) → AreKinds a kinds vs → AreKinds b kinds vs
-  kinds_grow a b grows kinds vs all = zip_more (HasKind image.code a) (HasKind image.code b) (suits_grow image a b grows) kinds vs all
+  kinds_grow a b grows kinds vs all = zip_more (HasKind image a) (HasKind image b) (suits_grow image a b grows) kinds vs all
 
   pub locals_grow : (a b : Heap) → Grows a b → (ss : List Storage) (env : List Value) → AreLocals a ss env → AreLocals b ss env
-  locals_grow a b grows ss env all = zip_more (InLocal a) (InLocal b) (λ s v. suits_grow image a b grows (kind_of s) v) ss env all
+  locals_grow a b grows ss env all = zip_more (Keeps image a) (Keeps image b) (keeps_grow image a b grows) ss env all
 
   pub locals_made : (heap : Heap) (ss : List Storage) (env : List Value) → AreLocals heap ss env → Every (IsMade heap) env
   locals_made heap [] [] all = tt
   locals_made heap [] (v ∷ env) all = absurd all
   locals_made heap (s ∷ ss) [] all = absurd all
-  locals_made heap (s ∷ ss) (v ∷ env) all = (suits_made image heap (kind_of s) v all.0, locals_made heap ss env all.1)
+  locals_made heap (s ∷ ss) (v ∷ env) all = (suits_made image heap (kind_of s) v all.0.kind, locals_made heap ss env all.1)
 
   pub pinned_made : (heap : Heap) (pins : List ℕ) (ss : List Storage) (env : List Value) → AreLocals heap ss env → Every (IsMade heap) (pinned pins env)
   pinned_made heap pins ss env all = every_map (IsMade heap) (local_at env) (λ x. every_get_or (IsMade heap) env x Null tt (locals_made heap ss env all)) pins
 
-  pub kept_suits : (heap : Heap) (s : Storage) (v : Value) → InLocal heap s v → InLocal heap s (kept s v)
-  kept_suits heap (storage.Number Int) v is = is
-  kept_suits heap (storage.Number Unsigned) v is = is
-  kept_suits heap (storage.Number Char) v is = record { suits = tt }
-  kept_suits heap storage.Region v is = is
-  kept_suits heap (storage.Pointer t) v is = is
+  -- what an operand is kept as
+  pub kept_suits : (heap : Heap) (s : Storage) (v : Value) → HasKind image heap (kind_of s) v → Keeps image heap s (kept s v)
+  kept_suits heap (storage.Number Int) v is = record { kind = is; narrow = tt }
+  kept_suits heap (storage.Number Unsigned) v is = record { kind = is; narrow = tt }
+  kept_suits heap (storage.Number Char) v is = record { kind = record { suits = λ _. byte_is_int (number_in v) }; narrow = λ _. converted_fits Char (number_in v) }
+  kept_suits heap storage.Region v is = record { kind = is; narrow = tt }
+  kept_suits heap (storage.Pointer t) v is = record { kind = is; narrow = tt }
 
   first_suits : (heap : Heap) (ss : List Storage) → AreLocals heap ss (map first_in ss)
   first_suits heap [] = tt
   first_suits heap (s ∷ ss) = (one s, first_suits heap ss)
     where
-      one : (s : Storage) → InLocal heap s (first_in s)
-      one (storage.Number n) = record { suits = tt }
-      one storage.Region = record { suits = tt }
-      one (storage.Pointer t) = record { suits = tt }
+      one : (s : Storage) → Keeps image heap s (first_in s)
+      one (storage.Number Int) = record { kind = record { suits = λ _. refl }; narrow = tt }
+      one (storage.Number Unsigned) = record { kind = record { suits = λ _. refl }; narrow = tt }
+      one (storage.Number Char) = record { kind = record { suits = λ _. refl }; narrow = λ _. refl }
+      one storage.Region = record { kind = record { suits = tt }; narrow = tt }
+      one (storage.Pointer t) = record { kind = record { suits = tt }; narrow = tt }
 
   -- the locals at the entry of a function
   locals_begin : (heap : Heap) (n : ℕ) (ss : List Storage) (vs : List Value) → AreKinds heap (map kind_of (take n ss)) vs → AreLocals heap ss (kept_all ss vs ++ map first_in (drop (length vs) ss))
@@ -132,7 +134,7 @@ module _ (image : Compared) where
 
   -- a place on the stack
   pub record Parts (heap : Heap) (p : Path) (shift : Option Signedness) (vs : List Value) : Type 0 where
-    pub pointer : HasKind image.code heap (pointers p.type_number) (target_of p shift vs).pointer
+    pub pointer : HasKind image heap (pointers p.type_number) (target_of p shift vs).pointer
     pub indices : List Value
     pub long : length indices ≡ length p.indices
     pub chosen : (target_of p shift vs).chosen ≡ chosen_values p.indices indices
@@ -140,10 +142,10 @@ module _ (image : Compared) where
 
   parts : (heap : Heap) (p : Path) (shift : Option Signedness) (vs : List Value) → AreKinds heap (pointers p.type_number ∷ (shift_kinds shift ++ map (λ (i : Index). numbers i.kind) p.indices)) vs → Parts heap p shift vs
   parts heap p None [] all = absurd all
-  parts heap p None (v ∷ vs) all = record { pointer = all.0; indices = vs; long = zip_length (HasKind image.code heap) _ vs all.1 ∙ length_kinds p.indices; chosen = refl; offset = refl }
+  parts heap p None (v ∷ vs) all = record { pointer = all.0; indices = vs; long = zip_length (HasKind image heap) _ vs all.1 ∙ length_kinds p.indices; chosen = refl; offset = refl }
   parts heap p (Some s) [] all = absurd all
   parts heap p (Some s) (v ∷ []) all = absurd all.1
-  parts heap p (Some s) (v ∷ n ∷ vs) all = record { pointer = all.0; indices = vs; long = zip_length (HasKind image.code heap) _ vs all.1.1 ∙ length_kinds p.indices; chosen = refl; offset = refl }
+  parts heap p (Some s) (v ∷ n ∷ vs) all = record { pointer = all.0; indices = vs; long = zip_length (HasKind image heap) _ vs all.1.1 ∙ length_kinds p.indices; chosen = refl; offset = refl }
 
   pub width_is : (p : Path) → width p ≡ length (place_kinds p)
   width_is p = by p.shift
@@ -151,6 +153,10 @@ module _ (image : Compared) where
       by : (shift : Option Signedness) → suc (shift_count shift + length p.indices) ≡ suc (length (shift_kinds shift ++ map (λ (i : Index). numbers i.kind) p.indices))
       by None = let e = length_kinds p.indices in omega (arith, e)
       by (Some s) = let e = length_kinds p.indices in omega (arith, e)
+
+  -- the pointer of a place
+  pub pointer_reached : (heap : Heap) (p : Path) (below : List Kind) (stack : List Value) → AreKinds heap (reverse (place_kinds p) ++ below) stack → HasKind image heap (pointers p.type_number) (target_on p stack).pointer
+  pointer_reached heap p below stack all = (parts heap p p.shift (reverse (take (width p) stack)) (zip_pushed (HasKind image heap) (place_kinds p) below stack (width p) (width_is p) all)).pointer
 
   -- the cell that is reached is inside an element of the path's type, and of the path's kind
   pub record Reached (heap : Heap) (p : Path) (spot : Spot) : Type 0 where
@@ -166,16 +172,16 @@ module _ (image : Compared) where
       target = target_on p stack
 
       of : Parts w.heap p p.shift (reverse (take (width p) stack))
-      of = parts w.heap p p.shift (reverse (take (width p) stack)) (zip_pushed (HasKind image.code w.heap) (place_kinds p) below stack (width p) (width_is p) all)
+      of = parts w.heap p p.shift (reverse (take (width p) stack)) (zip_pushed (HasKind image w.heap) (place_kinds p) below stack (width p) (width_is p) all)
 
-      pointer : HasKind image.code w.heap (pointers p.type_number) (Pointer a)
-      pointer = subst (HasKind image.code w.heap (pointers p.type_number)) is.pointer of.pointer
+      pointer : HasKind image w.heap (pointers p.type_number) (Pointer a)
+      pointer = subst (HasKind image w.heap (pointers p.type_number)) is.pointer of.pointer
 
       layout : (object_of w.heap spot).layout ≡ layout_at image.code p.type_number
       layout =
           ap (λ r. (object_at w.heap r spot.object).layout) is.there.0
           ∙ ap (λ o. (object_at w.heap a.region o).layout) is.there.1
-          ∙ layout_is w.heap a.region a.object (layout_at image.code p.type_number) pointer.suits
+          ∙ ap (λ (s : Shape). s.layout) (shape_is w.heap a.region a.object _ pointer.suits.there)
 
       in_range : list_all chosen_in_range (chosen_values p.indices of.indices) ≡ true
       in_range = subst (λ (cs : List Chosen). list_all chosen_in_range cs ≡ true) of.chosen is.chosen
@@ -190,11 +196,11 @@ module _ (image : Compared) where
       kind = ap (λ n. storage_of image.code (get_or (layout_at image.code p.type_number) n int_cell)) cell ∙ sound.alike of.indices of.long in_range
 
   -- what stands there is of the kind
-  pub value_reached : (w : World) (p : Path) (x : Target) (a : Address) (spot : Spot) → Good image w → IsSpot image w x a spot → Reached w.heap p spot → HasKind image.code w.heap (kind_of (storage_of image.code (cell_at image.code p))) (first_of (values_from w.heap spot 1))
+  pub value_reached : (w : World) (p : Path) (x : Target) (a : Address) (spot : Spot) → Good image w → IsSpot image w x a spot → Reached w.heap p spot → Keeps image w.heap (storage_of image.code (cell_at image.code p)) (first_of (values_from w.heap spot 1))
   value_reached w p x a spot good is reached =
-      subst (λ s. HasKind image.code w.heap (kind_of s) (first_of (values_from w.heap spot 1))) reached.kind
-      (element_zip (Stored image.code w.heap) (object_of w.heap spot).layout (object_of w.heap spot).count spot.element spot.cell (object_of w.heap spot).values
+      subst (λ s. Keeps image w.heap s (first_of (values_from w.heap spot 1))) reached.kind
+      (element_zip (Stored image w.heap) (object_of w.heap spot).layout (object_of w.heap spot).count spot.element spot.cell (object_of w.heap spot).values
       object (subst (λ n. n < (object_of w.heap spot).count) (sym is.element) (index_is_below (pos a.index +ℤ x.shift) (object_of w.heap spot).count is.inside)) reached.inside)
     where
-      object : ObjectIsTyped image.code w.heap (object_of w.heap spot)
-      object = every_get_or (ObjectIsTyped image.code w.heap) (objects w.heap spot.region) spot.object no_object tt (every_get_or (RegionIsTyped image.code w.heap) w.heap spot.region no_region tt good.typed.regions)
+      object : ObjectIsTyped image w.heap (object_of w.heap spot)
+      object = every_get_or (ObjectIsTyped image w.heap) (objects w.heap spot.region) spot.object no_object tt (every_get_or (RegionIsTyped image w.heap) w.heap spot.region no_region tt good.typed.regions)

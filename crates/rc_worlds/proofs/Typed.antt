@@ -7,35 +7,36 @@ use Rattle.rc_core.specs.Heap.{Value, Number, Null, Handle, Pointer, Object, Reg
 use Rattle.rc_core.specs.Source.{first_of}
 use Rattle.rc_safety.proofs.Lists.{every_more, zip_more, zip_append}
 use Rattle.rc_safety.proofs.Fronts.{FrontZip}
-use Rattle.rc_code.specs.Running.{layout_at, storage_of}
+use Rattle.rc_code.specs.Running.{storage_of}
 use Rattle.rc_code.specs.Soundness.{Kind, numbers, handles, pointers, kind_of}
 use Rattle.rc_worlds.specs.Worlds.{Compared}
-use Rattle.rc_worlds.specs.Typed.{layout_in, layout_there, Suits, HasKind, Stored, ObjectIsTyped, RegionIsTyped, IsMade, Grows}
+use Rattle.rc_worlds.specs.Typed.{Shape, shape_of, shape_in, shape_there, Suits, HasKind, Keeps, Stored, ObjectIsTyped, RegionIsTyped, IsMade, Grows}
+use Rattle.rc_code.specs.declared.kind.Storage.{Storage}
 
 -- an object that is there is in a region that was made
-pub there_is_made : (heap : Heap) (r o : ℕ) (layout : Layout) → layout_there heap r o ≡ Some layout → r < length heap
-there_is_made [] r o layout e = nowhere o e
+pub there_is_made : (heap : Heap) (r o : ℕ) (shape : Shape) → shape_there heap r o ≡ Some shape → r < length heap
+there_is_made [] r o shape e = nowhere o e
   where
-    nowhere : (o : ℕ) → layout_in (slice_get [] o) ≡ Some layout → r < 0
+    nowhere : (o : ℕ) → shape_in (slice_get [] o) ≡ Some shape → r < 0
     nowhere zero e = cc
     nowhere (suc o) e = cc
-there_is_made (g ∷ heap) zero o layout e = omega arith
-there_is_made (g ∷ heap) (suc r) o layout e = let h = there_is_made heap r o layout e in omega (arith, h)
+there_is_made (g ∷ heap) zero o shape e = omega arith
+there_is_made (g ∷ heap) (suc r) o shape e = let h = there_is_made heap r o shape e in omega (arith, h)
 
-pub layout_is : (heap : Heap) (r o : ℕ) (layout : Layout) → layout_there heap r o ≡ Some layout → (object_at heap r o).layout ≡ layout
-layout_is heap r o layout e = by (objects heap r) o e
+pub shape_is : (heap : Heap) (r o : ℕ) (shape : Shape) → shape_there heap r o ≡ Some shape → shape_of (object_at heap r o) ≡ shape
+shape_is heap r o shape e = by (objects heap r) o e
   where
-    by : (os : List Object) (o : ℕ) → layout_in (slice_get os o) ≡ Some layout → (get_or os o no_object).layout ≡ layout
+    by : (os : List Object) (o : ℕ) → shape_in (slice_get os o) ≡ Some shape → shape_of (get_or os o no_object) ≡ shape
     by [] zero e = cc
     by [] (suc o) e = cc
     by (x ∷ os) zero e = cc
     by (x ∷ os) (suc o) e = by os o e
 
-pub suits_grow : (image : Compared) (a b : Heap) → Grows a b → (k : Kind) (v : Value) → HasKind image.code a k v → HasKind image.code b k v
+pub suits_grow : (image : Compared) (a b : Heap) → Grows a b → (k : Kind) (v : Value) → HasKind image a k v → HasKind image b k v
 suits_grow image a b grows k v is = record { suits = by k v is.suits }
   where
-    by : (k : Kind) (v : Value) → Suits image.code a k v → Suits image.code b k v
-    by (numbers s) (Number n) e = tt
+    by : (k : Kind) (v : Value) → Suits image a k v → Suits image b k v
+    by (numbers s) (Number n) e = e
     by (numbers s) Null e = e
     by (numbers s) (Handle r) e = e
     by (numbers s) (Pointer p) e = e
@@ -46,12 +47,15 @@ suits_grow image a b grows k v is = record { suits = by k v is.suits }
     by (pointers t) (Number n) e = e
     by (pointers t) Null e = tt
     by (pointers t) (Handle r) e = e
-    by (pointers t) (Pointer p) e = grows.objects p.region p.object (layout_at image.code t) e
+    by (pointers t) (Pointer p) e = record { count = e.count; there = grows.objects p.region p.object _ e.there; within = e.within }
 
-pub suits_made : (image : Compared) (heap : Heap) (k : Kind) (v : Value) → HasKind image.code heap k v → IsMade heap v
+pub keeps_grow : (image : Compared) (a b : Heap) → Grows a b → (s : Storage) (v : Value) → Keeps image a s v → Keeps image b s v
+keeps_grow image a b grows s v is = record { kind = suits_grow image a b grows (kind_of s) v is.kind; narrow = is.narrow }
+
+pub suits_made : (image : Compared) (heap : Heap) (k : Kind) (v : Value) → HasKind image heap k v → IsMade heap v
 suits_made image heap k v is = by k v is.suits
   where
-    by : (k : Kind) (v : Value) → Suits image.code heap k v → IsMade heap v
+    by : (k : Kind) (v : Value) → Suits image heap k v → IsMade heap v
     by k (Number n) e = tt
     by k Null e = tt
     by (numbers s) (Handle r) e = absurd e
@@ -59,9 +63,9 @@ suits_made image heap k v is = by k v is.suits
     by (pointers t) (Handle r) e = absurd e
     by (numbers s) (Pointer p) e = absurd e
     by handles (Pointer p) e = absurd e
-    by (pointers t) (Pointer p) e = there_is_made heap p.region p.object (layout_at image.code t) e
+    by (pointers t) (Pointer p) e = there_is_made heap p.region p.object _ e.there
 
-pub null_suits : (image : Compared) (heap : Heap) (k : Kind) → ((s : _) → k ≡ numbers s → ⊥) → HasKind image.code heap k Null
+pub null_suits : (image : Compared) (heap : Heap) (k : Kind) → ((s : _) → k ≡ numbers s → ⊥) → HasKind image heap k Null
 null_suits image heap (numbers s) not = absurd (not s refl)
 null_suits image heap handles not = record { suits = tt }
 null_suits image heap (pointers t) not = record { suits = tt }
@@ -75,40 +79,40 @@ made_grow a b grows (Pointer p) e = let h = grows.regions in omega (arith, h, e)
 pub all_made_grow : (a b : Heap) → Grows a b → (vs : List Value) → Every (IsMade a) vs → Every (IsMade b) vs
 all_made_grow a b grows vs all = every_more (IsMade a) (IsMade b) (made_grow a b grows) vs all
 
-pub object_grows : (image : Compared) (a b : Heap) → Grows a b → (o : Object) → ObjectIsTyped image.code a o → ObjectIsTyped image.code b o
-object_grows image a b grows o all = zip_more (Stored image.code a) (Stored image.code b) (λ kind v. suits_grow image a b grows (kind_of (storage_of image.code kind)) v) (kinds_of o) o.values all
+pub object_grows : (image : Compared) (a b : Heap) → Grows a b → (o : Object) → ObjectIsTyped image a o → ObjectIsTyped image b o
+object_grows image a b grows o all = zip_more (Stored image a) (Stored image b) (λ kind v. keeps_grow image a b grows (storage_of image.code kind) v) (kinds_of o) o.values all
 
-pub region_grows : (image : Compared) (a b : Heap) → Grows a b → (g : Region) → RegionIsTyped image.code a g → RegionIsTyped image.code b g
-region_grows image a b grows g all = every_more (ObjectIsTyped image.code a) (ObjectIsTyped image.code b) (object_grows image a b grows) g.objects all
+pub region_grows : (image : Compared) (a b : Heap) → Grows a b → (g : Region) → RegionIsTyped image a g → RegionIsTyped image b g
+region_grows image a b grows g all = every_more (ObjectIsTyped image a) (ObjectIsTyped image b) (object_grows image a b grows) g.objects all
 
-pub regions_grow : (image : Compared) (a b rest : Heap) → Grows a b → Every (RegionIsTyped image.code a) rest → Every (RegionIsTyped image.code b) rest
-regions_grow image a b rest grows all = every_more (RegionIsTyped image.code a) (RegionIsTyped image.code b) (region_grows image a b grows) rest all
+pub regions_grow : (image : Compared) (a b rest : Heap) → Grows a b → Every (RegionIsTyped image a) rest → Every (RegionIsTyped image b) rest
+regions_grow image a b rest grows all = every_more (RegionIsTyped image a) (RegionIsTyped image b) (region_grows image a b grows) rest all
 
 -- a blank object
-pub blank_is_typed : (image : Compared) (heap : Heap) (layout : Layout) (count : ℕ) → ObjectIsTyped image.code heap (blank layout count)
+pub blank_is_typed : (image : Compared) (heap : Heap) (layout : Layout) (count : ℕ) → ObjectIsTyped image heap (blank layout count)
 blank_is_typed image heap layout zero = tt
-blank_is_typed image heap layout (suc count) = zip_append (Stored image.code heap) layout _ (map blank_cell layout) _ (each layout) (blank_is_typed image heap layout count)
+blank_is_typed image heap layout (suc count) = zip_append (Stored image heap) layout _ (map blank_cell layout) _ (each layout) (blank_is_typed image heap layout count)
   where
-    one : (kind : CellKind) → Stored image.code heap kind (blank_cell kind)
-    one int_cell = record { suits = tt }
-    one unsigned_cell = record { suits = tt }
-    one char_cell = record { suits = tt }
-    one region_cell = record { suits = tt }
-    one (pointer_cell note target) = record { suits = tt }
+    one : (kind : CellKind) → Stored image heap kind (blank_cell kind)
+    one int_cell = record { kind = record { suits = λ _. refl }; narrow = tt }
+    one unsigned_cell = record { kind = record { suits = λ _. refl }; narrow = tt }
+    one char_cell = record { kind = record { suits = λ _. refl }; narrow = λ _. refl }
+    one region_cell = record { kind = record { suits = tt }; narrow = tt }
+    one (pointer_cell note target) = record { kind = record { suits = tt }; narrow = tt }
 
-    each : (kinds : Layout) → AllZip (Stored image.code heap) kinds (map blank_cell kinds)
+    each : (kinds : Layout) → AllZip (Stored image heap) kinds (map blank_cell kinds)
     each [] = tt
     each (kind ∷ kinds) = (one kind, each kinds)
 
 -- where the objects of a region change and keep their layouts, or become more
 pub update_there : (heap : Heap) (q : ℕ) (change : Region → Region)
-    → ((o : ℕ) (layout : Layout) → layout_there heap q o ≡ Some layout → layout_in (slice_get (change (region_at heap q)).objects o) ≡ Some layout)
-    → (r o : ℕ) (layout : Layout) → layout_there heap r o ≡ Some layout → layout_there (update heap q change) r o ≡ Some layout
-update_there [] q change k r o layout e = e
-update_there (g ∷ heap) zero change k zero o layout e = k o layout e
-update_there (g ∷ heap) zero change k (suc r) o layout e = e
-update_there (g ∷ heap) (suc q) change k zero o layout e = e
-update_there (g ∷ heap) (suc q) change k (suc r) o layout e = update_there heap q change k r o layout e
+    → ((o : ℕ) (shape : Shape) → shape_there heap q o ≡ Some shape → shape_in (slice_get (change (region_at heap q)).objects o) ≡ Some shape)
+    → (r o : ℕ) (shape : Shape) → shape_there heap r o ≡ Some shape → shape_there (update heap q change) r o ≡ Some shape
+update_there [] q change k r o shape e = e
+update_there (g ∷ heap) zero change k zero o shape e = k o shape e
+update_there (g ∷ heap) zero change k (suc r) o shape e = e
+update_there (g ∷ heap) (suc q) change k zero o shape e = e
+update_there (g ∷ heap) (suc q) change k (suc r) o shape e = update_there heap q change k r o shape e
 
 pub length_update : {A : Type 0} (xs : List A) (i : ℕ) (change : A → A) → length (update xs i change) ≡ length xs
 length_update [] i change = refl
@@ -116,15 +120,15 @@ length_update (x ∷ xs) zero change = refl
 length_update (x ∷ xs) (suc i) change = ap suc (length_update xs i change)
 
 pub grows_update : (heap : Heap) (q : ℕ) (change : Region → Region)
-    → ((o : ℕ) (layout : Layout) → layout_there heap q o ≡ Some layout → layout_in (slice_get (change (region_at heap q)).objects o) ≡ Some layout)
+    → ((o : ℕ) (shape : Shape) → shape_there heap q o ≡ Some shape → shape_in (slice_get (change (region_at heap q)).objects o) ≡ Some shape)
     → Grows heap (update heap q change)
 grows_update heap q change k = record { regions = let h = length_update heap q change in omega (arith, h); objects = update_there heap q change k }
 
-pub append_there : (heap : Heap) (g : Region) (r o : ℕ) (layout : Layout) → layout_there heap r o ≡ Some layout → layout_there (heap ++ g ∷ []) r o ≡ Some layout
-append_there [] g r zero layout e = cc
-append_there [] g r (suc o) layout e = cc
-append_there (x ∷ heap) g zero o layout e = e
-append_there (x ∷ heap) g (suc r) o layout e = append_there heap g r o layout e
+pub append_there : (heap : Heap) (g : Region) (r o : ℕ) (shape : Shape) → shape_there heap r o ≡ Some shape → shape_there (heap ++ g ∷ []) r o ≡ Some shape
+append_there [] g r zero shape e = cc
+append_there [] g r (suc o) shape e = cc
+append_there (x ∷ heap) g zero o shape e = e
+append_there (x ∷ heap) g (suc r) o shape e = append_there heap g r o shape e
 
 pub grows_append : (heap : Heap) (g : Region) → Grows heap (heap ++ g ∷ [])
 grows_append heap g = record { regions = longer heap; objects = append_there heap g }
@@ -133,22 +137,22 @@ grows_append heap g = record { regions = longer heap; objects = append_there hea
     longer [] = omega arith
     longer (x ∷ heap) = let h = longer heap in omega (arith, h)
 
-pub object_appended : (os : List Object) (x : Object) (o : ℕ) (layout : Layout) → layout_in (slice_get os o) ≡ Some layout → layout_in (slice_get (os ++ x ∷ []) o) ≡ Some layout
-object_appended [] x zero layout e = cc
-object_appended [] x (suc o) layout e = cc
-object_appended (y ∷ os) x zero layout e = e
-object_appended (y ∷ os) x (suc o) layout e = object_appended os x o layout e
+pub object_appended : (os : List Object) (x : Object) (o : ℕ) (shape : Shape) → shape_in (slice_get os o) ≡ Some shape → shape_in (slice_get (os ++ x ∷ []) o) ≡ Some shape
+object_appended [] x zero shape e = cc
+object_appended [] x (suc o) shape e = cc
+object_appended (y ∷ os) x zero shape e = e
+object_appended (y ∷ os) x (suc o) shape e = object_appended os x o shape e
 
-pub last_there : (os : List Object) (x : Object) → layout_in (slice_get (os ++ x ∷ []) (length os)) ≡ Some x.layout
+pub last_there : (os : List Object) (x : Object) → shape_in (slice_get (os ++ x ∷ []) (length os)) ≡ Some (shape_of x)
 last_there [] x = refl
 last_there (y ∷ os) x = last_there os x
 
-pub object_updated : (os : List Object) (i : ℕ) (change : Object → Object) → ((x : Object) → (change x).layout ≡ x.layout) → (o : ℕ) (layout : Layout) → layout_in (slice_get os o) ≡ Some layout → layout_in (slice_get (update os i change) o) ≡ Some layout
-object_updated [] i change keeps o layout e = e
-object_updated (x ∷ os) zero change keeps zero layout e = ap Some (keeps x) ∙ e
-object_updated (x ∷ os) zero change keeps (suc o) layout e = e
-object_updated (x ∷ os) (suc i) change keeps zero layout e = e
-object_updated (x ∷ os) (suc i) change keeps (suc o) layout e = object_updated os i change keeps o layout e
+pub object_updated : (os : List Object) (i : ℕ) (change : Object → Object) → ((x : Object) → shape_of (change x) ≡ shape_of x) → (o : ℕ) (shape : Shape) → shape_in (slice_get os o) ≡ Some shape → shape_in (slice_get (update os i change) o) ≡ Some shape
+object_updated [] i change keeps o shape e = e
+object_updated (x ∷ os) zero change keeps zero shape e = ap Some (keeps x) ∙ e
+object_updated (x ∷ os) zero change keeps (suc o) shape e = e
+object_updated (x ∷ os) (suc i) change keeps zero shape e = e
+object_updated (x ∷ os) (suc i) change keeps (suc o) shape e = object_updated os i change keeps o shape e
 
 -- one cell of one element
 pub front_one : {B : Type 0} (R : CellKind → B → Type 0) (layout : Layout) (cell : ℕ) (v : B) → R (get_or layout cell int_cell) v → FrontZip R (drop cell layout) (v ∷ [])

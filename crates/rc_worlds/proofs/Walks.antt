@@ -13,10 +13,10 @@ use Rattle.rc_code.specs.declared.instruction.Instruction.{Instruction}
 use Rattle.rc_code.specs.Running.{line_at, function_at, Next, onward, backward, done, Onward, first_locals, effect, resume, walk, rounds, calls_within, run_main}
 use Rattle.rc_code.specs.StoreModel.{Held}
 use Rattle.rc_code.specs.Soundness.{kind_of, parameter_kinds, kinds_before, ends, FunctionIsSound}
-use Rattle.rc_worlds.specs.Worlds.{Compared, watched, trusting, model}
+use Rattle.rc_worlds.specs.Worlds.{mapped, Compared, watched, trusting, model}
 use Rattle.rc_worlds.specs.Typed.{Good}
 use Rattle.rc_worlds.specs.Facts.{ImageIsSound}
-use Rattle.rc_worlds.proofs.Does.{Excused, Same, mapped, Does, reaches_itself, does_go, does_then}
+use Rattle.rc_worlds.proofs.Does.{Excused, Same, Does, reaches_itself, does_go, does_then}
 use Rattle.rc_worlds.proofs.WorldOps.{take_turn_does}
 use Rattle.rc_worlds.proofs.Stacks.{AreKinds, kinds_grow, first_locals_suit}
 use Rattle.rc_worlds.proofs.Steps.{ResultSuits, NextSuits, Agrees, CallsAgree, acts}

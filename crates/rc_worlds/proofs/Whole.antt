@@ -14,12 +14,12 @@ use Rattle.rc_code.specs.declared.instruction.Instruction.{Instruction}
 use Rattle.rc_code.specs.Running.{layout_at, path_at, function_at, pointee, storage_of, chosen_values, run_main}
 use Rattle.rc_code.specs.StoreModel.{stored}
 use Rattle.rc_code.specs.Soundness.{Kind, kind_of, place_kinds, takes, gives, count_off, instruction_at, kinds_before, FunctionIsSound, Names, Operands, Targets, Empty}
-use Rattle.rc_worlds.specs.Worlds.{Compared, watched, model, named_cell}
+use Rattle.rc_worlds.specs.Worlds.{mapped, own, Compared, watched, model, named_cell}
 use Rattle.rc_worlds.specs.Typed.{Good}
 use Rattle.rc_worlds.specs.Facts.{PathIsSound, ImageIsSound}
 use Rattle.rc_worlds.proofs.Looks.{note_renamed}
-use Rattle.rc_worlds.proofs.Does.{mapped, Excused}
-use Rattle.rc_worlds.proofs.Layouts.{own, own_layout, own_storage, same_run}
+use Rattle.rc_worlds.proofs.Does.{Excused}
+use Rattle.rc_worlds.proofs.Layouts.{own_layout, own_storage, same_run}
 use Rattle.rc_worlds.proofs.Walks.{exact}
 
 module _ (image : Compared) (same_number : (ty : Ty) → pointee (image.name ty) ≡ image.code.numbered ty) where

@@ -18,15 +18,18 @@ use Rattle.rc_safety.proofs.Written.{written_sound}
 use Rattle.rc_safety.proofs.Made.{new_region, live_is_made, made_before, made_last, none_dies_made, made_sound}
 use Rattle.rc_safety.proofs.Killed.{NamesNot, none_kept, empty_is_nil, others_live, killed_sound}
 use Rattle.rc_safety.proofs.Allocations.{blank_object_is_sound}
+use Rattle.rc_core.specs.declared.ty.NumberType.TheVariants.{Int}
+use Rattle.rc_core.specs.Numbers.{IsByte}
+use Rattle.rc_kinds.proofs.InRange.{byte_fits}
 use Rattle.rc_code.specs.Running.{layout_at}
 use Rattle.rc_code.specs.StoreModel.{Held, lives, parent_in, with_objects_in, with_store, turn_in, byte_in, value_in, kind_in, put_in, stored_in, made_in, allocated_in, deleted_in}
 use Rattle.rc_code.specs.Soundness.{Kind, handles, pointers}
 use Rattle.rc_worlds.specs.Worlds.{Compared, model, naming, named_cell, renamed, seen, put_by, deleted_by, delete_by}
-use Rattle.rc_worlds.specs.Typed.{layout_there, HasKind, Stored, ObjectIsTyped, RegionIsTyped, HeapIsTyped, IsMade, IsTree, IsSoundBy, Good, Grows, AsFresh, Reaches}
+use Rattle.rc_worlds.specs.Typed.{Shape, shape_of, shape_there, LeadsTo, InRange, HasKind, Stored, ObjectIsTyped, RegionIsTyped, HeapIsTyped, IsMade, IsTree, IsSoundBy, Good, Grows, AsFresh, Reaches}
 use Rattle.rc_worlds.proofs.Looks.{lives_same, all_lives_same, in_view, parent_in_view, child_same, killed_seen, changed_seen, map_append, length_seen, filter_same, blank_renamed, counts_renamed, length_renamed, note_renamed, value_renamed, appended_renamed, put_renamed}
 use Rattle.rc_worlds.proofs.Counts.{decisions_agree, not_child, turned, waiting_apart}
 use Rattle.rc_worlds.proofs.Does.{Does, IsSpot, grows_itself, each_as_fresh, reaches_itself, does_go, does_tested, does_touching, does_region, does_address, does_spot}
-use Rattle.rc_worlds.proofs.Typed.{suits_grow, all_made_grow, regions_grow, blank_is_typed, grows_update, grows_append, object_appended, last_there, object_updated, front_one}
+use Rattle.rc_worlds.proofs.Typed.{shape_is, keeps_grow, all_made_grow, regions_grow, blank_is_typed, grows_update, grows_append, object_appended, last_there, object_updated, front_one}
 
 as_fresh_lives : (a b : Heap) → live b ≡ live a → (vs : List Value) → Every (AsFresh a b) vs
 as_fresh_lives a b e [] = tt
@@ -143,16 +146,16 @@ module _ (image : Compared) where
   Any x w = Unit {0}
 
   abbrev pub Gives : Kind → Value → World → Type 0
-  Gives k v w = HasKind image.code w.heap k v
+  Gives k v w = HasKind image w.heap k v
 
   store_of : (w : World) (heap1 : Heap) (views : List (Option View)) → Every (AsFresh w.heap heap1) w.waiting → views ≡ map (seen image.name) heap1 → with_store (model image.name w) (record (model image.name w).store { regions = views }) ≡ model image.name (with_heap w heap1)
   store_of w heap1 views each e =
       ap (λ vs. with_store (model image.name w) (record (model image.name w).store { regions = vs })) e
       ∙ ap (λ ps. with_store (model image.name w) (record (model image.name w).store { regions = map (seen image.name) heap1; pins = ps })) (sym (filter_same (is_fresh (live heap1)) (is_fresh (live w.heap)) w.waiting each))
 
-  reaches_heap : (w : World) (heap1 : Heap) → Good image w → IsSoundBy image.watching heap1 → HeapIsTyped image.code heap1 → Grows w.heap heap1 → Every (AsFresh w.heap heap1) w.waiting → Reaches image w (with_heap w heap1)
+  reaches_heap : (w : World) (heap1 : Heap) → Good image w → IsSoundBy image.watching heap1 → HeapIsTyped image heap1 → Grows w.heap heap1 → Every (AsFresh w.heap heap1) w.waiting → Reaches image w (with_heap w heap1)
   reaches_heap w heap1 good sound typed grows each = record {
-    good = record { sound = sound; typed = typed; globals = λ g global e. grows.objects 0 g _ (good.globals g global e); waiting = all_made_grow w.heap heap1 grows w.waiting good.waiting };
+    good = record { sound = sound; typed = typed; globals = λ g global e. grows.objects 0 g _ (good.globals g global e); waiting = all_made_grow w.heap heap1 grows w.waiting good.waiting; input = good.input };
     grows = grows;
     waits = refl;
     fresh = each;
@@ -169,17 +172,17 @@ module _ (image : Compared) where
     where
       by : (n : ℕ) → Does image w Any (turn_from n w) (turn_in n (model image.name w))
       by zero = record { same = inr refl; goes = tt }
-      by (suc n) = record { same = inr refl; goes = (record { good = record { sound = good.sound; typed = good.typed; globals = good.globals; waiting = good.waiting }; grows = grows_itself w.heap; waits = refl; fresh = each_as_fresh w.heap w.waiting }, tt) }
+      by (suc n) = record { same = inr refl; goes = (record { good = record { sound = good.sound; typed = good.typed; globals = good.globals; waiting = good.waiting; input = good.input }; grows = grows_itself w.heap; waits = refl; fresh = each_as_fresh w.heap w.waiting }, tt) }
 
   pub put_byte_does : (b : ℕ) (w : World) → Good image w → Does image w Any (source.put_byte b w) ((naming image.name).put_byte b (model image.name w))
-  put_byte_does b w good = record { same = inr refl; goes = (record { good = record { sound = good.sound; typed = good.typed; globals = good.globals; waiting = good.waiting }; grows = grows_itself w.heap; waits = refl; fresh = each_as_fresh w.heap w.waiting }, tt) }
+  put_byte_does b w good = record { same = inr refl; goes = (record { good = record { sound = good.sound; typed = good.typed; globals = good.globals; waiting = good.waiting; input = good.input }; grows = grows_itself w.heap; waits = refl; fresh = each_as_fresh w.heap w.waiting }, tt) }
 
-  pub get_byte_does : (w : World) → Good image w → Does image w Any (source.get_byte w) ((naming image.name).get_byte (model image.name w))
-  get_byte_does w good = by w.input
+  pub get_byte_does : (w : World) → Good image w → Does image w (λ z w1. InRange image.ranged Int z) (source.get_byte w) ((naming image.name).get_byte (model image.name w))
+  get_byte_does w good = by w.input good.input
     where
-      by : (bytes : List ℕ) → Does image w Any (byte_from bytes w) (byte_in bytes (model image.name w))
-      by [] = record { same = inr refl; goes = (record { good = record { sound = good.sound; typed = good.typed; globals = good.globals; waiting = good.waiting }; grows = grows_itself w.heap; waits = refl; fresh = each_as_fresh w.heap w.waiting }, tt) }
-      by (b ∷ rest) = record { same = inr refl; goes = (record { good = record { sound = good.sound; typed = good.typed; globals = good.globals; waiting = good.waiting }; grows = grows_itself w.heap; waits = refl; fresh = each_as_fresh w.heap w.waiting }, tt) }
+      by : (bytes : List ℕ) → (image.ranged ≡ true → Every IsByte bytes) → Does image w (λ z w1. InRange image.ranged Int z) (byte_from bytes w) (byte_in bytes (model image.name w))
+      by [] all = record { same = inr refl; goes = (record { good = record { sound = good.sound; typed = good.typed; globals = good.globals; waiting = good.waiting; input = good.input }; grows = grows_itself w.heap; waits = refl; fresh = each_as_fresh w.heap w.waiting }, λ e. refl) }
+      by (b ∷ rest) all = record { same = inr refl; goes = (record { good = record { sound = good.sound; typed = good.typed; globals = good.globals; waiting = good.waiting; input = λ e. (all e).1 }; grows = grows_itself w.heap; waits = refl; fresh = each_as_fresh w.heap w.waiting }, λ e. byte_fits b (all e).0) }
 
   -- a new region
   made_does : (line p : ℕ) (w : World) → Good image w → live w.heap p ≡ true → Does image w (Gives handles) (made line p w) (made_in line p (model image.name w))
@@ -187,7 +190,7 @@ module _ (image : Compared) where
       does_tested image w (Gives handles) _ (nat_le (length w.heap) w.regions) Full line _ _ (ap (λ n. nat_le n w.regions) (length_seen image.name w.heap)) (λ e.
       subst (λ n. Does image w (Gives handles) (Go (Handle (length w.heap)) (with_heap w heap1)) (Go (Handle n) (with_store (model image.name w) (record (model image.name w).store { regions = map (seen image.name) w.heap ++ Some (record { parent = p; objects = [] }) ∷ [] })))) (sym (length_seen image.name w.heap))
       (does_heap w heap1 (map (seen image.name) w.heap ++ Some (record { parent = p; objects = [] }) ∷ []) (Gives handles) (Handle (length w.heap)) (sym (map_append image.name w.heap (new_region p)))
-      (reaches_heap w heap1 good (sound_made image.watching w.heap p good.sound l) (record { regions = every_append (RegionIsTyped image.code heap1) w.heap (new_region p ∷ []) (regions_grow image w.heap heap1 w.heap grows good.typed.regions) (tt, tt) }) grows (as_fresh_made w.heap (new_region p) w.waiting good.waiting))
+      (reaches_heap w heap1 good (sound_made image.watching w.heap p good.sound l) (record { regions = every_append (RegionIsTyped image heap1) w.heap (new_region p ∷ []) (regions_grow image w.heap heap1 w.heap grows good.typed.regions) (tt, tt) }) grows (as_fresh_made w.heap (new_region p) w.waiting good.waiting))
       (record { suits = last w.heap })))
     where
       heap1 : Heap
@@ -214,7 +217,7 @@ module _ (image : Compared) where
       subst (λ n. Does image w (Gives (pointers t)) (Go (there (length (objects w.heap r))) (with_heap w heap1)) (Go (there n) (with_store (model image.name w) (with_objects_in (model image.name w).store r new')))) (sym (ap length (in_view image.name w r l) ∙ length_renamed image.name (objects w.heap r)))
       (does_heap w heap1 (with_objects_in (model image.name w).store r new').regions (Gives (pointers t)) (there (length (objects w.heap r))) (sym (changed_seen image.name w.heap r new new' (λ os. appended_renamed image.name made_object os ∙ ap (λ x. map (renamed image.name) os ++ x ∷ []) (blank_renamed image.name (layout_at image.code t) (unsigned_abs count)))))
       (reaches_heap w heap1 good sound (record { regions = typed }) grows (as_fresh_lives w.heap heap1 (same_lives w.heap r new) w.waiting))
-      (record { suits = is_there w.heap r l }))))
+      (record { suits = record { count = unsigned_abs count; there = is_there w.heap r l; within = omega arith } }))))
     where
       made_object : Object
       made_object = blank (layout_at image.code t) (unsigned_abs count)
@@ -232,15 +235,15 @@ module _ (image : Compared) where
       heap1 = with_objects w.heap r new
 
       grows : Grows w.heap heap1
-      grows = grows_update w.heap r (λ g. record g { objects = new g.objects }) (λ o layout e. object_appended (objects w.heap r) made_object o layout e)
+      grows = grows_update w.heap r (λ g. record g { objects = new g.objects }) (λ o shape e. object_appended (objects w.heap r) made_object o shape e)
 
       sound : IsSoundBy image.watching heap1
       sound = sound_appended image.watching w.heap r (layout_at image.code t) (unsigned_abs count) good.sound l
 
-      typed : Every (RegionIsTyped image.code heap1) heap1
-      typed = every_update (RegionIsTyped image.code heap1) w.heap r _ no_region (λ g same old. every_append (ObjectIsTyped image.code heap1) g.objects (made_object ∷ []) old (blank_is_typed image heap1 (layout_at image.code t) (unsigned_abs count), tt)) (regions_grow image w.heap heap1 w.heap grows good.typed.regions)
+      typed : Every (RegionIsTyped image heap1) heap1
+      typed = every_update (RegionIsTyped image heap1) w.heap r _ no_region (λ g same old. every_append (ObjectIsTyped image heap1) g.objects (made_object ∷ []) old (blank_is_typed image heap1 (layout_at image.code t) (unsigned_abs count), tt)) (regions_grow image w.heap heap1 w.heap grows good.typed.regions)
 
-      is_there : (heap : Heap) (r : ℕ) → live heap r ≡ true → layout_there (with_objects heap r new) r (length (objects heap r)) ≡ Some (layout_at image.code t)
+      is_there : (heap : Heap) (r : ℕ) → live heap r ≡ true → shape_there (with_objects heap r new) r (length (objects heap r)) ≡ Some (shape_of made_object)
       is_there [] r l = cc
       is_there (g ∷ heap) zero l = last_there g.objects made_object
       is_there (g ∷ heap) (suc r) l = is_there heap r l
@@ -253,10 +256,10 @@ module _ (image : Compared) where
       → Does image {A = Unit {0}} w (λ _ w1. Unit {0}) (Go tt (with_heap w (killed w.heap r))) (Go tt (with_store (model image.name w) (record (model image.name w).store { regions = update (model image.name w).store.regions r (λ _. None) })))
   kills b is r w good sound fresh =
       let heap1 = killed w.heap r in
-      let grows : Grows w.heap heap1 = grows_update w.heap r (λ g. record g { alive = false }) (λ o layout e. e) in
+      let grows : Grows w.heap heap1 = grows_update w.heap r (λ g. record g { alive = false }) (λ o shape e. e) in
       does_heap {A = Unit {0}} w heap1 _ (λ _ w1. Unit {0}) (tt {0}) (sym (killed_seen image.name w.heap r))
       (reaches_heap w heap1 good (subst (λ b. IsSoundBy b heap1) is sound)
-      (record { regions = every_update (RegionIsTyped image.code heap1) w.heap r _ no_region (λ g same old. old) (regions_grow image w.heap heap1 w.heap grows good.typed.regions) })
+      (record { regions = every_update (RegionIsTyped image heap1) w.heap r _ no_region (λ g same old. old) (regions_grow image w.heap heap1 w.heap grows good.typed.regions) })
       grows fresh) (tt {0})
 
   deleted_does : (b : Bool) → b ≡ image.watching → (line : ℕ) (held : List Value) (r : ℕ) (w : World) → Good image w → IsSoundBy b w.heap → Does image w Any (deleted_by b image.name line held r w) (deleted_in line held r (model image.name w))
@@ -284,11 +287,11 @@ module _ (image : Compared) where
 
   -- values that are pinned while a function runs
   pub enter_good : (held : List Value) (w : World) → Good image w → Every (IsMade w.heap) held → Good image (source.enter held w)
-  enter_good held w good all = record { sound = good.sound; typed = good.typed; globals = good.globals; waiting = every_append (IsMade w.heap) held w.waiting all good.waiting }
+  enter_good held w good all = record { sound = good.sound; typed = good.typed; globals = good.globals; waiting = every_append (IsMade w.heap) held w.waiting all good.waiting; input = good.input }
 
   pub leave_reaches : (held : List Value) (w w1 : World) → Reaches image (source.enter held w) w1 → Reaches image w (source.leave w w1)
   leave_reaches held w w1 a = record {
-    good = record { sound = a.good.sound; typed = a.good.typed; globals = a.good.globals; waiting = (every_split (IsMade w1.heap) held w.waiting (subst (Every (IsMade w1.heap)) a.waits a.good.waiting)).1 };
+    good = record { sound = a.good.sound; typed = a.good.typed; globals = a.good.globals; waiting = (every_split (IsMade w1.heap) held w.waiting (subst (Every (IsMade w1.heap)) a.waits a.good.waiting)).1; input = a.good.input };
     grows = a.grows;
     waits = refl;
     fresh = (every_split (AsFresh w.heap w1.heap) held w.waiting a.fresh).1;
@@ -298,14 +301,20 @@ module _ (image : Compared) where
   leave_law held w w1 a = ap (λ ps. with_store (model image.name w1) (record (model image.name w1).store { pins = ps })) (sym (filter_same (is_fresh (live w1.heap)) (is_fresh (live w.heap)) w.waiting (every_split (AsFresh w.heap w1.heap) held w.waiting a.fresh).1))
 
   -- a pointer step stays in its object
-  pub step_does : (line t : ℕ) (v : Value) (n : ℤ) (w : World) → Good image w → HasKind image.code w.heap (pointers t) v → Does image w (Gives (pointers t)) (source.step line v n w) ((naming image.name).step line v n (model image.name w))
+  pub step_does : (line t : ℕ) (v : Value) (n : ℤ) (w : World) → Good image w → HasKind image w.heap (pointers t) v → Does image w (Gives (pointers t)) (source.step line v n w) ((naming image.name).step line v n (model image.name w))
   step_does line t v n w good is = does_address image line v w (Gives (pointers t)) _ _ (λ a p.
       does_touching image w (Gives (pointers t)) (lives (model image.name w).store a.region) (live w.heap a.region) line _ _ (lives_same image.name w a.region) (λ l.
       does_tested image w (Gives (pointers t)) _ (is_index (pos a.index +ℤ n) (suc (object_at w.heap a.region a.object).count)) Bounds line _ _ (ap (λ os. is_index (pos a.index +ℤ n) (suc (get_or os a.object no_object).count)) (in_view image.name w a.region l) ∙ ap (λ m. is_index (pos a.index +ℤ n) (suc m)) (counts_renamed image.name (objects w.heap a.region) a.object)) (λ e.
-      does_go image w w (Gives (pointers t)) (Pointer (record a { index = unsigned_abs (pos a.index +ℤ n) })) (reaches_itself image w good) (record { suits = (subst (HasKind image.code w.heap (pointers t)) p is).suits }))))
+      does_go image w w (Gives (pointers t)) (Pointer (record a { index = unsigned_abs (pos a.index +ℤ n) })) (reaches_itself image w good) (record { suits = moved a (subst (HasKind image w.heap (pointers t)) p is).suits e }))))
+    where
+      moved : (a : Address) → LeadsTo w.heap (layout_at image.code t) a → is_index (pos a.index +ℤ n) (suc (object_at w.heap a.region a.object).count) ≡ true → LeadsTo w.heap (layout_at image.code t) (record a { index = unsigned_abs (pos a.index +ℤ n) })
+      moved a to e =
+          let counts : (object_at w.heap a.region a.object).count ≡ to.count = ap (λ (s : Shape). s.count) (shape_is w.heap a.region a.object _ to.there) in
+          let below = index_is_below (pos a.index +ℤ n) (suc (object_at w.heap a.region a.object).count) e in
+          record { count = to.count; there = to.there; within = omega (arith, counts, below) }
 
   -- a read gives what is of the cell's kind
-  pub load_does : (line : ℕ) (x : Target) (k : Kind) (w : World) → Good image w → ((a : Address) (spot : Spot) → IsSpot image w x a spot → HasKind image.code w.heap k (first_of (values_from w.heap spot 1)))
+  pub load_does : (line : ℕ) (x : Target) (k : Kind) (w : World) → Good image w → ((a : Address) (spot : Spot) → IsSpot image w x a spot → HasKind image w.heap k (first_of (values_from w.heap spot 1)))
       → Does image w (Gives k) (source.load line x w) ((naming image.name).load line x (model image.name w))
   load_does line x k w good each = does_spot image line x w (Gives k) (λ spot. Go (first_of (values_from w.heap spot 1)) w) (λ spot. Go (value_in (model image.name w).store spot) (model image.name w)) (λ a spot is.
       let reached : Reaches image w w × Gives k (first_of (values_from w.heap spot 1)) w = (reaches_itself image w good, each a spot is) in
@@ -323,7 +332,7 @@ module _ (image : Compared) where
   sound_written false x v w a spot tree is fresh fit = tree_changed w.heap spot.region _ tree
 
   -- a write of what is of the cell's kind
-  writes : (x : Target) (v : Value) (w : World) → Good image w → (a : Address) (spot : Spot) → IsSpot image w x a spot → Stored image.code w.heap (get_or (object_of w.heap spot).layout spot.cell int_cell) v
+  writes : (x : Target) (v : Value) (w : World) → Good image w → (a : Address) (spot : Spot) → IsSpot image w x a spot → Stored image w.heap (get_or (object_of w.heap spot).layout spot.cell int_cell) v
       → IsFresh (live w.heap) v → IsSoundBy image.watching (written spot (v ∷ []) w.heap)
       → Does image {A = Unit {0}} w (λ _ w1. Unit {0}) (Go tt (with_heap w (written spot (v ∷ []) w.heap))) (Go tt (with_store (model image.name w) (put_in spot v (model image.name w).store)))
   writes x v w good a spot is suits fresh sound =
@@ -347,26 +356,26 @@ module _ (image : Compared) where
       change x = record x { values = overwritten (place_of x spot) (take (length x.layout - spot.cell) (v ∷ [])) x.values }
 
       grows : Grows w.heap heap1
-      grows = grows_update w.heap spot.region (λ g. record g { objects = update g.objects spot.object change }) (λ i layout e. object_updated (objects w.heap spot.region) spot.object change (λ x. refl) i layout e)
+      grows = grows_update w.heap spot.region (λ g. record g { objects = update g.objects spot.object change }) (λ i shape e. object_updated (objects w.heap spot.region) spot.object change (λ x. refl) i shape e)
 
       Front : Object → Type 0
-      Front x = FrontZip (Stored image.code heap1) (drop (place_of x spot) (kinds_of x)) (take (length x.layout - spot.cell) (v ∷ []))
+      Front x = FrontZip (Stored image heap1) (drop (place_of x spot) (kinds_of x)) (take (length x.layout - spot.cell) (v ∷ []))
 
       front : Front o
-      front = element_front (Stored image.code heap1) o.layout o.count spot.element spot.cell (v ∷ []) below (front_one (Stored image.code heap1) o.layout spot.cell v (suits_grow image w.heap heap1 grows _ v suits))
+      front = element_front (Stored image heap1) o.layout o.count spot.element spot.cell (v ∷ []) below (front_one (Stored image heap1) o.layout spot.cell v (keeps_grow image w.heap heap1 grows _ v suits))
 
-      typed : Every (RegionIsTyped image.code heap1) heap1
-      typed = every_update (RegionIsTyped image.code heap1) w.heap spot.region _ no_region (λ g same old.
-          every_update (ObjectIsTyped image.code heap1) g.objects spot.object change no_object (λ x same2 old2.
-          overwritten_zip (Stored image.code heap1) (place_of x spot) _ _ x.values old2 (subst Front (sym (same2 ∙ ap (λ (g : Region). get_or g.objects spot.object no_object) same)) front)) old)
+      typed : Every (RegionIsTyped image heap1) heap1
+      typed = every_update (RegionIsTyped image heap1) w.heap spot.region _ no_region (λ g same old.
+          every_update (ObjectIsTyped image heap1) g.objects spot.object change no_object (λ x same2 old2.
+          overwritten_zip (Stored image heap1) (place_of x spot) _ _ x.values old2 (subst Front (sym (same2 ∙ ap (λ (g : Region). get_or g.objects spot.object no_object) same)) front)) old)
           (regions_grow image w.heap heap1 w.heap grows good.typed.regions)
 
   -- the two checks in turn
-  pub store_does : (line : ℕ) (x : Target) (v : Value) (w : World) → Good image w → ((a : Address) (spot : Spot) → IsSpot image w x a spot → Stored image.code w.heap (get_or (object_of w.heap spot).layout spot.cell int_cell) v)
+  pub store_does : (line : ℕ) (x : Target) (v : Value) (w : World) → Good image w → ((a : Address) (spot : Spot) → IsSpot image w x a spot → Stored image w.heap (get_or (object_of w.heap spot).layout spot.cell int_cell) v)
       → Does image w Any (source.store line x v w) ((naming image.name).store line x v (model image.name w))
   store_does line x v w good each = does_spot image line x w Any _ _ (λ a spot is. at a spot is (each a spot is))
     where
-      at : (a : Address) (spot : Spot) → IsSpot image w x a spot → Stored image.code w.heap (get_or (object_of w.heap spot).layout spot.cell int_cell) v
+      at : (a : Address) (spot : Spot) → IsSpot image w x a spot → Stored image w.heap (get_or (object_of w.heap spot).layout spot.cell int_cell) v
           → Does image w Any
           (touching (list_all (is_fresh (live w.heap)) (v ∷ [])) line w (fitting w.heap spot.region line (notes_from w.heap spot) (v ∷ []) w (Go tt (with_heap w (written spot (v ∷ []) w.heap)))))
           (touching (is_fresh (lives (model image.name w).store) v) line (model image.name w) (tested (fits (parent_in (model image.name w).store) (note_of (kind_in (model image.name w).store spot)) spot.region v) (unfit (note_of (kind_in (model image.name w).store spot))) line (model image.name w) (Go tt (with_store (model image.name w) (put_in spot v (model image.name w).store)))))
@@ -383,7 +392,7 @@ module _ (image : Compared) where
           writes x v w good a spot is suits (sym (and_true (is_fresh (live w.heap) v)) ∙ fresh) (sound_written image.watching x v w a spot good.sound is (sym (and_true (is_fresh (live w.heap) v)) ∙ fresh) fit)))))
 
   -- without the check over the store: where it fails over the source's world, nothing is said
-  pub put_does : (b : Bool) → b ≡ image.watching → (proved : Bool) → (proved ≡ true → image.marked ≡ true) → (line : ℕ) (x : Target) (v : Value) (w : World) → Good image w → ((a : Address) (spot : Spot) → IsSpot image w x a spot → Stored image.code w.heap (get_or (object_of w.heap spot).layout spot.cell int_cell) v)
+  pub put_does : (b : Bool) → b ≡ image.watching → (proved : Bool) → (proved ≡ true → image.marked ≡ true) → (line : ℕ) (x : Target) (v : Value) (w : World) → Good image w → ((a : Address) (spot : Spot) → IsSpot image w x a spot → Stored image w.heap (get_or (object_of w.heap spot).layout spot.cell int_cell) v)
       → Does image w Any (put_by b proved line x v w) (stored_in proved line x v (model image.name w))
   put_does true watching false marked line x v w good each = store_does line x v w good each
   put_does false watching false marked line x v w good each = store_does line x v w good each

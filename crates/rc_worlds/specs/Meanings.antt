@@ -1,10 +1,15 @@
 -- What an image does over the source's world. Its first world has region 0 alone, with the image's globals.
 use Rattle.std.specs.Prelude.{◌≡◌, ◌≢◌, ℕ, Bool, true, false, List, [], ◌∷◌}
+use Rattle.std.specs.List.{AllByRecursion as Every}
 use Rattle.rc_base.specs.declared.ends.Limits.{Limits}
+use Rattle.rc_core.specs.Numbers.{IsByte}
 use Rattle.rc_core.specs.Heap.{Value}
 use Rattle.rc_core.specs.Meaning.{Meaning, meaning_of_run, left_by_run}
 use Rattle.rc_core.specs.Runs.{Run, Stale}
 use Rattle.rc_core.specs.Source.{World}
+use Rattle.rc_code.specs.declared.image.Initial.{Initial}
+use Rattle.rc_code.specs.declared.image.Initial.TheVariants as initial
+use Rattle.rc_code.specs.declared.image.Global.{Global}
 use Rattle.rc_code.specs.declared.image.Parts.{Parts}
 use Rattle.rc_code.specs.Running.{Reading, reading_of, run_main}
 use Rattle.rc_code.specs.ImageMeaning.{first_objects, image_meaning, image_left}
@@ -24,10 +29,19 @@ image_world image input limits = record {
 -- an image as it is written: where the run over the source's world looks at each cell at a deletion and makes each check, and
 -- where it counts and trusts the marks
 abbrev pub looking : (marked : Bool) → Parts → Compared
-looking marked parts = record { code = reading_of parts; marked = marked; name = λ ty. ty; watching = true }
+looking marked parts = record { code = reading_of parts; marked = marked; name = λ ty. ty; watching = true; ranged = false }
 
-abbrev pub counting : Parts → Compared
-counting parts = record { code = reading_of parts; marked = true; name = λ ty. ty; watching = false }
+abbrev pub counting : (ranged : Bool) → Parts → Compared
+counting ranged parts = record { code = reading_of parts; marked = true; name = λ ty. ty; watching = false; ranged = ranged }
+
+-- each byte that a global begins with is one
+abbrev pub AreBytes : Initial → Type 0
+AreBytes initial.Zeros = Unit {0}
+AreBytes (initial.Number n) = Unit {0}
+AreBytes (initial.Bytes bytes) = Every IsByte bytes
+
+abbrev pub GlobalsHaveBytes : Parts → Type 0
+GlobalsHaveBytes parts = Every (λ (g : Global). AreBytes g.initial) parts.globals
 
 abbrev pub world_run : Compared → (input : List ℕ) → Limits → Run World Value
 world_run image input limits = run_main (watched image) image.code (image_world image.code input limits)

@@ -9,19 +9,21 @@ use Rattle.rc_core.specs.Types.{Ty, CellKind, int_cell, unsigned_cell, char_cell
 use Rattle.rc_core.specs.Layout.{note_of}
 use Rattle.rc_core.specs.Heap.{Value, Object, Region, is_fresh, fits, live, parent}
 use Rattle.rc_core.specs.Store.{View, refs}
-use Rattle.rc_core.specs.Runs.{Run, Go, tested, touching, Target, Ops}
+use Rattle.rc_core.specs.Runs.{Run, Go, Stopped, tested, touching, Target, Ops}
 use Rattle.rc_core.specs.Source.{World, with_heap, object_of, at_region, at_spot, written, has_child, killed, deleted, source}
-use Rattle.rc_code.specs.Running.{Reading, Doing}
+use Rattle.rc_code.specs.Running.{Reading, Doing, pointee}
 use Rattle.rc_code.specs.StoreModel.{Held, store_model, stored_in}
 
 -- An image of which the run over the source's world and that over the store are compared. `marked` says whether a store may have
 -- the mark, `name` by what name the store keeps a type, and `watching` whether the run over the source's world looks and checks,
--- or counts and trusts the marks.
+-- or counts and trusts the marks. `ranged` says whether each byte that a run is given is one: those of the input, and those that
+-- a global begins with.
 pub record Compared : Type 0 where
   pub code : Reading
   pub marked : Bool
   pub name : Ty → Ty
   pub watching : Bool
+  pub ranged : Bool
 
 -- the source's world as that of a store: the views of live regions, and the waiting values that name none that is dead; a
 -- layout names its pointers' types as the image does
@@ -92,3 +94,12 @@ watched image = record { ops = record source { delete = delete_by image }; put =
 
 abbrev pub trusting : (Ty → Ty) → Doing Held
 trusting name = record { ops = naming name; put = stored_in }
+
+-- a run in the source's world, as the store has it
+abbrev pub mapped : Compared → {A : Type 0} → Run World A → Run Held A
+mapped image (Go x w) = Go x (model image.name w)
+mapped image (Stopped s w) = Stopped s (model image.name w)
+
+-- the image as it is written, with its own layouts, whose cells name types by number
+abbrev pub own : Compared → Compared
+own image = record image { code = record image.code { layouts = map (map (named_cell image.name)) image.code.layouts; numbered = pointee } }

@@ -1,0 +1,55 @@
+// Rows, read from the text of a file.
+use crate::hex::push_hex;
+use crate::row::Row;
+use std::alloc::Global;
+use std::io::{self, ErrorKind};
+
+fn unread<T>() -> io::Result<T> {
+    Err(io::Error::from(ErrorKind::InvalidData))
+}
+
+/// Takes what a key gives.
+fn take(alloc: Global, row: &mut Row, key: &str, value: &str) -> io::Result<()> {
+    match key {
+        "image" => push_hex(&mut row.image, value),
+        "written" => push_hex(&mut row.written, value),
+        "answer" => {
+            row.answer = String::from_str(alloc, value)?;
+            Ok(())
+        }
+        "list" => {
+            row.listing.push_str(value)?;
+            row.listing.push('\n')?;
+            Ok(())
+        }
+        _ => unread(),
+    }
+}
+
+/// Takes a line: it begins a row, or says something of the last one.
+fn take_line(alloc: Global, rows: &mut Vec<Row>, line: &str) -> io::Result<()> {
+    if line.is_empty() || line.starts_with('#') {
+        return Ok(());
+    }
+    let (key, value) = line.split_once(' ').unwrap_or((line, ""));
+    if key == "row" {
+        rows.push(Row::new(alloc, value)?)?;
+        return Ok(());
+    }
+    match rows.as_mut_slice() {
+        [.., row] => take(alloc, row, key, value),
+        [] => unread(),
+    }
+}
+
+/// The rows of a file's text. A line that can't be read is printed, and is an error.
+pub(crate) fn rows_of(rt: &HostRuntime, file: &str, text: &str) -> io::Result<Vec<Row>> {
+    let mut rows = Vec::new(rt.alloc());
+    for (before, line) in text.split('\n').enumerate() {
+        if let Err(error) = take_line(rt.alloc(), &mut rows, line) {
+            println!(rt; "{file}: cannot read {line:?}, which stands after {before} lines")?;
+            return Err(error);
+        }
+    }
+    Ok(rows)
+}

@@ -1,0 +1,5 @@
+pub mod Rows
+pub mod Sounds
+pub mod TypesNamed
+pub mod Fields
+pub mod Marks

@@ -1,0 +1,4 @@
+pub mod Operands
+pub mod Firsts
+pub mod Marks
+pub mod Deciding

@@ -1,0 +1,10 @@
+use Rattle.std.proofs.Common.{◌≡◌, map, length}
+use Rattle.rc_code.specs.Soundness.{kind_of}
+use Rattle.rc_loader.specs.Decisions.{same_kinds}
+use Rattle.rc_loader.proofs.taken.are_values.Given as goal
+
+abbrev pub invariant-loop-rest : goal.invariant-loop-rest
+invariant-loop-rest l = same_kinds (map kind_of l.rest) (map kind_of l.left) ≡ same_kinds (map kind_of l.operands) (map kind_of l.wanted)
+
+abbrev pub decreases-loop-rest : goal.decreases-loop-rest
+decreases-loop-rest l = length l.rest

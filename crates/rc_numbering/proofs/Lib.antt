@@ -1,0 +1,9 @@
+pub mod Kept
+pub mod Same
+pub mod Lines
+pub mod Placed
+pub mod Said
+pub mod Tabled
+pub mod Rights
+pub mod SourceWaits
+pub mod Programs
