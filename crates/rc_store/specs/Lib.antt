@@ -2,3 +2,4 @@ pub mod Values
 pub mod Kept
 pub mod Stores
 pub mod Laws
+pub mod Sets

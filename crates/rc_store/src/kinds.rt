@@ -37,7 +37,7 @@ pub fn is_counted(kind: Kind) -> bool
 }
 
 /// What a cell holds, without what a pointer points to.
-fn kind_of(kind: &CellKind) -> Kind
+pub fn kind_of(kind: &CellKind) -> Kind
     ensures { result ≡ kind_of (cell_kind_of kind.now) }
 {
     match kind {

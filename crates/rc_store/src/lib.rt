@@ -9,9 +9,11 @@ mod heap;
 mod kinds;
 mod laws;
 mod pins;
+mod set_heap;
 
 pub use cell::{Cell, Denied, MakeFault, Place, Pointer};
 pub use heap::Heap;
-pub use kinds::{blank_of, is_counted, kinds_of};
+pub use kinds::{blank_of, is_counted, kind_of, kinds_of};
 pub use laws::a_heap_keeps_the_store;
 pub use pins::Pins;
+pub use set_heap::SetHeap;

@@ -64,6 +64,20 @@ impl Pins {
         }
     }
 
+    /// How many there are.
+    pub fn len(&self) -> u64
+        ensures { result ≡ length self.now.pins }
+    {
+        self.cells.len() as u64
+    }
+
+    /// How many more have room.
+    pub fn spare(&self) -> u64
+        ensures { result ≡ self.now.spare }
+    {
+        self.spare
+    }
+
     /// Makes room for so many more.
     ///
     /// # Errors
@@ -72,6 +86,7 @@ impl Pins {
     pub fn reserve(&mut self, n: u32) -> Result<(), NoMemory>
         ensures ok { OnOk result (n ≤ self.new.spare) }
         ensures more { self.old.spare ≤ self.new.spare }
+        ensures most { self.new.spare ≤ self.old.spare + n }
         ensures pins { self.new.pins ≡ self.old.pins }
     {
         if n as u64 <= self.spare {

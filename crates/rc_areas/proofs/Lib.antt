@@ -1,0 +1,4 @@
+pub mod Cells
+pub mod Objects
+pub mod Pushed
+pub mod Same

@@ -1,0 +1,193 @@
+// The objects of a region.
+ghost use Rattle.std.specs.Prelude.{◌≡◌, ◌<◌, ◌+◌, ◌*◌, ◌≤◌, ◌++◌, ◌∷◌, [], length, IsTrue, IfOk, OnOk, OnErr, slice_index, slice_index_or};
+ghost use Rattle.rc_core.specs.declared.layouts.Kind.TheVariants.{Number as NumberKind};
+ghost use Rattle.rc_store.specs.Kept.{blank};
+ghost use Rattle.rc_store.specs.Stores.{HasCell, cell_place, cell_value, no_object, objects_with};
+ghost use Rattle.rc_store.specs.Values.{suits, value_of};
+ghost use Rattle.rc_areas.specs.Areas.{IsLaid, IsPlace, objects_of};
+
+use crate::head::Head;
+use crate::shapes::{Shapes, kind_at};
+use rc_base::{NoMemory, Steps};
+use rc_cells::{decode, encode};
+use rc_pages::{Bank, Pages};
+use rc_store::Cell;
+use std::alloc::Global;
+use std::marker::Model;
+use std::mem;
+use std::sync::ledger::Ledger;
+
+/// The objects of a region, in the order in which they were made. Contracts see what is kept of each
+/// and the codes of all cells; with the shapes, `specs/Areas.antt` says which objects these are.
+#[derive(Drop)]
+pub struct Area {
+    heads: Vec<Head>,
+    cells: Pages,
+}
+
+impl Model for Area {
+    ghost use Rattle.std.specs.Prelude.{◌≤◌, length};
+    ghost use Rattle.rc_areas.specs.Areas.{AreaState};
+
+    ghost Value = { AreaState };
+
+    ghost view = { λ a. record { heads = a.heads.items; codes = a.cells } };
+
+    ghost invariant = { λ a. length a.cells ≤ 18446744073709551615 };
+}
+
+/// How many cells so many elements have.
+fn cells_of(count: u32, width: usize) -> Result<u64, NoMemory>
+    ensures { IfOk result (λ n. n ≡ count * width) }
+{
+    match (count as u64).checked_mul(width as u64) {
+        Some(cells) => Ok(cells),
+        None => Err(NoMemory),
+    }
+}
+
+impl Area {
+    /// No object. It takes no memory.
+    pub fn new(alloc: Global) -> Area
+        ensures { result ≡ record { heads = []; codes = [] } }
+    {
+        Area {
+            heads: Vec::new(alloc),
+            cells: Pages::new(alloc),
+        }
+    }
+
+    /// How many objects there are.
+    pub fn len(&self) -> usize
+        ensures { result ≡ length self.now.heads }
+    {
+        self.heads.len()
+    }
+
+    /// How many cells they have together.
+    pub fn size(&self) -> u64
+        ensures { result ≡ length self.now.codes }
+    {
+        self.cells.len()
+    }
+
+    /// How many elements an object has.
+    pub fn count(&self, object: u32, shapes: &Shapes) -> u32
+        requires laid { IsLaid shapes.now self.now }
+        requires object { object < length self.now.heads }
+        ensures { result ≡ (slice_index_or (objects_of shapes.now self.now) object no_object).count }
+    {
+        self.heads[object as usize].count
+    }
+
+    /// Where a cell stands among all.
+    fn place(&self, object: u32, index: u32, cell: u32, shapes: &Shapes) -> u64
+        requires laid { IsLaid shapes.now self.now }
+        requires object { object < length self.now.heads }
+        requires cell { HasCell (slice_index_or (objects_of shapes.now self.now) object no_object) index cell }
+        ensures { IsPlace shapes.now self.now object index cell result }
+    {
+        let head = self.heads[object as usize];
+        let width = shapes.get(head.shape).len();
+        head.start + index as u64 * width as u64 + cell as u64
+    }
+
+    /// The value of a cell.
+    pub fn get<L: Ledger>(
+        &self,
+        object: u32,
+        index: u32,
+        cell: u32,
+        shapes: &Shapes,
+        steps: &mut Steps<L>,
+    ) -> Cell
+        requires laid { IsLaid shapes.now self.now }
+        requires object { object < length self.now.heads }
+        requires cell { HasCell (slice_index_or (objects_of shapes.now self.now) object no_object) index cell }
+        ensures value { value_of result ≡ cell_value (slice_index_or (objects_of shapes.now self.now) object no_object) index cell }
+        ensures step { steps.new ≡ steps.old + 1 }
+    {
+        let place = self.place(object, index, cell, shapes);
+        let head = self.heads[object as usize];
+        let kind = kind_at(shapes.get(head.shape), cell as usize);
+        decode(kind, self.cells.get(place, steps))
+    }
+
+    /// Writes a cell. The value is one of those that the cell may hold.
+    pub fn set(&mut self, object: u32, index: u32, cell: u32, value: Cell, shapes: &Shapes)
+        requires laid { IsLaid shapes.now self.old }
+        requires object { object < length self.old.heads }
+        requires cell { HasCell (slice_index_or (objects_of shapes.now self.old) object no_object) index cell }
+        requires suits { IsTrue (suits (slice_index_or (slice_index_or (objects_of shapes.now self.old) object no_object).kinds (cell_place (slice_index_or (objects_of shapes.now self.old) object no_object) index cell) NumberKind) (value_of value)) }
+        ensures laid { IsLaid shapes.now self.new }
+        ensures written { objects_of shapes.now self.new ≡ objects_with object index cell (value_of value) (objects_of shapes.now self.old) }
+    {
+        let place = self.place(object, index, cell, shapes);
+        self.cells.set(place, encode(value));
+    }
+
+    /// Appends an object of so many elements of a shape, all zero or null. Pages come out of the bank
+    /// as far as it has some.
+    ///
+    /// # Errors
+    ///
+    /// Out of memory: the objects are as before.
+    pub fn push(
+        &mut self,
+        shape: u32,
+        count: u32,
+        shapes: &Shapes,
+        bank: &mut Bank,
+    ) -> Result<(), NoMemory>
+        requires laid { IsLaid shapes.now self.old }
+        requires shape { shape < length shapes.now }
+        ensures laid { IsLaid shapes.now self.new }
+        ensures ok { OnOk result (objects_of shapes.now self.new ≡ objects_of shapes.now self.old ++ blank (slice_index_or shapes.now shape []) count ∷ []) }
+        ensures err { OnErr result (self.new ≡ self.old) }
+    {
+        let size = cells_of(count, shapes.get(shape).len())?;
+        let start = self.cells.len();
+        if start.checked_add(size).is_none() {
+            return Err(NoMemory);
+        }
+        match self.heads.reserve(1) {
+            Ok(()) => {}
+            Err(_) => return Err(NoMemory),
+        }
+        self.cells.push_zeros(size, bank)?;
+        self.heads
+            .push(Head {
+                start,
+                count,
+                shape,
+            })
+            .unwrap();
+        Ok(())
+    }
+
+    /// What is kept of each object.
+    pub fn heads(&self) -> &[Head]
+        ensures { result.now ≡ self.now.heads }
+    {
+        self.heads.as_slice()
+    }
+
+    /// The code of a cell, by its place among all.
+    pub fn code<L: Ledger>(&self, place: u64, steps: &mut Steps<L>) -> u128
+        requires { place < length self.now.codes }
+        ensures code { result ≡ slice_index self.now.codes place }
+        ensures step { steps.new ≡ steps.old + 1 }
+    {
+        self.cells.get(place, steps)
+    }
+
+    /// Lets all objects go. Their pages go to the bank as far as it has free places. It takes no
+    /// memory.
+    pub fn clear(&mut self, alloc: Global, bank: &mut Bank)
+        ensures { self.new ≡ record { heads = []; codes = [] } }
+    {
+        let cells = mem::replace(&mut self.cells, Pages::new(alloc));
+        cells.give_back(bank);
+        self.heads.clear();
+    }
+}

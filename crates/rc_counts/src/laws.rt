@@ -1,0 +1,10 @@
+// The references to a region after each call.
+ghost use Rattle.rc_counts.specs.Follow.{ReferencesFollow};
+
+/// A new region and a new object change no references. A write takes one reference from the region
+/// that the old value names and gives one to that of the new value, where the cell counts and lies in
+/// another region. A deletion takes those that the region's cells have. There are never more than all
+/// cells and pins.
+pub fn references_follow()
+    ensures { ReferencesFollow }
+{}

@@ -1,0 +1,27 @@
+-- What a directory has of regions, by their numbers: an entry of each live one, and none of a dead one. The list is as long as
+-- regions were made.
+use Rattle.std.specs.Prelude.{ℕ, ◌+◌, ◌-◌, Bool, true, false, IsTrue, List, Option, Some, None, slice_index_or, option_map}
+use Rattle.rc_slots.specs.declared.entry.Entry.{Entry}
+
+abbrev pub is_entry : Option Entry → Bool
+is_entry None = false
+is_entry (Some e) = true
+
+abbrev pub IsEntry : Option Entry → Type 0
+IsEntry e = IsTrue (is_entry e)
+
+abbrev pub counted : Option Entry → ℕ
+counted None = 0
+counted (Some e) = e.count
+
+abbrev pub with_count : (ℕ → ℕ) → Entry → Entry
+with_count change e = record e { count = change e.count }
+
+abbrev pub raised : Option Entry → Option Entry
+raised e = option_map (with_count (λ n. n + 1)) e
+
+abbrev pub lowered : Option Entry → Option Entry
+lowered e = option_map (with_count (λ n. n - 1)) e
+
+abbrev pub entry_at : List (Option Entry) → ℕ → Option Entry
+entry_at entries number = slice_index_or entries number None

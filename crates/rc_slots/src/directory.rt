@@ -1,0 +1,218 @@
+// The directory.
+ghost use Rattle.std.specs.Prelude.{◌≡◌, ◌<◌, ◌≤◌, ◌+◌, ◌/◌, ◌++◌, ◌∷◌, [], None, Some, length, slice_set, IsTrue, OnOk, OnErr};
+ghost use Rattle.rc_slots.specs.Entries.{IsEntry, counted, entry_at, lowered, raised};
+ghost use Rattle.rc_slots.specs.Chunks.{AreSame, IsChanged, chunk_at, entry_in, is_chunk};
+
+use crate::chunk::{CHUNK_NUMBERS, Chunk};
+use crate::entry::Entry;
+use rc_base::NoMemory;
+use std::alloc::Global;
+use std::marker::Model;
+
+/// What is kept of each live region, by its number: regions count from 0 in the order in which they
+/// are made. Contracts see a list that is as long as regions were made, with none for a dead one.
+#[derive(Drop)]
+pub struct Directory {
+    alloc: Global,
+    chunks: Vec<Option<Chunk>>,
+    len: usize,
+}
+
+impl Model for Directory {
+    ghost use Rattle.std.specs.Prelude.{List, Option};
+    ghost use Rattle.rc_slots.specs.declared.entry.Entry.{Entry as Kept};
+    ghost use Rattle.rc_slots.specs.Chunks.{Holds, entries_of};
+
+    ghost Value = { List (Option Kept) };
+
+    ghost view = { λ d. entries_of d.chunks.items d.len };
+
+    ghost invariant = { λ d. Holds d.chunks.items d.len };
+}
+
+fn entry_in(chunks: &[Option<Chunk>], number: usize) -> Option<Entry>
+    ensures { result ≡ entry_in chunks.now number }
+{
+    match chunks.get(number / CHUNK_NUMBERS) {
+        None => None,
+        Some(slot) => match slot {
+            None => None,
+            Some(chunk) => chunk.get(number % CHUNK_NUMBERS),
+        },
+    }
+}
+
+/// An entry where there was none, in a chunk that is there.
+fn fill(chunks: &mut [Option<Chunk>], number: usize, entry: Entry)
+    requires chunk { IsTrue (is_chunk (chunk_at chunks.old (number / 256))) }
+    requires none { entry_in chunks.old number ≡ None }
+    ensures { IsChanged chunks.old chunks.new number (Some entry) }
+{
+    match &mut chunks[number / CHUNK_NUMBERS] {
+        None => unreachable!(),
+        Some(chunk) => chunk.fill(number % CHUNK_NUMBERS, entry),
+    }
+}
+
+fn clear(chunks: &mut [Option<Chunk>], number: usize)
+    requires { IsEntry (entry_in chunks.old number) }
+    ensures { IsChanged chunks.old chunks.new number None }
+{
+    match &mut chunks[number / CHUNK_NUMBERS] {
+        None => unreachable!(),
+        Some(chunk) => chunk.clear(number % CHUNK_NUMBERS),
+    }
+}
+
+fn raise(chunks: &mut [Option<Chunk>], number: usize)
+    requires live { IsEntry (entry_in chunks.old number) }
+    requires few { counted (entry_in chunks.old number) < 18446744073709551615 }
+    ensures { IsChanged chunks.old chunks.new number (raised (entry_in chunks.old number)) }
+{
+    match &mut chunks[number / CHUNK_NUMBERS] {
+        None => unreachable!(),
+        Some(chunk) => chunk.raise(number % CHUNK_NUMBERS),
+    }
+}
+
+fn lower(chunks: &mut [Option<Chunk>], number: usize)
+    requires { 0 < counted (entry_in chunks.old number) }
+    ensures { IsChanged chunks.old chunks.new number (lowered (entry_in chunks.old number)) }
+{
+    match &mut chunks[number / CHUNK_NUMBERS] {
+        None => unreachable!(),
+        Some(chunk) => chunk.lower(number % CHUNK_NUMBERS),
+    }
+}
+
+/// Makes a chunk where there is none.
+fn open(alloc: Global, chunks: &mut [Option<Chunk>], index: usize) -> Result<(), NoMemory>
+    requires { index < length chunks.old }
+    ensures same { AreSame chunks.old chunks.new }
+    ensures chunk { OnOk result (IsTrue (is_chunk (chunk_at chunks.new index))) }
+{
+    if let Some(_) = &chunks[index] {
+        return Ok(());
+    }
+    chunks[index] = Some(Chunk::new(alloc)?);
+    Ok(())
+}
+
+/// Lets a chunk without an entry go.
+fn shut(chunks: &mut [Option<Chunk>], index: usize)
+    requires { index < length chunks.old }
+    ensures same { AreSame chunks.old chunks.new }
+    ensures count { length chunks.new ≡ length chunks.old }
+{
+    match &chunks[index] {
+        None => {}
+        Some(chunk) => {
+            if chunk.is_empty() {
+                chunks[index] = None;
+            }
+        }
+    }
+}
+
+/// Makes room for one number more, which is the next: its chunk is there.
+fn make_room(alloc: Global, chunks: &mut Vec<Option<Chunk>>, next: usize) -> Result<(), NoMemory>
+    requires { next / 256 ≤ length chunks.old.items }
+    ensures same { AreSame chunks.old.items chunks.new.items }
+    ensures room { OnOk result (next / 256 < length chunks.new.items) }
+    ensures chunk { OnOk result (IsTrue (is_chunk (chunk_at chunks.new.items (next / 256)))) }
+{
+    let index = next / CHUNK_NUMBERS;
+    if index == chunks.len() {
+        match chunks.push(None) {
+            Ok(()) => {}
+            Err(_) => return Err(NoMemory),
+        }
+    }
+    open(alloc, chunks, index)
+}
+
+/// Lets the chunk before the one of this number go, if it has no entry.
+fn shut_before(chunks: &mut [Option<Chunk>], number: usize)
+    requires { number / 256 ≤ length chunks.old }
+    ensures same { AreSame chunks.old chunks.new }
+    ensures count { length chunks.new ≡ length chunks.old }
+{
+    let index = number / CHUNK_NUMBERS;
+    if index > 0 {
+        shut(chunks, index - 1);
+    }
+}
+
+impl Directory {
+    /// No region was made. It takes no memory.
+    pub fn new(alloc: Global) -> Directory
+        ensures { result ≡ [] }
+    {
+        Directory {
+            alloc,
+            chunks: Vec::new(alloc),
+            len: 0,
+        }
+    }
+
+    /// How many regions were made.
+    pub fn len(&self) -> usize
+        ensures { result ≡ length self.now }
+    {
+        self.len
+    }
+
+    /// What is kept of a region, if it is live.
+    pub fn get(&self, number: u32) -> Option<Entry>
+        ensures { result ≡ entry_at self.now number }
+    {
+        entry_in(&self.chunks, number as usize)
+    }
+
+    /// One more region, at this slot, with no reference.
+    ///
+    /// # Errors
+    ///
+    /// Out of memory: nothing has changed.
+    pub fn push(&mut self, slot: u32) -> Result<(), NoMemory>
+        requires { length self.old < 4294967296 }
+        ensures ok { OnOk result (self.new ≡ self.old ++ Some (record { slot = slot; count = 0 }) ∷ []) }
+        ensures err { OnErr result (self.new ≡ self.old) }
+    {
+        shut_before(&mut self.chunks, self.len);
+        make_room(self.alloc, &mut self.chunks, self.len)?;
+        fill(&mut self.chunks, self.len, Entry { slot, count: 0 });
+        self.len += 1;
+        Ok(())
+    }
+
+    /// The region is dead from now on. Its chunk goes with it, if it has no other live region and a
+    /// chunk comes behind it.
+    pub fn clear(&mut self, number: u32)
+        requires { IsEntry (entry_at self.old number) }
+        ensures { self.new ≡ slice_set self.old number None }
+    {
+        clear(&mut self.chunks, number as usize);
+        let index = number as usize / CHUNK_NUMBERS;
+        if index + 1 < self.chunks.len() {
+            shut(&mut self.chunks, index);
+        }
+    }
+
+    /// One more reference to a live region.
+    pub fn raise(&mut self, number: u32)
+        requires live { IsEntry (entry_at self.old number) }
+        requires few { counted (entry_at self.old number) < 18446744073709551615 }
+        ensures { self.new ≡ slice_set self.old number (raised (entry_at self.old number)) }
+    {
+        raise(&mut self.chunks, number as usize);
+    }
+
+    /// One reference less to a live region.
+    pub fn lower(&mut self, number: u32)
+        requires { 0 < counted (entry_at self.old number) }
+        ensures { self.new ≡ slice_set self.old number (lowered (entry_at self.old number)) }
+    {
+        lower(&mut self.chunks, number as usize);
+    }
+}
