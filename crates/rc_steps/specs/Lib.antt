@@ -1,0 +1,5 @@
+pub mod Places
+pub mod Stands
+pub mod Leads
+pub mod Ready
+pub mod Follows
