@@ -27,7 +27,7 @@ pub fn region_code_is_numberable()
 /// In the world of the language's definition the image of a program whose parts fit together does
 /// what the program does, on every input of bytes and under all limits: the same acts in the same
 /// order, as many bytes taken, and the same end. Where it exits it leaves the same heap.
-pub fn images_mean_what_programs_mean()
+pub fn images_mean_the_same_in_the_source()
     ensures means { (program : Program) → IsWellTyped program → ViewMeansTheSame program }
     ensures leaves { (program : Program) → IsWellTyped program → ViewLeavesTheSame program }
 {}

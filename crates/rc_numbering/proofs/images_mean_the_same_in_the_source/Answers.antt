@@ -1,5 +1,5 @@
 use Rattle.rc_numbering.proofs.Programs.{view_means, view_leaves}
-use Rattle.rc_numbering.proofs.images_mean_what_programs_mean.Goals as goal
+use Rattle.rc_numbering.proofs.images_mean_the_same_in_the_source.Goals as goal
 
 pub returns-clause-means : goal.returns-clause-means
 returns-clause-means c program well = view_means program well
