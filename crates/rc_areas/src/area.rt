@@ -167,7 +167,8 @@ impl Area {
 
     /// What is kept of each object.
     pub fn heads(&self) -> &[Head]
-        ensures { result.now ≡ self.now.heads }
+        ensures heads { result.now ≡ self.now.heads }
+        ensures cells { length self.now.codes ≤ 18446744073709551615 }
     {
         self.heads.as_slice()
     }

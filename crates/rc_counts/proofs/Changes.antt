@@ -80,12 +80,12 @@ made_refs r at parent [] = ap (λ n. n + 0) (cond_zero (nat_eq at r))
 made_refs r at parent (v ∷ views) = ap (λ n. weight r at v + n) (made_refs r (suc at) parent views)
 
 -- a live region is there
-live_there : (regions : Regions) (q : ℕ) → IsTrue (S.live_in regions q) → q < length regions
+pub live_there : (regions : Regions) (q : ℕ) → IsTrue (S.live_in regions q) → q < length regions
 live_there [] q live = absurd (false≢true live)
 live_there (v ∷ views) zero live = omega arith
 live_there (v ∷ views) (suc q) live = omega (arith, live_there views q live)
 
-region_read : (regions : Regions) (q : ℕ) → region_at regions q ≡ get_or regions q None
+pub region_read : (regions : Regions) (q : ℕ) → region_at regions q ≡ get_or regions q None
 region_read [] q = refl
 region_read (v ∷ views) zero = refl
 region_read (v ∷ views) (suc q) = region_read views q
@@ -94,7 +94,7 @@ some_view : (v : Option KeptView) → IsTrue (is_view v) → v ≡ Some (or_none
 some_view None live = absurd (false≢true live)
 some_view (Some v) live = refl
 
-view_there : (regions : Regions) (q : ℕ) → IsTrue (S.live_in regions q) → get_or regions q None ≡ Some (view_in regions q)
+pub view_there : (regions : Regions) (q : ℕ) → IsTrue (S.live_in regions q) → get_or regions q None ≡ Some (view_in regions q)
 view_there regions q live = sym (region_read regions q) ∙ some_view (region_at regions q) live
 
 -- the objects of a live region change

@@ -1,5 +1,5 @@
 // The references to a region after each call.
-ghost use Rattle.rc_counts.specs.Follow.{ReferencesFollow};
+ghost use Rattle.rc_counts.specs.Follow.{CellsFollow, ReferencesFollow};
 
 /// A new region and a new object change no references. A write takes one reference from the region
 /// that the old value names and gives one to that of the new value, where the cell counts and lies in
@@ -7,4 +7,10 @@ ghost use Rattle.rc_counts.specs.Follow.{ReferencesFollow};
 /// cells and pins.
 pub fn references_follow()
     ensures { ReferencesFollow }
+{}
+
+/// A new object has as many cells as its elements have together, a write changes none, and a deletion
+/// takes those of its region.
+pub fn cells_follow()
+    ensures { CellsFollow }
 {}

@@ -1,6 +1,6 @@
 -- What a directory has of regions, by their numbers: an entry of each live one, and none of a dead one. The list is as long as
 -- regions were made.
-use Rattle.std.specs.Prelude.{ℕ, ◌+◌, ◌-◌, Bool, true, false, IsTrue, List, Option, Some, None, slice_index_or, option_map}
+use Rattle.std.specs.Prelude.{ℕ, ◌+◌, ◌-◌, Bool, true, false, IsTrue, List, map, Option, Some, None, slice_index_or, option_map}
 use Rattle.rc_slots.specs.declared.entry.Entry.{Entry}
 
 abbrev pub is_entry : Option Entry → Bool
@@ -25,3 +25,14 @@ lowered e = option_map (with_count (λ n. n - 1)) e
 
 abbrev pub entry_at : List (Option Entry) → ℕ → Option Entry
 entry_at entries number = slice_index_or entries number None
+
+-- of an entry all but the count
+pub record Member : Type 0 where
+  pub slot : ℕ
+  pub parent : ℕ
+
+abbrev pub member_of : Entry → Member
+member_of e = record { slot = e.slot; parent = e.parent }
+
+abbrev pub members_of : List (Option Entry) → List (Option Member)
+members_of entries = map (option_map member_of) entries

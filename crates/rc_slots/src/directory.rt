@@ -169,19 +169,27 @@ impl Directory {
         entry_in(&self.chunks, number as usize)
     }
 
-    /// One more region, at this slot, with no reference.
+    /// One more region, at this slot and with this parent, with no reference.
     ///
     /// # Errors
     ///
     /// Out of memory: nothing has changed.
-    pub fn push(&mut self, slot: u32) -> Result<(), NoMemory>
+    pub fn push(&mut self, slot: u32, parent: u32) -> Result<(), NoMemory>
         requires { length self.old < 4294967296 }
-        ensures ok { OnOk result (self.new ≡ self.old ++ Some (record { slot = slot; count = 0 }) ∷ []) }
+        ensures ok { OnOk result (self.new ≡ self.old ++ Some (record { slot = slot; parent = parent; count = 0 }) ∷ []) }
         ensures err { OnErr result (self.new ≡ self.old) }
     {
         shut_before(&mut self.chunks, self.len);
         make_room(self.alloc, &mut self.chunks, self.len)?;
-        fill(&mut self.chunks, self.len, Entry { slot, count: 0 });
+        fill(
+            &mut self.chunks,
+            self.len,
+            Entry {
+                slot,
+                parent,
+                count: 0,
+            },
+        );
         self.len += 1;
         Ok(())
     }

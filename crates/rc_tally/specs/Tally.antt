@@ -1,28 +1,41 @@
--- What a value adds to the count of the region that it names, and what giving and taking back do to a directory.
-use Rattle.std.specs.Prelude.{◌≡◌, ◌+◌, ℕ, Bool, false, nat_eq, List, length, Option, Some, None, option_map, if◌then◌else◌}
+-- What values and cells add to the count of the region that they name, and what giving and taking back do to a directory.
+use Rattle.std.specs.Prelude.{◌≡◌, ◌+◌, ℕ, Bool, false, nat_eq, List, [], ◌∷◌, Option, Some, None, sum_by, if◌then◌else◌}
+use Rattle.rc_core.specs.declared.layouts.Kind.{Kind}
 use Rattle.rc_core.specs.Heap.{Value, names}
+use Rattle.rc_store.specs.Kept.{KeptObject, object_refs}
+use Rattle.rc_cells.specs.Codes.{decoded}
+use Rattle.rc_counts.specs.Follow.{cell_refs}
 use Rattle.rc_slots.specs.declared.entry.Entry.{Entry}
-use Rattle.rc_slots.specs.Entries.{counted, entry_at}
+use Rattle.rc_slots.specs.Entries.{counted, entry_at, members_of}
 
 abbrev pub is_target : ℕ → Option ℕ → Bool
 is_target r None = false
 is_target r (Some t) = nat_eq t r
 
+-- one reference to r, if the value names it
+abbrev pub pin_refs : (r : ℕ) → Value → ℕ
+pin_refs r v = if names r v then 1 else 0
+
 -- one reference to r, if the value names it and isn't held by r itself
 abbrev pub value_refs : (r holder : ℕ) → Value → ℕ
 value_refs r holder v = if nat_eq holder r then 0 else (if names r v then 1 else 0)
 
-abbrev pub slot_of : Option Entry → Option ℕ
-slot_of e = option_map (λ (x : Entry). x.slot) e
+-- those of cells of these kinds, from their codes
+abbrev pub codes_refs : (r holder : ℕ) → List Kind → List ℕ → ℕ
+codes_refs r holder [] codes = 0
+codes_refs r holder (k ∷ ks) [] = 0
+codes_refs r holder (k ∷ ks) (c ∷ cs) = cell_refs r holder k (decoded k c) + codes_refs r holder ks cs
 
--- so many references less to each region, and each stands where it stood
+-- those of a holder's objects
+abbrev pub held_refs : (r holder : ℕ) → List KeptObject → ℕ
+held_refs r holder objects = if nat_eq holder r then 0 else sum_by (object_refs r) objects
+
+-- so many references less to each region, and all else as it was
 pub record IsTaken (old new : List (Option Entry)) (by : ℕ → ℕ) : Type 0 where
   pub counts : (r : ℕ) → counted (entry_at new r) + by r ≡ counted (entry_at old r)
-  pub slots : (r : ℕ) → slot_of (entry_at new r) ≡ slot_of (entry_at old r)
-  pub made : length new ≡ length old
+  pub members : members_of new ≡ members_of old
 
 -- so many more
 pub record IsGiven (old new : List (Option Entry)) (by : ℕ → ℕ) : Type 0 where
   pub counts : (r : ℕ) → counted (entry_at new r) ≡ counted (entry_at old r) + by r
-  pub slots : (r : ℕ) → slot_of (entry_at new r) ≡ slot_of (entry_at old r)
-  pub made : length new ≡ length old
+  pub members : members_of new ≡ members_of old

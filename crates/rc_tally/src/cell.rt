@@ -15,7 +15,7 @@ use rc_store::is_counted;
 use std::sync::ledger::Ledger;
 
 /// Takes back what the cell at a place counts. A cell that counts is read, which is a step.
-pub fn take_back_cell<L: Ledger>(
+pub(crate) fn take_back_cell<L: Ledger>(
     area: &Area,
     place: u64,
     kind: Kind,

@@ -1,8 +1,9 @@
-//! Counts that follow cells: a reference given to the region that a value names, or taken back.
+//! Counts that follow cells: references given to the regions that values name, or taken back.
 #![tactic(auto)]
 
+mod area;
 mod cell;
 mod tally;
 
-pub use cell::take_back_cell;
-pub use tally::{give, take_back, target};
+pub use area::take_back_area;
+pub use tally::{give, pin, take_back, target, unpin};

@@ -1,17 +1,16 @@
 // A table of calls.
-ghost use Rattle.std.specs.Prelude.{◌≡◌, ◌<◌, IfOk};
-ghost use Rattle.rc_store.specs.Stores.{IsLive, IsNew};
+ghost use Rattle.std.specs.Prelude.{◌≡◌, ◌<◌};
 
 use rc_base::{Limits, Steps};
+use rc_count::CountHeap;
 use rc_scan::ScanHeap;
 use rc_store::{Cell, Denied, Heap, MakeFault};
-use std::alloc::Global;
 use std::marker::Brand;
 use std::sync::ledger::{Blank, Ledger};
 use std::test::Fail;
 
 /// A new region, where its parent is live.
-fn child<H: Heap>(heap: &mut H, parent: u32) -> Option<Result<u32, MakeFault>> {
+pub(crate) fn child<H: Heap>(heap: &mut H, parent: u32) -> Option<Result<u32, MakeFault>> {
     if !heap.is_live(parent) {
         return None;
     }
@@ -26,6 +25,7 @@ fn delete_from<H: Heap, L: Ledger>(
     requires name { blank.name ≡ L.name }
     requires parts { blank.parts ≡ L.parts }
     requires some { 0 < L.parts }
+    ensures { (H.store heap.new).pins ≡ (H.store heap.old).pins }
 {
     if !heap.is_live(region) {
         return None;
@@ -35,7 +35,9 @@ fn delete_from<H: Heap, L: Ledger>(
 }
 
 /// The deletion of a live region, by one who counts no steps.
-fn delete<H: Heap>(heap: &mut H, region: u32) -> Option<Result<(), Denied>> {
+pub(crate) fn delete<H: Heap>(heap: &mut H, region: u32) -> Option<Result<(), Denied>>
+    ensures { (H.store heap.new).pins ≡ (H.store heap.old).pins }
+{
     delete_from::<H, Brand>(heap, region, Blank::new(1))
 }
 
@@ -73,20 +75,29 @@ fn deletes_one<H: Heap>(heap: &mut H) -> bool {
         && !heap.is_live(2)
 }
 
-/// A new heap, with two regions to be made.
-fn limited(alloc: Global) -> Result<ScanHeap, Fail> {
-    let mut heap = ScanHeap::new(alloc)?;
-    heap.limit(&Limits {
+/// Two regions may be made, and no objects.
+fn limits() -> Limits
+    ensures { (result.regions ≡ 2) × (result.blocks ≡ 0) }
+{
+    Limits {
         turns: 0,
         regions: 2,
         blocks: 0,
-    });
-    Ok(heap)
+    }
 }
 
 #[test]
 fn the_plain_heap_answers_the_table(rt: HostRuntime) -> Result<(), Fail> {
-    let mut heap = limited(rt.alloc())?;
+    let mut heap = ScanHeap::new(rt.alloc())?;
+    heap.limit(&limits());
+    assert!(rt; makes_two(&mut heap) && deletes_one(&mut heap));
+    Ok(())
+}
+
+#[test]
+fn the_heap_that_counts_answers_the_table(rt: HostRuntime) -> Result<(), Fail> {
+    let mut heap = CountHeap::new(rt.alloc())?;
+    heap.limit(&limits());
     assert!(rt; makes_two(&mut heap) && deletes_one(&mut heap));
     Ok(())
 }

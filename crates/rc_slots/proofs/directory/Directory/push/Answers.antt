@@ -13,7 +13,7 @@ invariant_of-self-2 c =
     let second = subst (λ cs. AreSame cs c.make_room.new.chunks.items) (with_items_is c.self.inside.chunks c.shut_before.new.chunks (c.shut_before.ensures.count ∙ c.deref_mut.ensures.len)) c.in_ok-make_room.ensures.same in
     let unchanged = kept c.self.inside.chunks.items c.self.inside.len c.self.invariant c.args.self.now c.self.view_is c.self.inside.chunks.items c.make_room.new.chunks.items c.make_room.new.chunks.items refl refl
     (same_again c.self.inside.chunks.items c.shut_before.new.chunks c.make_room.new.chunks.items first second) in
-    (pushed c.make_room.new.chunks.items c.self.inside.len unchanged.0 c.args.self.now unchanged.1 c.deref_mut-2.result.now c.fill.new.chunks _ (Some (record { slot = c.args.slot; count = 0 })) c.deref_mut-2.ensures.value
+    (pushed c.make_room.new.chunks.items c.self.inside.len unchanged.0 c.args.self.now unchanged.1 c.deref_mut-2.result.now c.fill.new.chunks _ (Some (record { slot = c.args.slot; parent = c.args.parent; count = 0 })) c.deref_mut-2.ensures.value
     (with_items_is c.make_room.new.chunks c.fill.new.chunks (c.fill.ensures.count ∙ c.deref_mut-2.ensures.len))
     (subst (λ cs. c.self.inside.len / 256 < length cs) (sym c.deref_mut-2.ensures.value) c.in_ok-make_room.ensures.room) c.fill.ensures).0
 
@@ -23,6 +23,6 @@ returns-clause-ok c =
     let second = subst (λ cs. AreSame cs c.make_room.new.chunks.items) (with_items_is c.self.inside.chunks c.shut_before.new.chunks (c.shut_before.ensures.count ∙ c.deref_mut.ensures.len)) c.in_ok-make_room.ensures.same in
     let unchanged = kept c.self.inside.chunks.items c.self.inside.len c.self.invariant c.args.self.now c.self.view_is c.self.inside.chunks.items c.make_room.new.chunks.items c.make_room.new.chunks.items refl refl
     (same_again c.self.inside.chunks.items c.shut_before.new.chunks c.make_room.new.chunks.items first second) in
-    (pushed c.make_room.new.chunks.items c.self.inside.len unchanged.0 c.args.self.now unchanged.1 c.deref_mut-2.result.now c.fill.new.chunks _ (Some (record { slot = c.args.slot; count = 0 })) c.deref_mut-2.ensures.value
+    (pushed c.make_room.new.chunks.items c.self.inside.len unchanged.0 c.args.self.now unchanged.1 c.deref_mut-2.result.now c.fill.new.chunks _ (Some (record { slot = c.args.slot; parent = c.args.parent; count = 0 })) c.deref_mut-2.ensures.value
     (with_items_is c.make_room.new.chunks c.fill.new.chunks (c.fill.ensures.count ∙ c.deref_mut-2.ensures.len))
     (subst (λ cs. c.self.inside.len / 256 < length cs) (sym c.deref_mut-2.ensures.value) c.in_ok-make_room.ensures.room) c.fill.ensures).1

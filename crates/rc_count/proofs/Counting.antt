@@ -1,0 +1,204 @@
+-- The counts stay the references, call by call.
+use Rattle.std.proofs.Common.{◌≡◌, ◌≢◌, ◌<◌, ◌≤◌, ◌+◌, ◌-◌, ◌*◌, ◌∙◌, inl, inr, ℕ, zero, suc, Bool, true, false, cond, nat_eq, IsTrue, List, [], ◌∷◌, Option, Some, None, length, set, refl, sym, ap, arith, rules}
+use Rattle.std.specs.Prelude.{◌&&◌, IsPermutation}
+use Rattle.std.specs.List.{sum_by}
+use Rattle.std.proofs.lemmas.Bool.{cases_eq, false≢true}
+use Rattle.std.proofs.lemmas.List.Sorted.{length_permutation, sum_by-IsPermutation}
+use Rattle.std.proofs.lemmas.List.Sums.{sum_by-cons}
+use Rattle.rc_core.specs.declared.ty.Note.TheVariants.{Plain, SameRegion, ParentPtr, Traditional}
+use Rattle.rc_core.specs.declared.layouts.Kind.{Kind}
+use Rattle.rc_core.specs.declared.layouts.Kind.TheVariants.{Number as NumberKind, Region as RegionKind, Pointer as PointerKind}
+use Rattle.rc_core.specs.Layout.{is_plain}
+use Rattle.rc_core.specs.Heap.{Value, Number, Null, Handle, Pointer, is_fresh, names}
+use Rattle.rc_store.specs.declared.cell.Place.{Place}
+use Rattle.rc_store.specs.Kept.{KeptStore, KeptView, Regions, object_refs, refs, view_refs}
+use Rattle.rc_store.specs.Stores.{IsFresh, IsLive, all_cells, allocated, cells_in, deleted, kind_at, live_in, made, objects_in, or_none, region_at, value_at, written}
+use Rattle.rc_store.specs.Values.{is_counted, note_of, suits}
+use Rattle.rc_counts.specs.Follow.{IsThere, cell_refs}
+use Rattle.rc_counts.proofs.Changes.{live_there, references_follow}
+use Rattle.rc_counts.proofs.Cells.{cells_follow}
+use Rattle.rc_tally.specs.Tally.{held_refs, pin_refs, value_refs}
+use Rattle.rc_space.specs.Spaces.{SpaceState, count_of}
+use Rattle.rc_count.specs.Counted.{IsCounted}
+
+number_itself : (n : ℕ) → nat_eq n n ≡ true
+number_itself n = search rules
+
+number_other : (m n : ℕ) → m ≢ n → nat_eq m n ≡ false
+number_other m n other = search (rules, other)
+
+same_number : (m n : ℕ) → nat_eq m n ≡ true → m ≡ n
+same_number m n same = search (rules, same)
+
+-- what a cell counts
+plain_cell : (r h : ℕ) (k : Kind) (v : Value) → note_of k ≡ Plain → suits k v ≡ true → cell_refs r h k v ≡ value_refs r h v
+plain_cell r h NumberKind (Number n) plain fit = refl
+plain_cell r h NumberKind Null plain fit = absurd (false≢true fit)
+plain_cell r h NumberKind (Handle q) plain fit = absurd (false≢true fit)
+plain_cell r h NumberKind (Pointer a) plain fit = absurd (false≢true fit)
+plain_cell r h RegionKind v plain fit = refl
+plain_cell r h (PointerKind note) v plain fit = ap (λ n. cond (nat_eq h r) 0 (cond (is_plain n && names r v) 1 0)) plain
+
+noted_cell : (r h : ℕ) (k : Kind) (v : Value) → note_of k ≢ Plain → cell_refs r h k v ≡ 0
+noted_cell r h NumberKind v noted = absurd (noted refl)
+noted_cell r h RegionKind v noted = absurd (noted refl)
+noted_cell r h (PointerKind Plain) v noted = absurd (noted refl)
+noted_cell r h (PointerKind SameRegion) v noted = none (nat_eq h r)
+  where
+    none : (b : Bool) → cond {A = ℕ} b 0 0 ≡ 0
+    none true = refl
+    none false = refl
+noted_cell r h (PointerKind ParentPtr) v noted = none (nat_eq h r)
+  where
+    none : (b : Bool) → cond {A = ℕ} b 0 0 ≡ 0
+    none true = refl
+    none false = refl
+noted_cell r h (PointerKind Traditional) v noted = none (nat_eq h r)
+  where
+    none : (b : Bool) → cond {A = ℕ} b 0 0 ≡ 0
+    none true = refl
+    none false = refl
+
+null_cell : (r h : ℕ) (k : Kind) → cell_refs r h k Null ≡ 0
+null_cell r h k = none (nat_eq h r) (is_counted k)
+  where
+    none : (b c : Bool) → cond {A = ℕ} b 0 (cond {A = ℕ} (c && false) 1 0) ≡ 0
+    none true c = refl
+    none false true = refl
+    none false false = refl
+
+module _ (before : SpaceState) (s : KeptStore) (cells : ℕ) (counted : IsCounted before s cells) where
+  pub few_refs : (r : ℕ) → refs s r + s.spare ≤ 18446744073709551615
+  few_refs r = omega (arith, references_follow.few s r, counted.sum, counted.few)
+
+  -- one region more
+  pub counted_made : (new : SpaceState) (parent : ℕ) → ((r : ℕ) → count_of new r ≡ count_of before r) → IsCounted new (made parent s) cells
+  counted_made new parent same = record {
+    counts = λ r. same r ∙ counted.counts r ∙ sym (references_follow.made s parent r);
+    sum = counted.sum ∙ sym (cells_follow.made s parent);
+    few = counted.few;
+  }
+
+  pub counted_same : (new : SpaceState) → ((r : ℕ) → count_of new r ≡ count_of before r) → IsCounted new s cells
+  counted_same new same = record { counts = λ r. same r ∙ counted.counts r; sum = counted.sum; few = counted.few }
+
+  -- one object more
+  pub counted_allocated : (new : SpaceState) (q n : ℕ) (kinds : List Kind) (total : ℕ) → IsLive s q → ((r : ℕ) → count_of new r ≡ count_of before r) → total ≡ all_cells s + n * length kinds → total + length s.pins + s.spare ≤ 18446744073709551615
+      → IsCounted new (allocated q kinds n s) total
+  counted_allocated new q n kinds total live same is few = record {
+    counts = λ r. same r ∙ counted.counts r ∙ sym (references_follow.allocated s q n r kinds live);
+    sum = is ∙ sym (cells_follow.allocated s q n kinds live);
+    few = few;
+  }
+
+  -- a deletion
+  view_sum : (r : ℕ) (v : Option KeptView) → view_refs r v ≡ sum_by (object_refs r) (or_none v).objects
+  view_sum r None = refl
+  view_sum r (Some v) = refl
+
+  module _ (d : ℕ) (live : IsLive s d) where
+    inside : d < length s.regions
+    inside = live_there s.regions d live
+
+    held_other : (r : ℕ) → r ≢ d → held_refs r d (objects_in s.regions d) ≡ view_refs r (region_at s.regions d)
+    held_other r apart = ap (λ b. cond b 0 (sum_by (object_refs r) (objects_in s.regions d))) (number_other d r (λ e. apart (sym e))) ∙ sym (view_sum r (region_at s.regions d))
+
+    held_own : (r : ℕ) → r ≡ d → held_refs r d (objects_in s.regions d) ≡ 0
+    held_own r same = ap (λ b. cond b 0 (sum_by (object_refs r) (objects_in s.regions d))) (ap (nat_eq d) same ∙ number_itself d)
+
+    pub held_taken : (r : ℕ) → refs (deleted d s) r + held_refs r d (objects_in s.regions d) ≡ refs s r
+    held_taken r = elim (cases_eq r d) [
+      | inl same ↦ omega (arith, held_own r same, ap (refs (deleted d s)) same, ap (refs s) same, references_follow.own s d inside)
+      | inr apart ↦ omega (arith, held_other r apart, references_follow.others s d r inside apart)
+    ]
+
+    pub held_few : (r : ℕ) → held_refs r d (objects_in s.regions d) ≤ count_of before r
+    held_few r = omega (arith, held_taken r, counted.counts r)
+
+    pub cells_few : cells_in (region_at s.regions d) ≤ cells
+    cells_few = omega (arith, cells_follow.deleted s d inside, counted.sum)
+
+    pub counted_deleted : (new : SpaceState) (fewer : ℕ) → ((r : ℕ) → count_of new r + held_refs r d (objects_in s.regions d) ≡ count_of before r) → fewer ≡ cells - cells_in (region_at s.regions d) → IsCounted new (deleted d s) fewer
+    counted_deleted new fewer taken is = record {
+      counts = λ r. omega (arith, taken r, counted.counts r, held_taken r);
+      sum = omega (arith, is, cells_follow.deleted s d inside, counted.sum);
+      few = omega (arith, is, counted.few);
+    }
+
+  -- a write
+  module _ (p : Place) (there : IsThere s p) where
+    written_few : (v : Value) (r : ℕ) → refs (written p v s) r + s.spare ≤ 18446744073709551615
+    written_few v r = omega (arith, references_follow.few (written p v s) r, cells_follow.written s p v there.place, counted.sum, counted.few)
+
+    pub counted_kept : (v : Value) (new : SpaceState) → note_of (kind_at s p) ≢ Plain → ((r : ℕ) → count_of new r ≡ count_of before r) → IsCounted new (written p v s) cells
+    counted_kept v new noted same = record {
+      counts = λ r. omega (arith, same r, counted.counts r, references_follow.written s p v r there, noted_cell r p.pointer.region (kind_at s p) (value_at s p) noted, noted_cell r p.pointer.region (kind_at s p) v noted);
+      sum = counted.sum ∙ sym (cells_follow.written s p v there.place);
+      few = counted.few;
+    }
+
+    module _ (v old : Value) (is : old ≡ value_at s p) (plain : note_of (kind_at s p) ≡ Plain) (old_suits : IsTrue (suits (kind_at s p) (value_at s p))) (new_suits : IsTrue (suits (kind_at s p) v)) where
+      old_cell : (r : ℕ) → cell_refs r p.pointer.region (kind_at s p) (value_at s p) ≡ value_refs r p.pointer.region old
+      old_cell r = plain_cell r p.pointer.region (kind_at s p) (value_at s p) plain old_suits ∙ ap (value_refs r p.pointer.region) (sym is)
+
+      new_cell : (r : ℕ) → cell_refs r p.pointer.region (kind_at s p) v ≡ value_refs r p.pointer.region v
+      new_cell r = plain_cell r p.pointer.region (kind_at s p) v plain new_suits
+
+      pub old_few : (r : ℕ) → value_refs r p.pointer.region old ≤ count_of before r
+      old_few r = omega (arith, references_follow.written s p Null r there, null_cell r p.pointer.region (kind_at s p), old_cell r, counted.counts r)
+
+      follows : (r : ℕ) → refs (written p v s) r + value_refs r p.pointer.region old ≡ refs s r + value_refs r p.pointer.region v
+      follows r = omega (arith, references_follow.written s p v r there, old_cell r, new_cell r)
+
+      module _ (mid : SpaceState) (taken : (r : ℕ) → count_of mid r + value_refs r p.pointer.region old ≡ count_of before r) where
+        pub new_few : (r : ℕ) → count_of mid r + value_refs r p.pointer.region v ≤ 18446744073709551615
+        new_few r = omega (arith, taken r, counted.counts r, follows r, written_few v r)
+
+        pub counted_written : (new : SpaceState) → ((r : ℕ) → count_of new r ≡ count_of mid r + value_refs r p.pointer.region v) → IsCounted new (written p v s) cells
+        counted_written new given = record {
+          counts = λ r. omega (arith, given r, taken r, counted.counts r, follows r);
+          sum = counted.sum ∙ sym (cells_follow.written s p v there.place);
+          few = counted.few;
+        }
+
+  -- pins
+  at_most_one : (r : ℕ) (v : Value) → pin_refs r v ≤ 1
+  at_most_one r v = small (names r v)
+    where
+      small : (b : Bool) → cond {A = ℕ} b 1 0 ≤ 1
+      small true = omega arith
+      small false = omega arith
+
+  pub pin_few : (v : Value) (r : ℕ) → 0 < s.spare → count_of before r + pin_refs r v ≤ 18446744073709551615
+  pin_few v r room = omega (arith, counted.counts r, few_refs r, at_most_one r v, room)
+
+  pub counted_unpinned : (v : Value) (pins : List Value) (spare : ℕ) (new : SpaceState) → IsPermutation s.pins (v ∷ pins) → spare ≡ s.spare + 1 → ((r : ℕ) → count_of new r + pin_refs r v ≡ count_of before r)
+      → IsCounted new (record s { pins = pins; spare = spare }) cells
+  counted_unpinned v pins spare new moved room taken = record {
+    counts = λ r. omega (arith, taken r, counted.counts r, sum_by-IsPermutation (λ x. cond (names r x) 1 0) s.pins (v ∷ pins) moved, sum_by-cons (λ x. cond (names r x) 1 0) v pins);
+    sum = counted.sum;
+    few = omega (arith, counted.few, room, length_permutation s.pins (v ∷ pins) moved);
+  }
+
+-- a named region of a fresh value is live
+fresh_named : (live : ℕ → Bool) (r : ℕ) (v : Value) → is_fresh live v ≡ true → names r v ≡ true → live r ≡ true
+fresh_named live r (Number n) fresh named = absurd (false≢true named)
+fresh_named live r Null fresh named = absurd (false≢true named)
+fresh_named live r (Handle q) fresh named = ap live (sym (same_number q r named)) ∙ fresh
+fresh_named live r (Pointer a) fresh named = ap live (sym (same_number a.region r named)) ∙ fresh
+
+counted_names : (b n : Bool) → 0 < cond b 0 (cond {A = ℕ} n 1 0) → n ≡ true
+counted_names true n some = absurd (omega (arith, some))
+counted_names false true some = refl
+counted_names false false some = absurd (omega (arith, some))
+
+pub fresh_live : (s : KeptStore) (h r : ℕ) (v : Value) → IsFresh s v → 0 < value_refs r h v → IsTrue (live_in s.regions r)
+fresh_live s h r v fresh some = fresh_named (live_in s.regions) r v fresh (counted_names (nat_eq h r) (names r v) some)
+
+-- a write leaves who is live
+pub live_set : (regions : Regions) (q r : ℕ) (x : KeptView) → IsTrue (live_in regions q) → live_in (set regions q (Some x)) r ≡ live_in regions r
+live_set [] q r x live = refl
+live_set (v ∷ vs) zero zero x live = sym live
+live_set (v ∷ vs) zero (suc r) x live = refl
+live_set (v ∷ vs) (suc q) zero x live = refl
+live_set (v ∷ vs) (suc q) (suc r) x live = live_set vs q r x live

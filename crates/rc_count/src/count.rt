@@ -1,0 +1,248 @@
+// A heap that counts.
+ghost use Rattle.std.specs.Prelude.{◌≡◌, ◌≢◌, ◌<◌, ◌≤◌, ◌+◌, ◌*◌, ◌++◌, ◌∷◌, [], ℕ, Some, false, length, map, IfOk, OnOk, OnErr, IsErrOf, IsTrue, ◌↔◌};
+ghost use Rattle.rc_core.specs.Heap.{Handle, fits};
+ghost use Rattle.rc_core.specs.Laid.{kind_of};
+ghost use Rattle.rc_core.specs.Shapes.{kinds_in};
+ghost use Rattle.rc_store.specs.Kept.{refs};
+ghost use Rattle.rc_store.specs.declared.cell.Denied.TheVariants.{Reference, Root, Subregion};
+ghost use Rattle.rc_store.specs.Stores.{IsLive, all_cells, allocated, cells_in, deleted, has_child, live_in, no_view, objects_in, parent_in, region_at};
+
+use rc_base::{Limits, NoMemory, Steps};
+use rc_core::layout::Layout;
+use rc_core::ty::Note;
+use rc_space::Space;
+use rc_store::{Cell, Denied, Heap, MakeFault, Pins, Place};
+use std::alloc::Global;
+use std::marker::Model;
+use std::sync::ledger::Ledger;
+
+/// A heap that keeps a count for each live region: how many counted cells of other live regions, and
+/// how many pins, name it. Of a dead region nothing is kept.
+#[derive(Drop)]
+pub struct CountHeap {
+    space: Space,
+    pins: Pins,
+    /// How many cells all live regions have.
+    cells: u64,
+    region_limit: u32,
+    block_limit: u32,
+}
+
+impl Model for CountHeap {
+    ghost use Rattle.rc_store.specs.Kept.{KeptStore};
+    ghost use Rattle.rc_count.specs.Counted.{IsCounted};
+
+    ghost Value = { KeptStore };
+
+    ghost view = { λ h. record { regions = h.space.regions; pins = h.pins.pins; spare = h.pins.spare; region_limit = h.region_limit; block_limit = h.block_limit } };
+
+    ghost invariant = { λ h. IsCounted h.space (record { regions = h.space.regions; pins = h.pins.pins; spare = h.pins.spare; region_limit = h.region_limit; block_limit = h.block_limit }) h.cells };
+}
+
+/// Whether a region may be named in a cell with the annotation, in an object of the holder's region.
+fn suits<L: Ledger>(
+    space: &Space,
+    note: Note,
+    holder: u32,
+    region: u32,
+    steps: &mut Steps<L>,
+) -> bool
+    requires holder { IsTrue (live_in space.now.regions holder) }
+    requires region { IsTrue (live_in space.now.regions region) }
+    ensures fits { result ≡ fits (parent_in space.now.regions) note holder (Handle region) }
+    ensures never_falls { steps.old ≤ steps.new }
+{
+    match note {
+        Note::Plain => true,
+        Note::SameRegion => region == holder,
+        Note::ParentPtr => space.is_above(region, holder, steps),
+        Note::Traditional => region == 0,
+    }
+}
+
+impl CountHeap {
+    /// Region 0 alone, without objects, and nothing pinned. Both limits are 0.
+    ///
+    /// # Errors
+    ///
+    /// Out of memory.
+    pub fn new(alloc: Global) -> Result<CountHeap, NoMemory>
+        ensures { IfOk result (λ heap. ⟦<CountHeap as Heap>⟧.store heap ≡ record { regions = Some no_view ∷ []; pins = []; spare = 0; region_limit = 0; block_limit = 0 }) }
+    {
+        Ok(CountHeap {
+            space: Space::new(alloc)?,
+            pins: Pins::new(alloc),
+            cells: 0,
+            region_limit: 0,
+            block_limit: 0,
+        })
+    }
+
+    /// How many cells there are with so many elements more. With the pins and their room they stay
+    /// below 2^64, so that no count passes it.
+    fn with_elements(&self, count: u32, width: usize) -> Result<u64, NoMemory>
+        ensures total { IfOk result (λ total. total ≡ all_cells self.now + count * width) }
+        ensures few { IfOk result (λ total. total + length self.now.pins + self.now.spare ≤ 18446744073709551615) }
+    {
+        let Some(more) = (count as u64).checked_mul(width as u64) else {
+            return Err(NoMemory);
+        };
+        let Some(total) = self.cells.checked_add(more) else {
+            return Err(NoMemory);
+        };
+        let Some(pinned) = total.checked_add(self.pins.len()) else {
+            return Err(NoMemory);
+        };
+        match pinned.checked_add(self.pins.spare()) {
+            Some(_sum) => Ok(total),
+            None => Err(NoMemory),
+        }
+    }
+
+    /// Appends an object to a live region, and answers its number.
+    fn append(&mut self, region: u32, kind: &Layout, count: u32) -> Result<u32, NoMemory>
+        requires live { IsLive self.old region }
+        requires few { length (objects_in self.old.regions region) < 4294967296 }
+        ensures number { IfOk result (λ o. o ≡ length (objects_in self.old.regions region)) }
+        ensures ok { OnOk result (self.new ≡ allocated region (map kind_of (kinds_in kind.now)) count self.old) }
+        ensures err { OnErr result (self.new ≡ self.old) }
+    {
+        let number = self.space.objects(region);
+        let cells = self.with_elements(count, kind.cells.len())?;
+        self.space.push(region, kind, count)?;
+        self.cells = cells;
+        Ok(number as u32)
+    }
+
+    /// Lets a region go that isn't region 0, has no child and isn't named.
+    fn let_go<L: Ledger>(&mut self, region: u32, steps: &mut Steps<L>)
+        requires live { IsLive self.old region }
+        requires not_root { region ≢ 0 }
+        requires childless { has_child self.old region ≡ false }
+        requires unnamed { refs self.old region ≡ 0 }
+        ensures deleted { self.new ≡ deleted region self.old }
+        ensures cost { steps.new ≤ steps.old + cells_in (region_at self.old.regions region) }
+        ensures never_falls { steps.old ≤ steps.new }
+    {
+        self.space.take_back_region(region, steps);
+        self.cells -= self.space.cells(region);
+        self.space.remove(region);
+    }
+}
+
+impl Heap for CountHeap {
+    ghost use Rattle.rc_store.specs.Stores.{cells_in, region_at};
+
+    ghost store = { λ h. h };
+
+    ghost most_reads = { λ h r. cells_in (region_at h.regions r) };
+
+    fn new_region(&mut self, parent: u32) -> Result<u32, MakeFault> {
+        let number = self.space.len();
+        if number > self.region_limit as usize {
+            return Err(MakeFault::Full);
+        }
+        match self.space.add(parent) {
+            Ok(()) => Ok(number as u32),
+            Err(NoMemory) => Err(MakeFault::Memory),
+        }
+    }
+
+    fn add_global(&mut self, kind: &Layout, n: u32) -> Result<u32, NoMemory> {
+        self.append(0, kind, n)
+    }
+
+    fn allocate(&mut self, region: u32, kind: &Layout, n: u32) -> Result<u32, MakeFault> {
+        if self.space.objects(region) >= self.block_limit as usize {
+            return Err(MakeFault::Full);
+        }
+        match self.append(region, kind, n) {
+            Ok(number) => Ok(number),
+            Err(NoMemory) => Err(MakeFault::Memory),
+        }
+    }
+
+    fn is_live(&self, region: u32) -> bool {
+        self.space.is_live(region)
+    }
+
+    fn elements(&self, region: u32, object: u32) -> u32 {
+        self.space.elements(region, object)
+    }
+
+    fn read<L: Ledger>(&self, place: Place, steps: &mut Steps<L>) -> Cell {
+        self.space.read(place, steps)
+    }
+
+    fn write_counted<L: Ledger>(&mut self, place: Place, value: Cell, steps: &mut Steps<L>) {
+        let holder = place.pointer.region;
+        let old = self.space.read(place, steps);
+        self.space.write(place, value);
+        self.space.take_back(holder, old);
+        self.space.give(holder, value);
+    }
+
+    fn write_kept(&mut self, place: Place, value: Cell) {
+        self.space.write(place, value);
+    }
+
+    fn fits<L: Ledger>(&self, note: Note, holder: u32, value: Cell, steps: &mut Steps<L>) -> bool {
+        match value {
+            Cell::Number(_) => true,
+            Cell::Nothing => true,
+            Cell::Region(region) => suits(&self.space, note, holder, region, steps),
+            Cell::Pointer(pointer) => suits(&self.space, note, holder, pointer.region, steps),
+        }
+    }
+
+    fn reserve_pins(&mut self, n: u32) -> Result<(), NoMemory> {
+        self.with_elements(n, 1)?;
+        self.pins.reserve(n)
+    }
+
+    fn pin(&mut self, value: Cell) {
+        self.pins.pin(value);
+        self.space.pin(value);
+    }
+
+    fn unpin(&mut self, value: Cell) {
+        self.pins.unpin(value);
+        self.space.unpin(value);
+    }
+
+    /// Deletes a live region. It reads the cells of this region alone, each at most once, and none
+    /// where it refuses. It takes no memory.
+    ///
+    /// # Errors
+    ///
+    /// For region 0, else where it has a live child, else where a counted cell of another live region
+    /// or a pin names it. After an error nothing has changed.
+    fn delete<L: Ledger>(&mut self, region: u32, steps: &mut Steps<L>) -> Result<(), Denied>
+        requires { IsLive self.old region }
+        ensures ok { OnOk result (self.new ≡ deleted region self.old) }
+        ensures err { OnErr result (self.new ≡ self.old) }
+        ensures root { IsErrOf result Root ↔ (region ≡ 0) }
+        ensures subregion { IsErrOf result Subregion ↔ ((region ≢ 0) × IsTrue (has_child self.old region)) }
+        ensures reference { IsErrOf result Reference ↔ ((region ≢ 0) × (has_child self.old region ≡ false) × (0 < refs self.old region)) }
+        ensures cost { steps.new ≤ steps.old + cells_in (region_at self.old.regions region) }
+        ensures quiet { OnErr result (steps.new ≡ steps.old) }
+        ensures never_falls { steps.old ≤ steps.new }
+    {
+        if region == 0 {
+            return Err(Denied::Root);
+        }
+        if self.space.has_child(region) {
+            return Err(Denied::Subregion);
+        }
+        if self.space.count(region) > 0 {
+            return Err(Denied::Reference);
+        }
+        self.let_go(region, steps);
+        Ok(())
+    }
+
+    fn limit(&mut self, limits: &Limits) {
+        self.region_limit = limits.regions;
+        self.block_limit = limits.blocks;
+    }
+}

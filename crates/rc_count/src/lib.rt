@@ -1,0 +1,6 @@
+//! The heap that counts references: a deletion reads the cells of its region and no others.
+#![tactic(auto)]
+
+mod count;
+
+pub use count::CountHeap;

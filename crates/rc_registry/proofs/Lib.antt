@@ -1,0 +1,4 @@
+pub mod Members
+pub mod Placed
+pub mod Added
+pub mod Sounds

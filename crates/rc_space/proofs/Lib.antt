@@ -1,0 +1,4 @@
+pub mod Regions
+pub mod Wholes
+pub mod Shown
+pub mod Grown

@@ -1,0 +1,99 @@
+use Rattle.std.proofs.Common.{◌≡◌, ◌∙◌, [], ◌∷◌, ◌++◌, get_or, map, sym, ap, subst}
+use Rattle.rc_space.specs.Spaces.{SpaceState, area_at, regions_of}
+use Rattle.std.proofs.lemmas.List.{with_items_is}
+use Rattle.std.proofs.lemmas.Option.{get_or_from_slice_get}
+use Rattle.std.proofs.lemmas.Result.{on_err_weaker, on_ok_weaker}
+use Rattle.rc_core.specs.Laid.{kind_of}
+use Rattle.rc_core.specs.Shapes.{kinds_in}
+use Rattle.rc_store.specs.Kept.{blank}
+use Rattle.rc_areas.specs.Areas.{AreaState, IsLaid, objects_of}
+use Rattle.rc_areas.specs.Shapes.{with_shape}
+use Rattle.rc_space.specs.Spaces.{IsBeside, IsSpace}
+use Rattle.rc_store.specs.Stores.{objects_in, with_objects}
+use Rattle.rc_space.proofs.Shown.{live_shown, objects_shown}
+use Rattle.rc_space.proofs.Grown.{regions_beside, regions_stay, shape_laid, shape_objects, space_beside}
+use Rattle.rc_space.proofs.space.Space.push.Goals as goal
+
+pub push_object-requires-clause-laid : goal.push_object-requires-clause-laid
+push_object-requires-clause-laid c =
+    let s = c.self.inside in
+    let areas = s.areas.items in
+    let ms = s.registry.members in
+    let slots = s.registry.slots in
+    let view = ap (λ (x : SpaceState). x.regions) c.self.view_is in
+    let r = c.args.region in
+    let slot = c.slot-slot.result in
+    let ks = map kind_of (kinds_in c.args.layout.now) in
+    let shapes = c.number.new.self in
+    let more : shapes ≡ with_shape ks s.shapes = c.in_ok-shape.ensures.shapes in
+    let kept : (a : AreaState) → IsLaid s.shapes a → IsLaid shapes a = λ a laid. subst (λ x. IsLaid x a) (sym more) (shape_laid s.shapes ks a laid) in
+    subst (λ xs. IsLaid shapes (area_at xs slot)) (sym c.deref_mut.ensures.value) (kept (area_at areas slot) (c.self.invariant.laid slot))
+
+pub invariant_of-self-2 : goal.invariant_of-self-2
+invariant_of-self-2 c =
+    let s = c.self.inside in
+    let areas = s.areas.items in
+    let ms = s.registry.members in
+    let slots = s.registry.slots in
+    let view = ap (λ (x : SpaceState). x.regions) c.self.view_is in
+    let r = c.args.region in
+    let slot = c.slot-slot.result in
+    let ks = map kind_of (kinds_in c.args.layout.now) in
+    let shapes = c.number.new.self in
+    let more : shapes ≡ with_shape ks s.shapes = c.in_ok-shape.ensures.shapes in
+    let kept : (a : AreaState) → IsLaid s.shapes a → IsLaid shapes a = λ a laid. subst (λ x. IsLaid x a) (sym more) (shape_laid s.shapes ks a laid) in
+    let new = c.push_object.new.areas in
+    let beside : IsBeside slot areas new = subst (λ xs. IsBeside slot xs new) c.deref_mut.ensures.value c.push_object.ensures.beside in
+    let items = with_items_is s.areas new (c.push_object.ensures.beside.count ∙ c.deref_mut.ensures.len) in
+    subst (λ xs. IsSpace slots xs shapes) (sym items) (space_beside slots slot areas new s.shapes shapes c.self.invariant beside kept c.push_object.ensures.laid)
+
+pub returns-clause-ok : goal.returns-clause-ok
+returns-clause-ok c =
+    let s = c.self.inside in
+    let areas = s.areas.items in
+    let ms = s.registry.members in
+    let slots = s.registry.slots in
+    let view = ap (λ (x : SpaceState). x.regions) c.self.view_is in
+    let r = c.args.region in
+    let slot = c.slot-slot.result in
+    let ks = map kind_of (kinds_in c.args.layout.now) in
+    let shapes = c.number.new.self in
+    let more : shapes ≡ with_shape ks s.shapes = c.in_ok-shape.ensures.shapes in
+    let kept : (a : AreaState) → IsLaid s.shapes a → IsLaid shapes a = λ a laid. subst (λ x. IsLaid x a) (sym more) (shape_laid s.shapes ks a laid) in
+    let new = c.push_object.new.areas in
+    let beside : IsBeside slot areas new = subst (λ xs. IsBeside slot xs new) c.deref_mut.ensures.value c.push_object.ensures.beside in
+    let items = with_items_is s.areas new (c.push_object.ensures.beside.count ∙ c.deref_mut.ensures.len) in
+    let objects_kept : (a : AreaState) → IsLaid s.shapes a → objects_of shapes a ≡ objects_of s.shapes a = λ a laid. ap (λ x. objects_of x a) more ∙ shape_objects s.shapes ks a laid in
+    let live = live_shown ms areas s.shapes slots c.self.invariant c.args.self.now.regions view r c.requires in
+    on_ok_weaker c.push_object.result (λ pushed.
+    let same : objects_of shapes (area_at new slot) ≡ objects_in c.args.self.now.regions r ++ blank ks c.args.count ∷ [] =
+    pushed
+    ∙ ap (λ xs. objects_of shapes (area_at xs slot) ++ blank (get_or shapes c.in_ok-shape.shape []) c.args.count ∷ []) c.deref_mut.ensures.value
+    ∙ ap (λ os. os ++ blank (get_or shapes c.in_ok-shape.shape []) c.args.count ∷ []) (objects_kept (area_at areas slot) (c.self.invariant.laid slot) ∙ sym (objects_shown ms areas s.shapes slots c.self.invariant c.args.self.now.regions view r slot c.requires c.slot-slot.ensures.slot))
+    ∙ ap (λ k. objects_in c.args.self.now.regions r ++ blank k c.args.count ∷ []) (get_or_from_slice_get shapes c.in_ok-shape.shape ks [] c.in_ok-shape.ensures.number) in
+    ap (λ xs. regions_of ms xs shapes) items
+    ∙ regions_beside ms areas new s.shapes shapes slots r slot (objects_in c.args.self.now.regions r ++ blank ks c.args.count ∷ []) live c.slot-slot.ensures.slot (λ n there other e. other (c.slot-slot.ensures.apart.apart n r there live (e ∙ c.slot-slot.ensures.slot)))
+    c.self.invariant beside objects_kept same
+    ∙ ap (with_objects r (objects_in c.args.self.now.regions r ++ blank ks c.args.count ∷ [])) view) c.push_object.ensures.ok
+
+pub returns-clause-err : goal.returns-clause-err
+returns-clause-err c =
+    let s = c.self.inside in
+    let areas = s.areas.items in
+    let ms = s.registry.members in
+    let slots = s.registry.slots in
+    let view = ap (λ (x : SpaceState). x.regions) c.self.view_is in
+    let r = c.args.region in
+    let slot = c.slot-slot.result in
+    let ks = map kind_of (kinds_in c.args.layout.now) in
+    let shapes = c.number.new.self in
+    let more : shapes ≡ with_shape ks s.shapes = c.in_ok-shape.ensures.shapes in
+    let kept : (a : AreaState) → IsLaid s.shapes a → IsLaid shapes a = λ a laid. subst (λ x. IsLaid x a) (sym more) (shape_laid s.shapes ks a laid) in
+    let new = c.push_object.new.areas in
+    let beside : IsBeside slot areas new = subst (λ xs. IsBeside slot xs new) c.deref_mut.ensures.value c.push_object.ensures.beside in
+    let items = with_items_is s.areas new (c.push_object.ensures.beside.count ∙ c.deref_mut.ensures.len) in
+    let objects_kept : (a : AreaState) → IsLaid s.shapes a → objects_of shapes a ≡ objects_of s.shapes a = λ a laid. ap (λ x. objects_of x a) more ∙ shape_objects s.shapes ks a laid in
+    on_err_weaker c.push_object.result (λ same.
+    ap (λ xs. regions_of ms xs shapes) items
+    ∙ regions_stay ms areas new s.shapes shapes slots slot c.self.invariant beside objects_kept (same ∙ ap (λ xs. area_at xs slot) c.deref_mut.ensures.value)
+    ∙ view) c.push_object.ensures.err

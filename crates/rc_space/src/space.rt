@@ -1,0 +1,283 @@
+// The space of all regions.
+ghost use Rattle.std.specs.Prelude.{◌≡◌, ◌≢◌, ◌<◌, ◌≤◌, ◌+◌, ◌++◌, ◌∷◌, [], ℕ, Some, None, false, length, map, slice_index_or, slice_set, IfOk, OnOk, OnErr, IsTrue};
+ghost use Rattle.std.specs.List.{list_any};
+ghost use Rattle.rc_core.specs.declared.layouts.Kind.TheVariants.{Number as NumberKind};
+ghost use Rattle.rc_core.specs.Heap.{is_above};
+ghost use Rattle.rc_core.specs.Laid.{kind_of};
+ghost use Rattle.rc_core.specs.Shapes.{kinds_in};
+ghost use Rattle.rc_store.specs.Kept.{blank};
+ghost use Rattle.rc_store.specs.Stores.{cell_place, cell_value, cells_in, is_child, live_in, no_view, object_in, objects_in, objects_with, parent_in, region_at, with_objects};
+ghost use Rattle.rc_store.specs.Values.{suits, value_of};
+ghost use Rattle.rc_tally.specs.Tally.{held_refs, pin_refs, value_refs};
+ghost use Rattle.rc_space.specs.Spaces.{HasSpot, IsWhole, count_of};
+
+use crate::areas::{clear, push_object, write_cell};
+use rc_areas::{Area, Shapes};
+use rc_base::{NoMemory, Steps};
+use rc_core::layout::Layout;
+use rc_pages::Bank;
+use rc_registry::Registry;
+use rc_store::{Cell, Place};
+use std::alloc::Global;
+use std::marker::Model;
+use std::sync::ledger::Ledger;
+
+/// How many spare pages the bank keeps.
+const BANK_PLACES: u32 = 1024;
+
+/// The live regions with their objects, and a count for each. Contracts see the regions as a heap keeps
+/// them, none for a dead one, and the counts.
+#[derive(Drop)]
+pub struct Space {
+    alloc: Global,
+    registry: Registry,
+    /// By slot.
+    areas: Vec<Area>,
+    shapes: Shapes,
+    bank: Bank,
+}
+
+impl Model for Space {
+    ghost use Rattle.rc_space.specs.Spaces.{IsSpace, SpaceState, regions_of};
+
+    ghost Value = { SpaceState };
+
+    ghost view = { λ s. record { regions = regions_of s.registry.members s.areas.items s.shapes; counts = s.registry.counts } };
+
+    ghost invariant = { λ s. IsSpace s.registry.slots s.areas.items s.shapes };
+}
+
+impl Space {
+    /// Region 0 alone, without an object and without a reference.
+    ///
+    /// # Errors
+    ///
+    /// Out of memory.
+    pub fn new(alloc: Global) -> Result<Space, NoMemory>
+        ensures regions { IfOk result (λ space. space.regions ≡ Some no_view ∷ []) }
+        ensures counts { IfOk result (λ space. (r : ℕ) → count_of space r ≡ 0) }
+    {
+        let registry = Registry::new(alloc)?;
+        let bank = Bank::new(alloc, BANK_PLACES)?;
+        let mut areas = Vec::new(alloc);
+        match areas.push(Area::new(alloc)) {
+            Ok(()) => Ok(Space {
+                alloc,
+                registry,
+                areas,
+                shapes: Shapes::new(alloc),
+                bank,
+            }),
+            Err(_) => Err(NoMemory),
+        }
+    }
+
+    /// How many regions were made.
+    pub fn len(&self) -> usize
+        ensures { result ≡ length self.now.regions }
+    {
+        self.registry.len()
+    }
+
+    pub fn is_live(&self, region: u32) -> bool
+        ensures { result ≡ live_in self.now.regions region }
+    {
+        self.registry.is_live(region)
+    }
+
+    /// How many references to a region are counted.
+    pub fn count(&self, region: u32) -> u64
+        ensures { result ≡ count_of self.now region }
+    {
+        self.registry.count(region)
+    }
+
+    /// How many objects a live region has.
+    pub fn objects(&self, region: u32) -> usize
+        requires { IsTrue (live_in self.now.regions region) }
+        ensures { result ≡ length (objects_in self.now.regions region) }
+    {
+        self.areas[self.registry.slot(region) as usize].len()
+    }
+
+    /// How many cells a live region has.
+    pub fn cells(&self, region: u32) -> u64
+        requires { IsTrue (live_in self.now.regions region) }
+        ensures { result ≡ cells_in (region_at self.now.regions region) }
+    {
+        self.areas[self.registry.slot(region) as usize].size()
+    }
+
+    /// How many elements an object of a live region has.
+    pub fn elements(&self, region: u32, object: u32) -> u32
+        requires live { IsTrue (live_in self.now.regions region) }
+        requires object { object < length (objects_in self.now.regions region) }
+        ensures { result ≡ (object_in self.now.regions region object).count }
+    {
+        self.areas[self.registry.slot(region) as usize].count(object, &self.shapes)
+    }
+
+    /// The value of a cell. It suits the cell's kind.
+    pub fn read<L: Ledger>(&self, place: Place, steps: &mut Steps<L>) -> Cell
+        requires { HasSpot self.now.regions place }
+        ensures value { value_of result ≡ cell_value (object_in self.now.regions place.pointer.region place.pointer.object) place.pointer.index place.cell }
+        ensures whole { IsWhole (object_in self.now.regions place.pointer.region place.pointer.object) place.pointer.index place.cell }
+        ensures step { steps.new ≡ steps.old + 1 }
+    {
+        let pointer = place.pointer;
+        self.areas[self.registry.slot(pointer.region) as usize].get(
+            pointer.object,
+            pointer.index,
+            place.cell,
+            &self.shapes,
+            steps,
+        )
+    }
+
+    /// Writes a cell. The value is one of those that the cell may hold. No count changes.
+    pub fn write(&mut self, place: Place, value: Cell)
+        requires spot { HasSpot self.old.regions place }
+        requires suits { IsTrue (suits (slice_index_or (object_in self.old.regions place.pointer.region place.pointer.object).kinds (cell_place (object_in self.old.regions place.pointer.region place.pointer.object) place.pointer.index place.cell) NumberKind) (value_of value)) }
+        ensures written { self.new.regions ≡ with_objects place.pointer.region (objects_with place.pointer.object place.pointer.index place.cell (value_of value) (objects_in self.old.regions place.pointer.region)) self.old.regions }
+        ensures whole { IsWhole (object_in self.old.regions place.pointer.region place.pointer.object) place.pointer.index place.cell }
+        ensures counts { self.new.counts ≡ self.old.counts }
+    {
+        let slot = self.registry.slot(place.pointer.region) as usize;
+        write_cell(&mut self.areas, slot, place, value, &self.shapes);
+    }
+
+    /// Makes a child of a live region, without an object and without a reference.
+    ///
+    /// # Errors
+    ///
+    /// Out of memory: regions and counts are as before.
+    pub fn add(&mut self, parent: u32) -> Result<(), NoMemory>
+        requires live { IsTrue (live_in self.old.regions parent) }
+        requires room { length self.old.regions ≤ 4294967295 }
+        ensures ok { OnOk result (self.new.regions ≡ self.old.regions ++ Some (record { parent = parent; objects = [] }) ∷ []) }
+        ensures err { OnErr result (self.new.regions ≡ self.old.regions) }
+        ensures counts { (r : ℕ) → count_of self.new r ≡ count_of self.old r }
+    {
+        match self.areas.reserve(1) {
+            Ok(()) => {}
+            Err(_) => return Err(NoMemory),
+        }
+        let slot = self.registry.add(parent)? as usize;
+        if slot == self.areas.len() {
+            self.areas.push(Area::new(self.alloc)).unwrap();
+        } else {
+            clear(self.alloc, &mut self.areas, slot, &mut self.bank);
+        }
+        Ok(())
+    }
+
+    /// Appends an object of so many elements of a layout to a live region, all zero or null.
+    ///
+    /// # Errors
+    ///
+    /// Out of memory: regions and counts are as before.
+    pub fn push(&mut self, region: u32, layout: &Layout, count: u32) -> Result<(), NoMemory>
+        requires { IsTrue (live_in self.old.regions region) }
+        ensures ok { OnOk result (self.new.regions ≡ with_objects region (objects_in self.old.regions region ++ blank (map kind_of (kinds_in layout.now)) count ∷ []) self.old.regions) }
+        ensures err { OnErr result (self.new.regions ≡ self.old.regions) }
+        ensures counts { self.new.counts ≡ self.old.counts }
+    {
+        let shape = self.shapes.number(layout)?;
+        let slot = self.registry.slot(region) as usize;
+        push_object(
+            &mut self.areas,
+            slot,
+            shape,
+            count,
+            &self.shapes,
+            &mut self.bank,
+        )
+    }
+
+    /// Takes back what the cells of a live region count. Each cell that counts is read, which is a step.
+    pub fn take_back_region<L: Ledger>(&mut self, region: u32, steps: &mut Steps<L>)
+        requires live { IsTrue (live_in self.old.regions region) }
+        requires enough { (r : ℕ) → held_refs r region (objects_in self.old.regions region) ≤ count_of self.old r }
+        ensures counts { (r : ℕ) → count_of self.new r + held_refs r region (objects_in self.old.regions region) ≡ count_of self.old r }
+        ensures regions { self.new.regions ≡ self.old.regions }
+        ensures cost { steps.new ≤ steps.old + cells_in (region_at self.old.regions region) }
+        ensures never_falls { steps.old ≤ steps.new }
+    {
+        let area = &self.areas[self.registry.slot(region) as usize];
+        self.registry
+            .take_back_area(area, &self.shapes, region, steps);
+    }
+
+    /// Takes a live region out that has no child and to which no reference is counted. Its pages go to
+    /// the bank. It takes no memory.
+    pub fn remove(&mut self, region: u32)
+        requires live { IsTrue (live_in self.old.regions region) }
+        requires not_root { region ≢ 0 }
+        requires childless { list_any (is_child region) self.old.regions ≡ false }
+        requires unnamed { count_of self.old region ≡ 0 }
+        ensures regions { self.new.regions ≡ slice_set self.old.regions region None }
+        ensures counts { (r : ℕ) → count_of self.new r ≡ count_of self.old r }
+    {
+        let slot = self.registry.slot(region) as usize;
+        clear(self.alloc, &mut self.areas, slot, &mut self.bank);
+        self.registry.remove(region);
+    }
+
+    /// Whether a live region, which isn't region 0, is the parent of one.
+    pub fn has_child(&self, region: u32) -> bool
+        requires live { IsTrue (live_in self.now.regions region) }
+        requires not_root { region ≢ 0 }
+        ensures { result ≡ list_any (is_child region) self.now.regions }
+    {
+        self.registry.has_child(region)
+    }
+
+    /// Whether live region a is b, or above b's parent. The links that it follows up the tree are
+    /// steps.
+    pub fn is_above<L: Ledger>(&self, a: u32, b: u32, steps: &mut Steps<L>) -> bool
+        requires a { IsTrue (live_in self.now.regions a) }
+        requires b { IsTrue (live_in self.now.regions b) }
+        ensures above { result ≡ is_above (parent_in self.now.regions) a b }
+        ensures never_falls { steps.old ≤ steps.new }
+    {
+        self.registry.is_above(a, b, steps)
+    }
+
+    /// One reference more to the region that a value names, if it isn't the holder's.
+    pub fn give(&mut self, holder: u32, value: Cell)
+        requires live { (r : ℕ) → 0 < value_refs r holder (value_of value) → IsTrue (live_in self.old.regions r) }
+        requires few { (r : ℕ) → count_of self.old r + value_refs r holder (value_of value) ≤ 18446744073709551615 }
+        ensures counts { (r : ℕ) → count_of self.new r ≡ count_of self.old r + value_refs r holder (value_of value) }
+        ensures regions { self.new.regions ≡ self.old.regions }
+    {
+        self.registry.give(holder, value);
+    }
+
+    /// One reference less to the region that a value names, if it isn't the holder's.
+    pub fn take_back(&mut self, holder: u32, value: Cell)
+        requires { (r : ℕ) → value_refs r holder (value_of value) ≤ count_of self.old r }
+        ensures counts { (r : ℕ) → count_of self.new r + value_refs r holder (value_of value) ≡ count_of self.old r }
+        ensures regions { self.new.regions ≡ self.old.regions }
+    {
+        self.registry.take_back(holder, value);
+    }
+
+    /// One reference more to the region that a pinned value names.
+    pub fn pin(&mut self, value: Cell)
+        requires live { (r : ℕ) → 0 < pin_refs r (value_of value) → IsTrue (live_in self.old.regions r) }
+        requires few { (r : ℕ) → count_of self.old r + pin_refs r (value_of value) ≤ 18446744073709551615 }
+        ensures counts { (r : ℕ) → count_of self.new r ≡ count_of self.old r + pin_refs r (value_of value) }
+        ensures regions { self.new.regions ≡ self.old.regions }
+    {
+        self.registry.pin(value);
+    }
+
+    /// One reference less to the region that a pinned value names.
+    pub fn unpin(&mut self, value: Cell)
+        requires { (r : ℕ) → pin_refs r (value_of value) ≤ count_of self.old r }
+        ensures counts { (r : ℕ) → count_of self.new r + pin_refs r (value_of value) ≡ count_of self.old r }
+        ensures regions { self.new.regions ≡ self.old.regions }
+    {
+        self.registry.unpin(value);
+    }
+}

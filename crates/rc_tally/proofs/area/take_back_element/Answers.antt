@@ -1,0 +1,31 @@
+use Rattle.std.proofs.Common.{◌+◌, take, drop, get_or, arith}
+use Rattle.rc_core.specs.declared.layouts.Kind.TheVariants.{Number as NumberKind}
+use Rattle.rc_cells.specs.Codes.{decoded}
+use Rattle.rc_counts.specs.Follow.{cell_refs}
+use Rattle.rc_tally.specs.Tally.{codes_refs}
+use Rattle.rc_tally.proofs.Taken.{cell_less, cell_more, enough_left, taken_more}
+use Rattle.rc_tally.proofs.area.take_back_element.Goals as goal
+
+pub take_back_cell-requires-clause-enough : goal.take_back_cell-requires-clause-enough
+take_back_cell-requires-clause-enough g c =
+    let shape = c.args.shape.now in
+    let codes = c.args.area.now.codes in
+    let cell = c.loop-cell.cell in
+    enough_left c.args.directory.now c.loop-cell.directory (λ r. codes_refs r c.args.holder (take cell shape) (drop c.args.place codes))
+    (λ r. cell_refs r c.args.holder (get_or shape cell NumberKind) (decoded (get_or shape cell NumberKind) (get_or codes (c.args.place + cell) 0)))
+    (λ r. codes_refs r c.args.holder shape (drop c.args.place codes)) c.loop-cell.invariant.taken c.requires.enough
+    (λ r. cell_less r c.args.holder shape codes c.args.place cell c.loop-cell-test.true (omega (arith, c.requires.inside, c.loop-cell-test.true)))
+
+pub loop-cell-preserved : goal.loop-cell-preserved
+loop-cell-preserved g c =
+    let shape = c.args.shape.now in
+    let codes = c.args.area.now.codes in
+    let cell = c.loop-cell.cell in
+    record {
+      taken = taken_more c.args.directory.now c.loop-cell.directory c.take_back_cell.new.directory (λ r. codes_refs r c.args.holder (take cell shape) (drop c.args.place codes))
+          (λ r. cell_refs r c.args.holder (get_or shape cell NumberKind) (decoded (get_or shape cell NumberKind) (get_or codes (c.args.place + cell) 0)))
+          (λ r. codes_refs r c.args.holder (take (cell + 1) shape) (drop c.args.place codes)) c.loop-cell.invariant.taken c.take_back_cell.ensures.taken
+          (λ r. cell_more r c.args.holder shape codes c.args.place cell c.loop-cell-test.true (omega (arith, c.requires.inside, c.loop-cell-test.true)));
+      cost = omega (arith, c.loop-cell.invariant.cost, c.take_back_cell.ensures.cost);
+      never_falls = omega (arith, c.loop-cell.invariant.never_falls, c.take_back_cell.ensures.never_falls);
+    }

@@ -1,0 +1,226 @@
+// Objects that name regions, and pins.
+ghost use Rattle.std.specs.Prelude.{◌≡◌, ◌<◌, ◌∷◌, [], Some, map, IfOk};
+ghost use Rattle.rc_store.specs.Stores.{no_view};
+ghost use Rattle.rc_core.specs.Laid.{kind_of};
+ghost use Rattle.rc_core.specs.Shapes.{kinds_in};
+ghost use Rattle.rc_core.specs.declared.layouts.Kind.TheVariants.{Region as RegionKind};
+
+use crate::calls::{child, delete};
+use rc_base::{Limits, Steps};
+use rc_core::layout::{CellKind, Layout};
+use rc_core::ty::Note;
+use rc_count::CountHeap;
+use rc_scan::ScanHeap;
+use rc_store::{Cell, Denied, Heap, MakeFault, Place, Pointer};
+use std::alloc::{AllocError, Global};
+use std::marker::Brand;
+use std::sync::ledger::{Blank, Ledger};
+use std::test::Fail;
+
+/// An element with one cell, which holds a region.
+pub(crate) fn handle(alloc: Global) -> Result<Layout, AllocError>
+    ensures { IfOk result (λ layout. map kind_of (kinds_in layout) ≡ RegionKind ∷ []) }
+{
+    let mut cells = Vec::new(alloc);
+    cells.push(CellKind::Region)?;
+    Ok(Layout { cells })
+}
+
+fn name_from<H: Heap, L: Ledger>(
+    heap: &mut H,
+    holder: u32,
+    target: u32,
+    layout: &Layout,
+    blank: Blank,
+) -> Option<Result<Cell, MakeFault>>
+    requires layout { map kind_of (kinds_in layout.now) ≡ RegionKind ∷ [] }
+    requires name { blank.name ≡ L.name }
+    requires parts { blank.parts ≡ L.parts }
+    requires some { 0 < L.parts }
+{
+    if !heap.is_live(holder) || !heap.is_live(target) {
+        return None;
+    }
+    match heap.allocate(holder, layout, 1) {
+        Ok(object) => {
+            let place = Place {
+                pointer: Pointer {
+                    region: holder,
+                    object,
+                    index: 0,
+                },
+                cell: 0,
+            };
+            let mut steps = Steps::<L>::start(blank);
+            heap.write_counted(place, Cell::Region(target), &mut steps);
+            Some(Ok(heap.read(place, &mut steps)))
+        }
+        Err(fault) => Some(Err(fault)),
+    }
+}
+
+/// A new object of a live region, whose one cell names a live region: what is read from it then.
+pub(crate) fn name<H: Heap>(
+    heap: &mut H,
+    holder: u32,
+    target: u32,
+    layout: &Layout,
+) -> Option<Result<Cell, MakeFault>>
+    requires { map kind_of (kinds_in layout.now) ≡ RegionKind ∷ [] }
+{
+    name_from::<H, Brand>(heap, holder, target, layout, Blank::new(1))
+}
+
+fn fits_from<H: Heap, L: Ledger>(
+    heap: &H,
+    holder: u32,
+    region: u32,
+    note: Note,
+    blank: Blank,
+) -> Option<bool>
+    requires name { blank.name ≡ L.name }
+    requires parts { blank.parts ≡ L.parts }
+    requires some { 0 < L.parts }
+{
+    if !heap.is_live(holder) || !heap.is_live(region) {
+        return None;
+    }
+    let mut steps = Steps::<L>::start(blank);
+    Some(heap.fits(note, holder, Cell::Region(region), &mut steps))
+}
+
+/// Whether a live region fits an annotation in a live region's objects.
+pub(crate) fn fits<H: Heap>(heap: &H, holder: u32, region: u32, note: Note) -> Option<bool> {
+    fits_from::<H, Brand>(heap, holder, region, note, Blank::new(1))
+}
+
+/// Pins a live region, tries to delete it, and takes the pin away again.
+pub(crate) fn delete_pinned<H: Heap>(heap: &mut H, region: u32) -> Option<Result<(), Denied>> {
+    if !heap.is_live(region) || heap.reserve_pins(1).is_err() || !heap.is_live(region) {
+        return None;
+    }
+    heap.pin(Cell::Region(region));
+    let answer = delete(heap, region);
+    heap.unpin(Cell::Region(region));
+    answer
+}
+
+/// Where nothing may be made, nothing is.
+fn refuses_all<H: Heap>(heap: &mut H, layout: &Layout) -> bool
+    requires { map kind_of (kinds_in layout.now) ≡ RegionKind ∷ [] }
+{
+    child(heap, 0) == Some(Err(MakeFault::Full))
+        && name(heap, 0, 0, layout) == Some(Err(MakeFault::Full))
+}
+
+/// A reference from another region or a pin refuses a deletion, one from inside doesn't; and it goes
+/// with its region.
+fn counts_from_outside<H: Heap>(heap: &mut H, layout: &Layout) -> bool
+    requires { map kind_of (kinds_in layout.now) ≡ RegionKind ∷ [] }
+{
+    child(heap, 0) == Some(Ok(1))
+        && child(heap, 0) == Some(Ok(2))
+        && name(heap, 1, 2, layout) == Some(Ok(Cell::Region(2)))
+        && name(heap, 1, 1, layout) == Some(Ok(Cell::Region(1)))
+        && name(heap, 1, 1, layout) == Some(Err(MakeFault::Full))
+        && delete(heap, 2) == Some(Err(Denied::Reference))
+        && delete_pinned(heap, 1) == Some(Err(Denied::Reference))
+        && delete(heap, 1) == Some(Ok(()))
+        && delete(heap, 2) == Some(Ok(()))
+}
+
+/// A parent is above its child, and a child isn't above its parent.
+fn knows_parents<H: Heap>(heap: &mut H) -> bool {
+    child(heap, 0) == Some(Ok(1))
+        && child(heap, 1) == Some(Ok(2))
+        && fits(heap, 2, 1, Note::ParentPtr) == Some(true)
+        && fits(heap, 1, 2, Note::ParentPtr) == Some(false)
+        && fits(heap, 2, 1, Note::SameRegion) == Some(false)
+        && fits(heap, 2, 0, Note::Traditional) == Some(true)
+        && fits(heap, 1, 2, Note::Plain) == Some(true)
+}
+
+/// A global of three elements is the first object of region 0.
+fn makes_a_global<H: Heap>(heap: &mut H, layout: &Layout) -> bool
+    requires { (H.store heap.old).regions ≡ Some no_view ∷ [] }
+{
+    match heap.add_global(layout, 3) {
+        Ok(object) => object == 0,
+        Err(_) => false,
+    }
+}
+
+/// Two regions with two objects each.
+fn limits() -> Limits {
+    Limits {
+        turns: 0,
+        regions: 2,
+        blocks: 2,
+    }
+}
+
+#[test]
+fn the_plain_heap_refuses_all(rt: HostRuntime) -> Result<(), Fail> {
+    let layout = handle(rt.alloc())?;
+    let mut heap = ScanHeap::new(rt.alloc())?;
+    assert!(rt; refuses_all(&mut heap, &layout));
+    Ok(())
+}
+
+#[test]
+fn the_plain_heap_knows_parents(rt: HostRuntime) -> Result<(), Fail> {
+    let mut heap = ScanHeap::new(rt.alloc())?;
+    heap.limit(&limits());
+    assert!(rt; knows_parents(&mut heap));
+    Ok(())
+}
+
+#[test]
+fn the_plain_heap_makes_a_global(rt: HostRuntime) -> Result<(), Fail> {
+    let layout = handle(rt.alloc())?;
+    let mut heap = ScanHeap::new(rt.alloc())?;
+    assert!(rt; makes_a_global(&mut heap, &layout));
+    Ok(())
+}
+
+#[test]
+fn the_plain_heap_counts_from_outside(rt: HostRuntime) -> Result<(), Fail> {
+    let layout = handle(rt.alloc())?;
+    let mut heap = ScanHeap::new(rt.alloc())?;
+    heap.limit(&limits());
+    assert!(rt; counts_from_outside(&mut heap, &layout));
+    Ok(())
+}
+
+#[test]
+fn the_heap_that_counts_refuses_all(rt: HostRuntime) -> Result<(), Fail> {
+    let layout = handle(rt.alloc())?;
+    let mut heap = CountHeap::new(rt.alloc())?;
+    assert!(rt; refuses_all(&mut heap, &layout));
+    Ok(())
+}
+
+#[test]
+fn the_heap_that_counts_knows_parents(rt: HostRuntime) -> Result<(), Fail> {
+    let mut heap = CountHeap::new(rt.alloc())?;
+    heap.limit(&limits());
+    assert!(rt; knows_parents(&mut heap));
+    Ok(())
+}
+
+#[test]
+fn the_heap_that_counts_makes_a_global(rt: HostRuntime) -> Result<(), Fail> {
+    let layout = handle(rt.alloc())?;
+    let mut heap = CountHeap::new(rt.alloc())?;
+    assert!(rt; makes_a_global(&mut heap, &layout));
+    Ok(())
+}
+
+#[test]
+fn the_heap_that_counts_counts_from_outside(rt: HostRuntime) -> Result<(), Fail> {
+    let layout = handle(rt.alloc())?;
+    let mut heap = CountHeap::new(rt.alloc())?;
+    heap.limit(&limits());
+    assert!(rt; counts_from_outside(&mut heap, &layout));
+    Ok(())
+}
