@@ -1,3 +1,4 @@
 pub mod Totals
 pub mod Greatest
 pub mod Functions
+pub mod Elaborated

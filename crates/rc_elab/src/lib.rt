@@ -1,9 +1,10 @@
-//! From programs to the region language. So far it counts what a program needs there: `count`
-//! answers whether it keeps within the bounds, by the definitions of rc_rlang.
+//! From programs to the region language: `elaborate` answers a program's region code, where it keeps
+//! within the bounds of region variables and points, which `count` tells from the program alone.
 #![tactic(auto)]
 
 mod budget;
 mod counting;
+mod elaboration;
 mod fault;
 mod points;
 mod statements;
@@ -11,4 +12,5 @@ mod temporaries;
 mod variables;
 
 pub use counting::count;
+pub use elaboration::elaborate;
 pub use fault::ElabFault;

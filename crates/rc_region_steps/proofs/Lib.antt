@@ -1,0 +1,5 @@
+pub mod Behind
+pub mod PathTypes
+pub mod Accesses
+pub mod Walks
+pub mod FromGlobals
