@@ -1,0 +1,6 @@
+pub mod Stacks
+pub mod Places
+pub mod Walking
+pub mod TwoWays
+pub mod Copies
+pub mod Gathers

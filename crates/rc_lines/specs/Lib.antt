@@ -1,0 +1,5 @@
+pub mod Bare
+pub mod Keys
+pub mod Over
+pub mod Operands
+pub mod Gathered

@@ -1,0 +1,5 @@
+//! Tests of stack code in lists: what an expression with a fork becomes.
+#![tactic(auto)]
+
+#[cfg(test)]
+mod expressions;
