@@ -16,3 +16,4 @@ pub mod Deletions
 pub mod Calls
 pub mod Readiness
 pub mod Following
+pub mod Marks

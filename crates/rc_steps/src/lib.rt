@@ -11,6 +11,7 @@
 ghost use Rattle.std.specs.Prelude.{◌≡◌, ℕ, List};
 ghost use Rattle.rc_code.specs.declared.instruction.Instruction.{Instruction};
 ghost use Rattle.rc_code.specs.declared.image.Parts.{Parts};
+ghost use Rattle.rc_code.specs.Faithful.{Faithful};
 ghost use Rattle.rc_code.specs.Image.{FieldsFit};
 ghost use Rattle.rc_code.specs.Running.{reading_of, function_at};
 ghost use Rattle.rc_code.specs.Soundness.{Sound, instruction_at};
@@ -19,7 +20,7 @@ ghost use Rattle.rc_pile.specs.Stacks.{Stack};
 ghost use Rattle.rc_steps.specs.Places.{At};
 ghost use Rattle.rc_steps.specs.Stands.{Stands};
 ghost use Rattle.rc_steps.specs.Ready.{IsReady};
-ghost use Rattle.rc_steps.specs.Follows.{Follows};
+ghost use Rattle.rc_steps.specs.Follows.{Follows, MarksFit};
 ghost use Rattle.rc_worlds.specs.Meanings.{GlobalsHaveBytes};
 ghost use Rattle.rc_core.specs.Numbers.{IsByte};
 ghost use Rattle.rc_base.specs.declared.ends.Limits.{Limits};
@@ -28,7 +29,7 @@ ghost use Rattle.std.specs.List.{AllByRecursion as Every};
 /// Where a machine stands in a run of a sound image, what the next instruction needs is there: its
 /// operands with their kinds and ranges, its locals, the regions, objects and cells that it touches, and
 /// room for what it gives. And `IsReady` says where the machine goes on, or how the run ends, as the
-/// image's step does. Of a store with a mark nothing is said.
+/// image's step does. Of a store with a mark, which makes no check, it says so where the value fits.
 pub fn instructions_are_ready()
     ensures { (parts : Parts) → FieldsFit parts → Sound parts → (at : At) (pile : Stack) (heap : KeptStore) → Stands parts at pile heap → (i : Instruction) → instruction_at (function_at (reading_of parts) at.function) at.place ≡ i → IsReady parts at pile heap i }
 {}
@@ -38,4 +39,10 @@ pub fn instructions_are_ready()
 /// meaning has the machine's acts and that end. Behind an exit the heap keeps what is left.
 pub fn machines_come_to_the_meaning()
     ensures { (parts : Parts) → FieldsFit parts → Sound parts → GlobalsHaveBytes parts → (input : List ℕ) → Every IsByte input → (limits : Limits) → Follows parts input limits }
+{}
+
+/// In a run of a faithful image, whose marks are right, a store with a mark meets no value that doesn't
+/// fit: where it comes to write, the annotation holds.
+pub fn marked_values_fit()
+    ensures { (parts : Parts) → FieldsFit parts → Sound parts → Faithful parts → GlobalsHaveBytes parts → (input : List ℕ) → Every IsByte input → (limits : Limits) → MarksFit parts input limits }
 {}

@@ -5,7 +5,7 @@ use Rattle.std.proofs.lemmas.List.{reverse-append, reverse-reverse, length-rever
 use Rattle.rc_core.specs.declared.ty.NumberType.TheVariants.{Int, Unsigned, Char}
 use Rattle.rc_core.specs.declared.ty.Signedness.{Signedness}
 use Rattle.rc_core.specs.Types.{int_cell}
-use Rattle.rc_core.specs.Layout.{Layout}
+use Rattle.rc_core.specs.Layout.{Layout, note_of}
 use Rattle.std.specs.Prelude.{◌+ℤ◌}
 use Rattle.rc_core.specs.Heap.{Value, Null, Pointer, Address, Heap, no_region, no_object, objects, object_at, update}
 use Rattle.rc_core.specs.Runs.{Chosen, Target}
@@ -163,10 +163,11 @@ module _ (image : Compared) where
     pub layout : (object_of heap spot).layout ≡ layout_at image.code p.type_number
     pub inside : spot.cell < length (object_of heap spot).layout
     pub kind : storage_of image.code (get_or (object_of heap spot).layout spot.cell int_cell) ≡ storage_of image.code (cell_at image.code p)
+    pub noted : note_of (get_or (object_of heap spot).layout spot.cell int_cell) ≡ note_of (cell_at image.code p)
 
   pub place_reached : (w : World) (p : Path) (below : List Kind) (stack : List Value) → PathIsSound image.code p → AreKinds w.heap (reverse (place_kinds p) ++ below) stack
       → (a : Address) (spot : Spot) → IsSpot image w (target_on p stack) a spot → Reached w.heap p spot
-  place_reached w p below stack sound all a spot is = record { layout = layout; inside = subst (λ (l : Layout). spot.cell < length l) (sym layout) inside; kind = ap (λ (l : Layout). storage_of image.code (get_or l spot.cell int_cell)) layout ∙ kind }
+  place_reached w p below stack sound all a spot is = record { layout = layout; inside = subst (λ (l : Layout). spot.cell < length l) (sym layout) inside; kind = ap (λ (l : Layout). storage_of image.code (get_or l spot.cell int_cell)) layout ∙ kind; noted = ap (λ (l : Layout). note_of (get_or l spot.cell int_cell)) layout ∙ noted }
     where
       target : Target
       target = target_on p stack
@@ -194,6 +195,9 @@ module _ (image : Compared) where
 
       kind : storage_of image.code (get_or (layout_at image.code p.type_number) spot.cell int_cell) ≡ storage_of image.code (cell_at image.code p)
       kind = ap (λ n. storage_of image.code (get_or (layout_at image.code p.type_number) n int_cell)) cell ∙ sound.alike of.indices of.long in_range
+
+      noted : note_of (get_or (layout_at image.code p.type_number) spot.cell int_cell) ≡ note_of (cell_at image.code p)
+      noted = ap (λ n. note_of (get_or (layout_at image.code p.type_number) n int_cell)) cell ∙ sound.noted of.indices of.long in_range
 
   -- what stands there is of the kind
   pub value_reached : (w : World) (p : Path) (x : Target) (a : Address) (spot : Spot) → Good image w → IsSpot image w x a spot → Reached w.heap p spot → Keeps image w.heap (storage_of image.code (cell_at image.code p)) (first_of (values_from w.heap spot 1))

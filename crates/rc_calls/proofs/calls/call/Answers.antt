@@ -1,0 +1,39 @@
+use Rattle.std.proofs.Common.{ℕ, ◌≡◌, ◌∙◌, ◌+◌, ◌<◌, ◌≤◌, ap, arith, subst, rules, length, drop, true, Bool}
+use Rattle.std.specs.Prelude.{◌&&◌, nat_le, nat_lt}
+use Rattle.std.proofs.lemmas.List.{length-map}
+use Rattle.std.proofs.lemmas.Bool.Decides.{nat_tests}
+use Rattle.rc_code.specs.Running.{function_at, reading_of, first_in, pinned}
+use Rattle.rc_pile.specs.Words.{value_of}
+use Rattle.rc_steps.specs.Ready.{IsPinned, pins_of}
+use Rattle.rc_calls.proofs.Calling.{greatest_below, leads_pile}
+use Rattle.rc_calls.proofs.calls.call.Goals as goal
+
+both : (x a b : Bool) → x ≡ (a && b) → x ≡ true → (a ≡ true) × (b ≡ true)
+both x a b e t = grind arith
+
+fits : (words room more : ℕ) → (nat_le words room ≡ true) → words ≤ room
+fits words room more e = grind (arith, nat_tests)
+
+some : (n : ℕ) → nat_lt 0 n ≡ true → 0 < n
+some n e = grind (arith, nat_tests)
+
+pub returns-clause-went : goal.returns-clause-went
+returns-clause-went g c =
+    let code = reading_of c.args.setting.now.image.now in
+    let f = function_at code c.args.callee in
+    let body = c.body_of-body.result.now in
+    let r = c.requires.ready in
+    let pile = c.args.pile.now in
+    let words : c.in-Some.words ≡ length body.locals.items + body.height = search rules in
+    let test = both c.has_room.result (nat_le c.in-Some.words pile.room) (nat_lt 0 pile.more) c.has_room.ensures c.if-not-has_room.false in
+    let room = fits c.in-Some.words pile.room pile.more test.0 in
+    let more = some pile.more test.1 in
+    let first = ap length c.body_of-body.ensures.body.first in
+    let long = length-map body.locals.items value_of in
+    let long2 = length-map (drop f.parameters f.locals) first_in in
+    let height = c.body_of-body.ensures.body.height in
+    let high = greatest_below code f in
+    let turns = c.if-at-eq0.false in
+    let pins = c.pins_at-pins.ensures ∙ ap pins_of r.1 in
+    let held = subst (λ ps. IsPinned (pinned ps pile.locals) (g.H.Heap.store c.args.heap.now) (g.H.Heap.store c.pin_all.new.heap)) pins c.in-Ok.ensures in
+    leads_pile _ _ _ _ _ _ _ _ (r.4.1.1 (omega (arith, turns)) (omega (arith, words, room, first, long, long2, height, high)) more (g.H.Heap.store c.pin_all.new.heap) held) c.begin.ensures

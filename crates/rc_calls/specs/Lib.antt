@@ -1,0 +1,3 @@
+pub mod Pinning
+pub mod Setting
+pub mod Calling

@@ -1,0 +1,96 @@
+// Locals that are pinned while a call runs.
+ghost use Rattle.std.specs.Prelude.{◌≡◌, ◌≤◌, ◌<◌, ◌+◌, ◌++◌, ◌∷◌, [], true, OnOk, Contains, IsPermutation};
+ghost use Rattle.rc_core.specs.Heap.{is_fresh};
+ghost use Rattle.rc_code.specs.Running.{function_at, pinned, reading_of};
+ghost use Rattle.rc_code.specs.Soundness.{instruction_at};
+ghost use Rattle.rc_store.specs.Stores.{live_in};
+ghost use Rattle.rc_store.specs.Values.{value_of};
+ghost use Rattle.rc_steps.specs.Ready.{IsPinned, IsUnpinned, pins_of};
+ghost use Rattle.rc_ready.specs.ShortForms.{AreHeld};
+ghost use Rattle.rc_calls.specs.Pinning.{AreLocals, fresh_of};
+
+use rc_base::NoMemory;
+use rc_code::{Image, Instruction};
+use rc_pile::Pile;
+use rc_store::{Cell, Heap};
+
+/// The locals that the call at this place pins. None where there is no call.
+pub(crate) fn pins_at(image: &Image, function: u32, place: u32) -> &[u32]
+    ensures { result.now ≡ pins_of (instruction_at (function_at (reading_of image.now) function) place) }
+{
+    let Some(function) = image.parts().functions.as_slice().get(function as usize) else {
+        return &[];
+    };
+    match function.code.as_slice().get(place as usize) {
+        Some(Instruction::Call(_, pins)) => pins.as_slice(),
+        _ => &[],
+    }
+}
+
+/// Whether a value names no dead region.
+#[inline(always)]
+pub fn is_fresh<H: Heap>(heap: &H, value: Cell) -> bool
+    ensures { result ≡ is_fresh (live_in (H.store heap.now).regions) (value_of value) }
+{
+    match value {
+        Cell::Number(_) => true,
+        Cell::Nothing => true,
+        Cell::Region(region) => heap.is_live(region),
+        Cell::Pointer(pointer) => heap.is_live(pointer.region),
+    }
+}
+
+/// Pins a value, where it names no dead region.
+fn pin_fresh<H: Heap>(heap: &mut H, value: Cell)
+    requires { 0 < (H.store heap.old).spare }
+    ensures pins { (H.store heap.new).pins ≡ (H.store heap.old).pins ++ fresh_of (live_in (H.store heap.old).regions) (value_of value ∷ []) }
+    ensures spare { (H.store heap.old).spare ≤ (H.store heap.new).spare + 1 }
+    ensures same { H.store heap.new ≡ record (H.store heap.old) { pins = (H.store heap.new).pins; spare = (H.store heap.new).spare } }
+{
+    if is_fresh(heap, value) {
+        heap.pin(value);
+    }
+}
+
+/// Takes a pin of a value away, where it names no dead region.
+fn unpin_fresh<H: Heap>(heap: &mut H, value: Cell)
+    requires { is_fresh (live_in (H.store heap.old).regions) (value_of value) ≡ true → Contains (H.store heap.old).pins (value_of value) }
+    ensures pins { IsPermutation (H.store heap.old).pins (fresh_of (live_in (H.store heap.old).regions) (value_of value ∷ []) ++ (H.store heap.new).pins) }
+    ensures same { H.store heap.new ≡ record (H.store heap.old) { pins = (H.store heap.new).pins; spare = (H.store heap.new).spare } }
+{
+    if is_fresh(heap, value) {
+        heap.unpin(value);
+    }
+}
+
+/// Pins the values of these locals that name no dead region.
+///
+/// # Errors
+///
+/// Out of memory.
+pub fn pin_all<H: Heap>(heap: &mut H, pile: &Pile, pins: &[u32]) -> Result<(), NoMemory>
+    requires { AreLocals pins.now pile.now }
+    ensures { OnOk result (IsPinned (pinned pins.now pile.now.locals) (H.store heap.old) (H.store heap.new)) }
+{
+    let Ok(n) = u32::try_from(pins.len()) else {
+        return Err(NoMemory);
+    };
+    heap.reserve_pins(n)?;
+    for local in pins {
+        let value = pile.local(*local).cell();
+        pin_fresh(heap, value);
+    }
+    Ok(())
+}
+
+/// Takes the pins of these locals' values away, of those that name no dead region.
+pub fn unpin_all<H: Heap>(heap: &mut H, pile: &Pile, pins: &[u32])
+    requires locals { AreLocals pins.now pile.now }
+    requires held { AreHeld (pinned pins.now pile.now.locals) (H.store heap.old) }
+    ensures { IsUnpinned (pinned pins.now pile.now.locals) (H.store heap.old) (H.store heap.new) }
+{
+    for local in pins {
+        let value = pile.local(*local).cell();
+        unpin_fresh(heap, value);
+    }
+}

@@ -1,0 +1,3 @@
+pub mod Deleting
+pub mod Choices
+pub mod Reached

@@ -1,0 +1,92 @@
+// Deletions.
+ghost use Rattle.std.specs.Prelude.{◌≡◌};
+ghost use Rattle.rc_code.specs.Running.{function_at, pinned, reading_of};
+ghost use Rattle.rc_code.specs.Soundness.{instruction_at};
+ghost use Rattle.rc_store.specs.Stores.{IsLive};
+ghost use Rattle.rc_decode.specs.declared.op.Op.TheVariants.{Other};
+ghost use Rattle.rc_decode.specs.declared.op.Other.TheVariants.{Delete};
+ghost use Rattle.rc_ready.specs.ShortForms.{IsReadyFor};
+ghost use Rattle.rc_ops.specs.Going.{IsInside, Went, at_of};
+ghost use Rattle.rc_calls.specs.Pinning.{AreLocals};
+ghost use Rattle.rc_cell_ops.specs.Deleting.{Frees, deleting_pins};
+
+use rc_base::{Steps, Trap};
+use rc_calls::{pin_all, unpin_all};
+use rc_code::{Image, Instruction};
+use rc_heap_ops::live_region;
+use rc_ops::{Counter, Exit, Running, Setting};
+use rc_pile::Pile;
+use rc_store::{Denied, Heap};
+use std::sync::ledger::Ledger;
+
+/// The locals that the deletion at this place pins. None where there is no deletion.
+fn deleting_pins(image: &Image, function: u32, place: u32) -> &[u32]
+    ensures { result.now ≡ deleting_pins (instruction_at (function_at (reading_of image.now) function) place) }
+{
+    let Some(function) = image.parts().functions.as_slice().get(function as usize) else {
+        return &[];
+    };
+    match function.code.as_slice().get(place as usize) {
+        Some(Instruction::Delete(pins)) => pins.as_slice(),
+        _ => &[],
+    }
+}
+
+/// Deletes a live region while these locals are pinned.
+///
+/// # Errors
+///
+/// The trap of a region that must stay. Or out of memory.
+fn free<H: Heap, L: Ledger>(
+    heap: &mut H,
+    pile: &Pile,
+    pins: &[u32],
+    region: u32,
+    steps: &mut Steps<L>,
+) -> Result<(), Exit>
+    requires locals { AreLocals pins.now pile.now }
+    requires live { IsLive (H.store heap.old) region }
+    ensures { Frees (pinned pins.now pile.now.locals) region (H.store heap.old) (H.store heap.new) result }
+{
+    let Ok(()) = pin_all(heap, pile, pins) else {
+        return Err(Exit::NoMemory);
+    };
+    match heap.delete(region, steps) {
+        Ok(()) => {
+            unpin_all(heap, pile, pins);
+            Ok(())
+        }
+        Err(Denied::Root) => Err(Exit::Trapped(Trap::Root)),
+        Err(Denied::Subregion) => Err(Exit::Trapped(Trap::Subregion)),
+        Err(Denied::Reference) => Err(Exit::Trapped(Trap::Reference)),
+    }
+}
+
+/// Deletes the region on the stack.
+pub fn delete<H: Heap, L: Ledger>(
+    setting: &Setting,
+    heap: &mut H,
+    running: Running,
+    pile: &mut Pile,
+    at: &mut Counter,
+    _operand: u32,
+    steps: &mut Steps<L>,
+) -> Option<Exit>
+    requires inside { IsInside at.old }
+    requires ready { IsReadyFor setting.now.image.now (at_of running at.old) pile.old (H.store heap.old) running.start (Other Delete _operand) }
+    ensures { Went setting.now.image.now (at_of running at.old) pile.old (H.store heap.old) (at_of running at.new) pile.new (H.store heap.new) result }
+{
+    let region = match live_region(heap, pile.operand(0)) {
+        Ok(region) => region,
+        Err(exit) => return Some(exit),
+    };
+    let pins = deleting_pins(setting.image, running.function, at.place);
+    match free(heap, pile, pins, region, steps) {
+        Ok(()) => {
+            pile.take(1);
+            at.place += 1;
+            None
+        }
+        Err(exit) => Some(exit),
+    }
+}

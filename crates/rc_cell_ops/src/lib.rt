@@ -1,0 +1,9 @@
+//! What a machine does at loads, stores and deletions.
+#![tactic(auto)]
+
+mod cells;
+mod deletions;
+mod reaching;
+
+pub use cells::{load, store};
+pub use deletions::delete;

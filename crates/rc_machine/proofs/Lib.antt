@@ -1,0 +1,5 @@
+pub mod Steps
+pub mod Comings
+pub mod Growing
+pub mod Endings
+pub mod Starts

@@ -1,0 +1,4 @@
+pub mod Stepping
+pub mod Coming
+pub mod Runs
+pub mod Image
