@@ -1,6 +1,8 @@
 //! `rc` on the real outside.
 #![tactic(auto)]
 
+use rc_base::NoMemory;
+use rc_count::CountHeap;
 use rc_driver::{Done, Fault, Folder, StdSink, StdSource, rc_main, status_of};
 use std::env;
 use std::io::{self, ErrorKind};
@@ -15,14 +17,27 @@ fn words(rt: &HostRuntime) -> io::Result<Vec<String>> {
     Ok(words)
 }
 
-/// Does what the words ask, over the standard streams and the files of the caller's folder.
+/// Says that there is no memory.
+fn no_memory(rt: &HostRuntime) -> Fault {
+    let _ = eprintln!(rt; "rc: no memory");
+    Fault::Memory
+}
+
+/// Does what the words ask, over the standard streams, the files of the caller's folder and a heap that
+/// counts.
 fn run(rt: HostRuntime, words: &[String]) -> Result<Done, Fault> {
     let alloc = rt.alloc();
+    let mut heap = match CountHeap::new(alloc) {
+        Ok(heap) => heap,
+        Err(NoMemory) => return Err(no_memory(&rt)),
+    };
     let mut input = StdSource::new(rt.stdin());
     let mut out = StdSink::new(rt.stdout());
     let mut err = StdSink::new(rt.stderr());
     let mut files = Folder::new(rt);
-    rc_main(alloc, words, &mut files, &mut input, &mut out, &mut err)
+    rc_main(
+        alloc, words, &mut files, &mut input, &mut out, &mut err, &mut heap,
+    )
 }
 
 fn main(rt: HostRuntime) -> ExitCode {
@@ -33,8 +48,7 @@ fn main(rt: HostRuntime) -> ExitCode {
                 // Words that aren't UTF-8 ask nothing.
                 run(rt, &[])
             } else {
-                let _ = eprintln!(rt; "rc: no memory");
-                Err(Fault::Memory)
+                Err(no_memory(&rt))
             }
         }
     };

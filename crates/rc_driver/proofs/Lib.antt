@@ -1,5 +1,6 @@
 mod EmptyLines
 mod Fronts
+mod ImageFiles
 mod Numbers
 mod OneOutcome
 mod Reports
@@ -7,6 +8,7 @@ mod RunFiles
 mod RunLaws
 mod Served
 mod TextLaws
+mod SpelledImages
 mod ToldLaws
 mod Ways
 mod Written

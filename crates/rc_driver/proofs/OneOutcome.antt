@@ -12,9 +12,11 @@ use Rattle.rc_compile.proofs.OneAnswer.{not_both, one_program, one_refusal}
 use Rattle.rc_core.specs.Meaning.{meaning}
 use Rattle.rc_core.specs.Programs.{Program}
 use Rattle.rc_core.specs.Runs.{Ends}
+use Rattle.rc_code.specs.declared.image.Parts.{Parts}
+use Rattle.rc_driver.specs.Images.{image_in}
 use Rattle.rc_driver.specs.Footprint.{AreThere, footprint}
-use Rattle.rc_driver.specs.Outcome.{IsOutcome, Outcome, RunsFile, RunsTo, accepts, answers, refuses, runs}
-use Rattle.rc_driver.specs.Request.{Request, Run, Slow}
+use Rattle.rc_driver.specs.Outcome.{IsOutcome, OfImage, Outcome, RunsFile, RunsTo, accepts, answers, lists, of_image, refuses, runs, upgrades}
+use Rattle.rc_driver.specs.Request.{Request, Run, Slow, Listing, Upgrade}
 use Rattle.rc_driver.specs.declared.answer.Done.TheVariants.{Refused, Usage}
 use Rattle.rc_driver.proofs.Ways.{an_end}
 use Rattle.rc_safety.specs.Safety.{NeverTouchesDeleted}
@@ -35,10 +37,18 @@ file_outcome file limits files input there = by (files file) refl where
   by None is = absurd (there is)
   by (Some text) is = let found = text_outcome text input limits in (found.0, (text, is, found.1))
 
+image_outcome : (file : List ℕ) (made : Parts → Outcome) (files : Names) → ¬ (files file ≡ None) → (outcome : Outcome) × OfImage file made files outcome
+image_outcome file made files there = by (files file) refl where
+  by : (o : Option (List ℕ)) → files file ≡ o → (outcome : Outcome) × OfImage file made files outcome
+  by None is = absurd (there is)
+  by (Some bytes) is = (of_image made (image_in bytes), (bytes, is, refl))
+
 pub some_outcome : (request : Option Request) (files : Names) (input : List ℕ) → AreThere (footprint request) files → (outcome : Outcome) × IsOutcome request files input outcome
 some_outcome None files input there = (answers Usage, refl)
 some_outcome (Some (Run file limits)) files input there = file_outcome file limits files input (there file (0, omega arith, refl))
 some_outcome (Some (Slow file limits)) files input there = file_outcome file limits files input (there file (0, omega arith, refl))
+some_outcome (Some (Listing file)) files input there = image_outcome file lists files (there file (0, omega arith, refl))
+some_outcome (Some (Upgrade from to)) files input there = image_outcome from (upgrades to) files (there from (0, omega arith, refl))
 
 -- two outcomes of one text are one
 same_end : (program : Program) (input : List ℕ) (limits : Limits) (one other : End) → (meaning program input limits).end ≡ Ends one → (meaning program input limits).end ≡ Ends other → one ≡ other
@@ -60,10 +70,18 @@ one_of_file file limits files input one other (text, is, run) (text', is', run')
     let same : text' ≡ text = cc in
     one_run text input limits one other run (subst (λ (t : List ℕ). RunsTo t input limits other) same run')
 
+one_of_image : (file : List ℕ) (made : Parts → Outcome) (files : Names) (one other : Outcome) → OfImage file made files one → OfImage file made files other → one ≡ other
+one_of_image file made files one other (bytes, is, so) (bytes', is', so') =
+    let e : Some bytes' ≡ Some bytes = sym is' ∙ is in
+    let same : bytes' ≡ bytes = cc in
+    so ∙ ap (λ (b : List ℕ). of_image made (image_in b)) (sym same) ∙ sym so'
+
 pub one_outcome : (request : Option Request) (files : Names) (input : List ℕ) (one other : Outcome) → IsOutcome request files input one → IsOutcome request files input other → one ≡ other
 one_outcome None files input one other is also = is ∙ sym also
 one_outcome (Some (Run file limits)) files input one other is also = one_of_file file limits files input one other is also
 one_outcome (Some (Slow file limits)) files input one other is also = one_of_file file limits files input one other is also
+one_outcome (Some (Listing file)) files input one other is also = one_of_image file lists files one other is also
+one_outcome (Some (Upgrade from to)) files input one other is also = one_of_image from (upgrades to) files one other is also
 
 pub accepted_never : (text : List ℕ) (program : Program) (input : List ℕ) (limits : Limits) → Accepted text program → NeverTouchesDeleted program input limits
 accepted_never text program input limits accepted = never_touches_deleted program input limits (accepted_in_place text program accepted)

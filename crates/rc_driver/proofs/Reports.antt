@@ -6,10 +6,10 @@ use Rattle.rc_base.specs.Sinks.{SinkState, Took}
 use Rattle.rc_base.specs.Sources.{SourceState}
 use Rattle.rc_driver.specs.Answers.{MayFailOut, WritesOut}
 use Rattle.rc_driver.specs.Footprint.{footprint}
-use Rattle.rc_driver.specs.Outcome.{Follows, Outcome, Performed, StoppedShort}
+use Rattle.rc_driver.specs.Outcome.{Follows, Outcome, Performed, StoppedShort, reports, writes}
 use Rattle.rc_driver.specs.Outside.{Outside, outside}
 use Rattle.rc_driver.specs.Performing.{Performs}
-use Rattle.rc_driver.specs.Reporting.{CutReport, WritesReport, WroteReport, at_byte, at_flush, reported, reports, writes}
+use Rattle.rc_driver.specs.Reporting.{CutReport, WritesReport, WroteReport, at_byte, at_flush, reported}
 use Rattle.rc_driver.specs.Request.{Request}
 use Rattle.rc_driver.specs.declared.answer.Fault.{Fault}
 use Rattle.rc_driver.specs.declared.answer.Fault.TheVariants.{ErrFault, FileFault, ReadFault, WriteFault}
@@ -66,15 +66,16 @@ cut_short report input out out' (at_flush took) = record {
   flushed_at_memory = λ e. cc;
 }
 
-pub writes_report : (request : Option Request) (before : Outside) (files' : ShelfState) (out' : SinkState) (report : List ℕ) (result : Result (Unit {0}) Fault) → HasRead request before files' → WritesReport request before report → WroteReport report before.out out' result → Performs request before (outside files' before.input out' before.err) (reported result)
+pub writes_report : (request : Option Request) (before : Outside) (files' : ShelfState) (out' : SinkState) (report : List ℕ) (result : Result (Unit {0}) Fault) → HasRead request before files' → WritesReport request before report → WroteReport report before.out out' result → Performs request before (outside files' before.input out' before.err before.heap) (reported result)
 writes_report request before files' out' report (Ok value) has is wrote = record {
-  follows = λ outcome comes. subst (λ (o : Outcome). Follows o before (outside files' before.input out' before.err) (reported (Ok value))) (sym (is.only outcome comes)) (refl, performed_writes report before.input before.out out' wrote.wrote);
+  follows = λ outcome comes. subst (λ (o : Outcome). Follows o before (outside files' before.input out' before.err before.heap) (reported (Ok value))) (sym (is.only outcome comes)) (refl, performed_writes report before.input before.out out' wrote.wrote, tt, tt);
   settled = λ told ok. (reports report, is.outcome told);
   missing = λ none. absurd (has.there none);
   may_answer = is.may_report;
   alone = alone_of request before files' before.input out' has.only_reads (λ e. refl) (λ e. absurd (is_not (footprint request).writes_out is.writes_out e));
   stored = λ told other. has.only_reads.names told;
   quiet = λ q. absurd q;
+  spared = λ q. refl;
   flushed = λ w. wrote.flushed;
   tells = record { files = has.only_reads.tells; input = refl; out = wrote.tells; err = refl };
   no_count_falls = record { files = has.only_reads.never_falls; input = omega arith; out = wrote.never_falls; err = omega arith };
@@ -86,7 +87,7 @@ writes_report request before files' out' report (Ok value) has is wrote = record
   usage = λ none. absurd (asks_some request has.only_reads.uses none);
 }
 writes_report request before files' out' report (Err fault) has is wrote = record {
-  follows = λ outcome comes. subst (λ (o : Outcome). Follows o before (outside files' before.input out' before.err) (reported (Err fault))) (sym (is.only outcome comes))
+  follows = λ outcome comes. subst (λ (o : Outcome). Follows o before (outside files' before.input out' before.err before.heap) (reported (Err fault))) (sym (is.only outcome comes))
       (subst (λ (f : Fault). StoppedShort (writes report) f before.input before.input before.out out') (sym wrote.fault) (cut_short report before.input before.out out' wrote.cut));
   settled = λ told ok. cc;
   missing = λ none. absurd (has.there none);
@@ -94,6 +95,7 @@ writes_report request before files' out' report (Err fault) has is wrote = recor
   alone = alone_of request before files' before.input out' has.only_reads (λ e. refl) (λ e. absurd (is_not (footprint request).writes_out is.writes_out e));
   stored = λ told other. has.only_reads.names told;
   quiet = tt;
+  spared = tt;
   flushed = tt;
   tells = record { files = has.only_reads.tells; input = refl; out = wrote.tells; err = refl };
   no_count_falls = record { files = has.only_reads.never_falls; input = omega arith; out = wrote.never_falls; err = omega arith };

@@ -4,6 +4,7 @@ use Rattle.rc_base.specs.Causes.{Rose}
 use Rattle.rc_base.specs.Shelves.{ShelfState}
 use Rattle.rc_base.specs.Sinks.{SinkState, TookFront}
 use Rattle.rc_base.specs.Sources.{SourceState}
+use Rattle.rc_store.specs.Kept.{KeptStore}
 use Rattle.rc_base.proofs.ActLaws.{took_all}
 use Rattle.rc_driver.specs.Answers.{HasLine, IsQuiet, MayStore}
 use Rattle.rc_driver.specs.Footprint.{IsMissing, footprint}
@@ -12,7 +13,7 @@ use Rattle.rc_driver.specs.Lines.{done_line}
 use Rattle.rc_driver.specs.Outcome.{Comes, IsOutcome, Outcome, Performed, StoppedShort}
 use Rattle.rc_driver.specs.Outside.{NoneRose, Outside, outside}
 use Rattle.rc_driver.specs.Performing.{Performs}
-use Rattle.rc_driver.specs.Request.{Request, Run, Slow}
+use Rattle.rc_driver.specs.Request.{Request, Run, Slow, Listing, Upgrade}
 use Rattle.rc_driver.specs.Telling.{Tells, ToldDone, ToldFault, Untold}
 use Rattle.rc_driver.specs.declared.answer.Done.{Done}
 use Rattle.rc_driver.specs.declared.answer.Done.TheVariants.{Ended, StaleImage, Refused, ImageRefused, Wrote, Reported, Usage}
@@ -25,16 +26,17 @@ usage_is : (done : Done) → ◌≡◌ {A = Result Done Fault} (Ok done) (Ok Usa
 usage_is done is = cc
 
 -- what was done is told
-told_done : (request : Option Request) (before : Outside) (files' : ShelfState) (input' : SourceState) (out' err' : SinkState) (done : Done) → Performs request before (outside files' input' out' before.err) (Ok done) → err'.tells ≡ before.err.tells → ToldDone done before.err err' → Serves request before (outside files' input' out' err') (Ok done)
-told_done request before files' input' out' err' done p tells told = record {
+told_done : (request : Option Request) (before : Outside) (files' : ShelfState) (input' : SourceState) (out' err' : SinkState) (heap' : KeptStore) (done : Done) → Performs request before (outside files' input' out' before.err heap') (Ok done) → err'.tells ≡ before.err.tells → ToldDone done before.err err' → Serves request before (outside files' input' out' err' heap') (Ok done)
+told_done request before files' input' out' err' heap' done p tells told = record {
   follows = p.follows;
   settled = p.settled;
   complete = λ none outcome comes. inl (ap Ok (p.follows outcome comes).0);
   missing = p.missing;
   may_answer = p.may_answer;
-  alone = record { others = p.alone.others; names = p.alone.names; files = p.alone.files; input = p.alone.input; out = p.alone.out };
+  alone = record { others = p.alone.others; names = p.alone.names; files = p.alone.files; input = p.alone.input; out = p.alone.out; heap = p.alone.heap };
   stored = p.stored;
   quiet = p.quiet;
+  spared = p.spared;
   flushed = p.flushed;
   heard = told;
   usage = λ none no_rise. p.usage none;
@@ -80,20 +82,21 @@ unstored Reported line may = may
 unstored Usage line may = may
 
 -- the error stream fails in place of what was done
-replaced : (request : Option Request) (before : Outside) (files' : ShelfState) (input' : SourceState) (out' err' : SinkState) (done : Done) → Performs request before (outside files' input' out' before.err) (Ok done) → err'.tells ≡ before.err.tells → Untold done before.err err' → Serves request before (outside files' input' out' err') (Err ErrFault)
-replaced request before files' input' out' err' done p tells untold = record {
+replaced : (request : Option Request) (before : Outside) (files' : ShelfState) (input' : SourceState) (out' err' : SinkState) (heap' : KeptStore) (done : Done) → Performs request before (outside files' input' out' before.err heap') (Ok done) → err'.tells ≡ before.err.tells → Untold done before.err err' → Serves request before (outside files' input' out' err' heap') (Err ErrFault)
+replaced request before files' input' out' err' heap' done p tells untold = record {
   follows = λ outcome comes. all_acts outcome before.input input' before.out out' (p.follows outcome comes).1;
   settled = λ told ok. cc;
   complete = λ none outcome comes. absurd (none.err untold.rose);
-  missing = λ none. absurd (not_missing (p.missing none).1);
+  missing = λ none. absurd (not_missing (p.missing none).3);
   may_answer = tt;
-  alone = record { others = p.alone.others; names = p.alone.names; files = p.alone.files; input = p.alone.input; out = p.alone.out };
+  alone = record { others = p.alone.others; names = p.alone.names; files = p.alone.files; input = p.alone.input; out = p.alone.out; heap = p.alone.heap };
   stored = λ told may. p.stored told (unstored done untold.has_line);
   quiet = tt;
+  spared = tt;
   flushed = tt;
   heard = (
     done,
-    record { may_answer = p.may_answer; untold = untold; is = λ outcome comes. (p.follows outcome comes).0; quiet = p.quiet; flushed = p.flushed },
+    record { may_answer = p.may_answer; untold = untold; is = λ outcome comes. (p.follows outcome comes).0; quiet = p.quiet; spared = p.spared; flushed = p.flushed },
   );
   usage = λ none no_rise. absurd (no_rise untold.rose);
   nothing_asked = λ none. (let is = usage_is done (p.usage none) in record {
@@ -119,37 +122,40 @@ there : (request : Option Request) (before : Outside) (outcome : Outcome) → Is
 there None before outcome is (name, read, lacks) = let low = read.1 in omega (arith, low)
 there (Some (Run file limits)) before outcome is (name, read, lacks) = there_is before.files.names file name is.0 (the_only file name read) is.1 lacks.none
 there (Some (Slow file limits)) before outcome is (name, read, lacks) = there_is before.files.names file name is.0 (the_only file name read) is.1 lacks.none
+there (Some (Listing file)) before outcome is (name, read, lacks) = there_is before.files.names file name is.0 (the_only file name read) is.1 lacks.none
+there (Some (Upgrade from to)) before outcome is (name, read, lacks) = there_is before.files.names from name is.0 (the_only from name read) is.1 lacks.none
 
-complete_fault : (request : Option Request) (before : Outside) (files' : ShelfState) (input' : SourceState) (out' err' : SinkState) (fault : Fault) → Performs request before (outside files' input' out' before.err) (Err fault) → NoneRose before (outside files' input' out' err') → (outcome : Outcome) → Comes request before outcome → fault ≡ Memory
-complete_fault request before files' input' out' err' FileFault p none outcome comes = absurd (no_file (p.file_fault refl).cause) where
+complete_fault : (request : Option Request) (before : Outside) (files' : ShelfState) (input' : SourceState) (out' err' : SinkState) (heap' : KeptStore) (fault : Fault) → Performs request before (outside files' input' out' before.err heap') (Err fault) → NoneRose before (outside files' input' out' err' heap') → (outcome : Outcome) → Comes request before outcome → fault ≡ Memory
+complete_fault request before files' input' out' err' heap' FileFault p none outcome comes = absurd (no_file (p.file_fault refl).cause) where
   no_file : Rose before.files.faults files'.faults ⊎ IsMissing (footprint request) before → ⊥
   no_file (inl rose) = none.files rose
   no_file (inr missing) = there request before outcome comes.comes missing
-complete_fault request before files' input' out' err' ReadFault p none outcome comes = absurd (none.input (p.read_fault refl).rose)
-complete_fault request before files' input' out' err' WriteFault p none outcome comes = absurd (none.out (p.write_fault refl).rose)
-complete_fault request before files' input' out' err' ErrFault p none outcome comes = absurd (p.no_error refl)
-complete_fault request before files' input' out' err' Memory p none outcome comes = refl
+complete_fault request before files' input' out' err' heap' ReadFault p none outcome comes = absurd (none.input (p.read_fault refl).rose)
+complete_fault request before files' input' out' err' heap' WriteFault p none outcome comes = absurd (none.out (p.write_fault refl).rose)
+complete_fault request before files' input' out' err' heap' ErrFault p none outcome comes = absurd (p.no_error refl)
+complete_fault request before files' input' out' err' heap' Memory p none outcome comes = refl
 
-heard_fault : (request : Option Request) (before : Outside) (files' : ShelfState) (input' : SourceState) (out' err' : SinkState) (fault : Fault) → fault ≢ ErrFault → ToldFault fault before.err err' → Heard request before (outside files' input' out' err') (Err fault)
-heard_fault request before files' input' out' err' FileFault other told = told
-heard_fault request before files' input' out' err' ReadFault other told = told
-heard_fault request before files' input' out' err' WriteFault other told = told
-heard_fault request before files' input' out' err' ErrFault other told = absurd (other refl)
-heard_fault request before files' input' out' err' Memory other told = told
+heard_fault : (request : Option Request) (before : Outside) (files' : ShelfState) (input' : SourceState) (out' err' : SinkState) (heap' : KeptStore) (fault : Fault) → fault ≢ ErrFault → ToldFault fault before.err err' → Heard request before (outside files' input' out' err' heap') (Err fault)
+heard_fault request before files' input' out' err' heap' FileFault other told = told
+heard_fault request before files' input' out' err' heap' ReadFault other told = told
+heard_fault request before files' input' out' err' heap' WriteFault other told = told
+heard_fault request before files' input' out' err' heap' ErrFault other told = absurd (other refl)
+heard_fault request before files' input' out' err' heap' Memory other told = told
 
 -- a fault stays, whether it is told or not
-told_fault : (request : Option Request) (before : Outside) (files' : ShelfState) (input' : SourceState) (out' err' : SinkState) (fault : Fault) → Performs request before (outside files' input' out' before.err) (Err fault) → err'.tells ≡ before.err.tells → ToldFault fault before.err err' → Serves request before (outside files' input' out' err') (Err fault)
-told_fault request before files' input' out' err' fault p tells told = record {
+told_fault : (request : Option Request) (before : Outside) (files' : ShelfState) (input' : SourceState) (out' err' : SinkState) (heap' : KeptStore) (fault : Fault) → Performs request before (outside files' input' out' before.err heap') (Err fault) → err'.tells ≡ before.err.tells → ToldFault fault before.err err' → Serves request before (outside files' input' out' err' heap') (Err fault)
+told_fault request before files' input' out' err' heap' fault p tells told = record {
   follows = p.follows;
   settled = λ told ok. cc;
-  complete = λ none outcome comes. inr (ap Err (complete_fault request before files' input' out' err' fault p none outcome comes));
+  complete = λ none outcome comes. inr (ap Err (complete_fault request before files' input' out' err' heap' fault p none outcome comes));
   missing = p.missing;
   may_answer = tt;
-  alone = record { others = p.alone.others; names = p.alone.names; files = p.alone.files; input = p.alone.input; out = p.alone.out };
+  alone = record { others = p.alone.others; names = p.alone.names; files = p.alone.files; input = p.alone.input; out = p.alone.out; heap = p.alone.heap };
   stored = p.stored;
   quiet = tt;
+  spared = tt;
   flushed = tt;
-  heard = heard_fault request before files' input' out' err' fault (λ e. p.no_error (ap Err e)) told;
+  heard = heard_fault request before files' input' out' err' heap' fault (λ e. p.no_error (ap Err e)) told;
   usage = λ none. absurd (no_usage none);
   nothing_asked = λ none. absurd (no_usage none);
   tells = record { files = p.tells.files; input = p.tells.input; out = p.tells.out; err = tells };
@@ -165,8 +171,8 @@ told_fault request before files' input' out' err' fault p tells told = record {
   no_usage none = let is = p.usage none in cc
 
 -- all that the top call promises
-pub serves : (request : Option Request) (before : Outside) (files' : ShelfState) (input' : SourceState) (out' err' : SinkState) (answer result : Result Done Fault) → Performs request before (outside files' input' out' before.err) answer → err'.tells ≡ before.err.tells → Tells answer before.err err' result → Serves request before (outside files' input' out' err') result
-serves request before files' input' out' err' (Ok done) (Ok done') p tells told = subst (λ (d : Done). Serves request before (outside files' input' out' err') (Ok d)) (sym told.0) (told_done request before files' input' out' err' done p tells told.1)
-serves request before files' input' out' err' (Ok done) (Err fault) p tells told = subst (λ (f : Fault). Serves request before (outside files' input' out' err') (Err f)) (sym told.0) (replaced request before files' input' out' err' done p tells told.1)
-serves request before files' input' out' err' (Err fault) (Ok done) p tells told = absurd told
-serves request before files' input' out' err' (Err fault) (Err fault') p tells told = subst (λ (f : Fault). Serves request before (outside files' input' out' err') (Err f)) (sym told.0) (told_fault request before files' input' out' err' fault p tells told.1)
+pub serves : (request : Option Request) (before : Outside) (files' : ShelfState) (input' : SourceState) (out' err' : SinkState) (heap' : KeptStore) (answer result : Result Done Fault) → Performs request before (outside files' input' out' before.err heap') answer → err'.tells ≡ before.err.tells → Tells answer before.err err' result → Serves request before (outside files' input' out' err' heap') result
+serves request before files' input' out' err' heap' (Ok done) (Ok done') p tells told = subst (λ (d : Done). Serves request before (outside files' input' out' err' heap') (Ok d)) (sym told.0) (told_done request before files' input' out' err' heap' done p tells told.1)
+serves request before files' input' out' err' heap' (Ok done) (Err fault) p tells told = subst (λ (f : Fault). Serves request before (outside files' input' out' err' heap') (Err f)) (sym told.0) (replaced request before files' input' out' err' heap' done p tells told.1)
+serves request before files' input' out' err' heap' (Err fault) (Ok done) p tells told = absurd told
+serves request before files' input' out' err' heap' (Err fault) (Err fault') p tells told = subst (λ (f : Fault). Serves request before (outside files' input' out' err' heap') (Err f)) (sym told.0) (told_fault request before files' input' out' err' heap' fault p tells told.1)

@@ -1,4 +1,4 @@
--- The ways in which a request ends, of any request: it fails before anything was done, refuses, or runs a program.
+-- The ways in which a request ends, of any request: it fails before anything was done, refuses, or runs.
 use Rattle.std.proofs.Common.{◌≡◌, ◌≢◌, ◌≤◌, ◌⊎◌, ◌∙◌, ℕ, Bool, true, false, List, [], Option, None, Result, Ok, Err, IsErrOf, IsTrue, refl, sym, ap, subst, arith, inl, inr}
 use Rattle.rc_base.specs.Acts.{Act}
 use Rattle.rc_base.specs.Causes.{Rose}
@@ -6,18 +6,16 @@ use Rattle.rc_base.specs.Shelves.{Names, ShelfState}
 use Rattle.rc_base.specs.Sinks.{SinkState, Took}
 use Rattle.rc_base.specs.Sources.{SourceState}
 use Rattle.rc_base.specs.declared.ends.End.{End}
-use Rattle.rc_base.specs.declared.ends.Limits.{Limits}
 use Rattle.rc_base.proofs.ActLaws.{took_nothing}
-use Rattle.rc_core.specs.Meaning.{meaning}
-use Rattle.rc_core.specs.Programs.{Program}
 use Rattle.rc_core.specs.Runs.{Stop, Ends, Stale}
+use Rattle.rc_store.specs.Kept.{KeptStore}
 use Rattle.rc_driver.specs.Answers.{IsQuiet, IsRun, MayAnswer, MayFailOut, WritesOut}
 use Rattle.rc_driver.specs.Footprint.{Alone, IsMissing, UsesFiles, footprint, nothing}
-use Rattle.rc_driver.specs.Outcome.{Comes, Follows, IsOutcome, Outcome, Performed, StoppedShort, Untouched, answers, runs}
+use Rattle.rc_driver.specs.Outcome.{Comes, Follows, IsOutcome, IsStored, Outcome, Performed, StoppedShort, Untouched, answers}
 use Rattle.rc_driver.specs.Outside.{NoCountFalls, Outside, TellsAsBefore, outside}
 use Rattle.rc_driver.specs.Performing.{Performs}
 use Rattle.rc_driver.specs.Request.{Request}
-use Rattle.rc_driver.specs.Running.{IsRunFault, RanProgram}
+use Rattle.rc_driver.specs.Running.{IsRunFault, Ran}
 use Rattle.rc_driver.specs.declared.answer.Done.{Done}
 use Rattle.rc_driver.specs.declared.answer.Done.TheVariants.{Ended, StaleImage, Refused, ImageRefused, Wrote, Reported, Usage}
 use Rattle.rc_driver.specs.declared.answer.Fault.{Fault}
@@ -44,13 +42,14 @@ no_use (name, inr stored) = cc
 pub asks_some : (request : Option Request) → UsesFiles (footprint request) → request ≡ None → ⊥
 asks_some request uses none = no_use (subst (λ (r : Option Request). UsesFiles (footprint r)) none uses)
 
-pub alone_of : (request : Option Request) (before : Outside) (files' : ShelfState) (input' : SourceState) (out' : SinkState) → OnlyReads request before files' → ((footprint request).takes_input ≡ false → input' ≡ before.input) → ((footprint request).writes_out ≡ false → out' ≡ before.out) → Alone (footprint request) before (outside files' input' out' before.err)
+pub alone_of : (request : Option Request) (before : Outside) (files' : ShelfState) (input' : SourceState) (out' : SinkState) → OnlyReads request before files' → ((footprint request).takes_input ≡ false → input' ≡ before.input) → ((footprint request).writes_out ≡ false → out' ≡ before.out) → Alone (footprint request) before (outside files' input' out' before.err before.heap)
 alone_of request before files' input' out' reads takes writes = record {
   others = λ tells name none. ap (λ (names : Names). names name) (reads.names tells);
   names = λ none tells. reads.names tells;
   files = λ none. absurd (none reads.uses);
   input = takes;
   out = writes;
+  heap = λ e. refl;
 }
 
 pub untouched : (input : SourceState) (out : SinkState) → Untouched input input out out
@@ -68,7 +67,7 @@ input_count input input' out out' same = ap (λ (s : SourceState). s.faults) sam
 out_count : (input input' : SourceState) (out out' : SinkState) → Untouched input input' out out' → out'.faults ≡ out.faults
 out_count input input' out out' same = ap (λ (o : SinkState). o.faults) same.out_same
 
-tells_untouched : (request : Option Request) (before : Outside) (files' : ShelfState) (input' : SourceState) (out' : SinkState) → OnlyReads request before files' → Untouched before.input input' before.out out' → TellsAsBefore before (outside files' input' out' before.err)
+tells_untouched : (request : Option Request) (before : Outside) (files' : ShelfState) (input' : SourceState) (out' : SinkState) → OnlyReads request before files' → Untouched before.input input' before.out out' → TellsAsBefore before (outside files' input' out' before.err before.heap)
 tells_untouched request before files' input' out' reads same = record {
   files = reads.tells;
   input = ap (λ (s : SourceState). s.tells) same.input_same;
@@ -76,7 +75,7 @@ tells_untouched request before files' input' out' reads same = record {
   err = refl;
 }
 
-counts_untouched : (request : Option Request) (before : Outside) (files' : ShelfState) (input' : SourceState) (out' : SinkState) → OnlyReads request before files' → Untouched before.input input' before.out out' → NoCountFalls before (outside files' input' out' before.err)
+counts_untouched : (request : Option Request) (before : Outside) (files' : ShelfState) (input' : SourceState) (out' : SinkState) → OnlyReads request before files' → Untouched before.input input' before.out out' → NoCountFalls before (outside files' input' out' before.err before.heap)
 counts_untouched request before files' input' out' reads same = let input_same = input_count before.input input' before.out out' same in let out_same = out_count before.input input' before.out out' same in record {
   files = reads.never_falls;
   input = omega (arith, input_same);
@@ -85,7 +84,7 @@ counts_untouched request before files' input' out' reads same = let input_same =
 }
 
 -- a front of no acts was done, for want of memory or of a file
-stopped_before : (acts : List Act) (fault : Fault) (input input' : SourceState) (out out' : SinkState) → Untouched input input' out out' → (fault ≡ FileFault) ⊎ (fault ≡ Memory) → StoppedShort acts fault input input' out out'
+pub stopped_before : (acts : List Act) (fault : Fault) (input input' : SourceState) (out out' : SinkState) → Untouched input input' out out' → (fault ≡ FileFault) ⊎ (fault ≡ Memory) → StoppedShort acts fault input input' out out'
 stopped_before acts fault input input' out out' same which = record {
   before = [];
   left = acts;
@@ -132,15 +131,16 @@ told_so fault (inl e) = inl (ap Err e)
 told_so fault (inr e) = inr (ap Err e)
 
 -- the first way: it fails before anything was done
-pub fails_before : (request : Option Request) (before : Outside) (files' : ShelfState) (input' : SourceState) (out' : SinkState) (fault : Fault) → OnlyReads request before files' → Untouched before.input input' before.out out' → FailsFirst request before files' fault → Performs request before (outside files' input' out' before.err) (Err fault)
+pub fails_before : (request : Option Request) (before : Outside) (files' : ShelfState) (input' : SourceState) (out' : SinkState) (fault : Fault) → OnlyReads request before files' → Untouched before.input input' before.out out' → FailsFirst request before files' fault → Performs request before (outside files' input' out' before.err before.heap) (Err fault)
 fails_before request before files' input' out' fault reads same first = record {
   follows = λ outcome comes. stopped_before outcome.acts fault before.input input' before.out out' same which;
   settled = λ told ok. cc;
-  missing = λ none. (same, told_so fault which);
+  missing = λ none. (same, reads.names none.2.tells, refl, told_so fault which);
   may_answer = tt;
   alone = alone_of request before files' input' out' reads (λ e. same.input_same) (λ e. same.out_same);
   stored = λ told may. reads.names told;
   quiet = tt;
+  spared = tt;
   flushed = tt;
   tells = tells_untouched request before files' input' out' reads same;
   no_count_falls = counts_untouched request before files' input' out' reads same;
@@ -173,15 +173,16 @@ quiet_unwritten Usage quiet writes = writes
 pub is_refused : (request : Option Request) (before : Outside) (files' : ShelfState) (input' : SourceState) (out' : SinkState) (done : Done) → HasRead request before files' → Untouched before.input input' before.out out' → IsQuiet done → MayAnswer request done
     → ((UsesFiles (footprint request) → IsTrue before.files.tells) → IsOutcome request before.files.names before.input.rest (answers done))
     → ((outcome : Outcome) → Comes request before outcome → outcome ≡ answers done)
-    → Performs request before (outside files' input' out' before.err) (Ok done)
+    → Performs request before (outside files' input' out' before.err before.heap) (Ok done)
 is_refused request before files' input' out' done has same quiet may outcome only = record {
-  follows = λ o comes. subst (λ (x : Outcome). Follows x before (outside files' input' out' before.err) (Ok done)) (sym (only o comes)) (refl, performed_nothing before.input input' before.out out' same);
+  follows = λ o comes. subst (λ (x : Outcome). Follows x before (outside files' input' out' before.err before.heap) (Ok done)) (sym (only o comes)) (refl, performed_nothing before.input input' before.out out' same, tt, tt);
   settled = λ told ok. (answers done, outcome told);
   missing = λ none. absurd (has.there none);
   may_answer = may;
   alone = alone_of request before files' input' out' has.only_reads (λ e. same.input_same) (λ e. same.out_same);
   stored = λ told other. has.only_reads.names told;
   quiet = λ q. same;
+  spared = λ q. refl;
   flushed = λ writes. absurd (quiet_unwritten done quiet writes);
   tells = tells_untouched request before files' input' out' has.only_reads same;
   no_count_falls = counts_untouched request before files' input' out' has.only_reads same;
@@ -198,57 +199,41 @@ is_refused request before files' input' out' done has same quiet may outcome onl
   usage = λ none. absurd (asks_some request has.only_reads.uses none);
 }
 
--- a request comes to what a program means on the input
-pub record RunsProgram (request : Option Request) (before : Outside) (program : Program) (limits : Limits) : Type 0 where
-  pub takes : IsTrue (footprint request).takes_input
-  pub writes : IsTrue (footprint request).writes_out
-  pub may_end : (end : End) → MayAnswer request (Ended end)
-  pub outcome : (UsesFiles (footprint request) → IsTrue before.files.tells) → (end : End) → (meaning program before.input.rest limits).end ≡ Ends end → IsOutcome request before.files.names before.input.rest (runs (meaning program before.input.rest limits).acts end)
-  pub only : (outcome : Outcome) → Comes request before outcome → (end : End) × ((meaning program before.input.rest limits).end ≡ Ends end) × (outcome ≡ runs (meaning program before.input.rest limits).acts end)
-
 -- a stop that is no touch of a deleted region is an end
 pub an_end : (stop : Stop) → ((line : ℕ) → stop ≢ Stale line) → (end : End) × (stop ≡ Ends end)
 an_end (Ends end) never = (end, refl)
 an_end (Stale line) never = absurd (never line refl)
 
+-- a request runs to this outcome on the rest of the input
+pub record RunsTo (request : Option Request) (before : Outside) (comes : List ℕ → Outcome) : Type 0 where
+  pub takes : IsTrue (footprint request).takes_input
+  pub writes : IsTrue (footprint request).writes_out
+  pub is_run : (rest : List ℕ) → IsRun (comes rest).done
+  pub stores_none : (rest : List ℕ) → (comes rest).stored ≡ None
+  pub outcome : (UsesFiles (footprint request) → IsTrue before.files.tells) → IsOutcome request before.files.names before.input.rest (comes before.input.rest)
+  pub only : (outcome : Outcome) → Comes request before outcome → outcome ≡ comes before.input.rest
+
 pub is_not : (b : Bool) → IsTrue b → b ≡ false → ⊥
 is_not true is none = cc
 is_not false is none = cc
 
-alone_in_run : (request : Option Request) (before : Outside) (files' : ShelfState) (input' : SourceState) (out' : SinkState) (program : Program) (limits : Limits) → OnlyReads request before files' → RunsProgram request before program limits → Alone (footprint request) before (outside files' input' out' before.err)
-alone_in_run request before files' input' out' program limits reads is = alone_of request before files' input' out' reads (λ e. absurd (is_not (footprint request).takes_input is.takes e)) (λ e. absurd (is_not (footprint request).writes_out is.writes e))
+not_quiet : (done : Done) → IsRun done → IsQuiet done → ⊥
+not_quiet (Ended end) run quiet = quiet
+not_quiet (StaleImage line) run quiet = quiet
+not_quiet (Refused refusal) run quiet = run
+not_quiet (ImageRefused refusal) run quiet = run
+not_quiet Wrote run quiet = run
+not_quiet Reported run quiet = run
+not_quiet Usage run quiet = run
 
--- the third way: it runs a program, to its end
-pub runs_to_the_end : (request : Option Request) (before : Outside) (files' : ShelfState) (input' : SourceState) (out' : SinkState) (program : Program) (limits : Limits) (end : End) → HasRead request before files' → RunsProgram request before program limits → RanProgram program limits before.input input' before.out out' (Ok end) → Performs request before (outside files' input' out' before.err) (Ok (Ended end))
-runs_to_the_end request before files' input' out' program limits end has is ran = record {
-  follows = λ outcome comes. follows_run outcome comes (is.only outcome comes);
-  settled = λ told ok. (let e = an_end (meaning program before.input.rest limits).end ran.never_stale in (runs (meaning program before.input.rest limits).acts e.0, is.outcome told e.0 e.1));
-  missing = λ none. absurd (has.there none);
-  may_answer = is.may_end end;
-  alone = alone_in_run request before files' input' out' program limits has.only_reads is;
-  stored = λ told other. has.only_reads.names told;
-  quiet = λ q. absurd q;
-  flushed = λ writes. ran.flushed;
-  tells = record { files = has.only_reads.tells; input = ran.input_tells; out = ran.out_tells; err = refl };
-  no_count_falls = record { files = has.only_reads.never_falls; input = ran.input_later; out = ran.out_later; err = omega arith };
-  counts_stay = record {
-    files = λ other. has.kept;
-    input = λ other. ran.input_kept (λ is. cc);
-    out = λ other. ran.out_kept refl;
-    err = λ ok. refl;
-  };
-  file_fault = λ is. cc;
-  read_fault = λ is. cc;
-  write_fault = λ is. cc;
-  no_error = λ is. cc;
-  usage = λ none. absurd (asks_some request has.only_reads.uses none);
-} where
-  follows_run : (outcome : Outcome) → Comes request before outcome → (x : (e : End) × ((meaning program before.input.rest limits).end ≡ Ends e) × (outcome ≡ runs (meaning program before.input.rest limits).acts e)) → Follows outcome before (outside files' input' out' before.err) (Ok (Ended end))
-  follows_run outcome comes x =
-      let tells = comes.told.input is.takes in
-      let both : Ends x.0 ≡ Ends end = sym x.1 ∙ ran.end tells in
-      let same : x.0 ≡ end = cc in
-      subst (λ (o : Outcome). Follows o before (outside files' input' out' before.err) (Ok (Ended end))) (sym x.2) (ap Ended (sym same), ran.performed tells)
+writes_out : (done : Done) → IsRun done → WritesOut done
+writes_out (Ended end) run = tt
+writes_out (StaleImage line) run = tt
+writes_out (Refused refusal) run = run
+writes_out (ImageRefused refusal) run = run
+writes_out Wrote run = run
+writes_out Reported run = tt
+writes_out Usage run = run
 
 not_in_run : (fault other : Fault) → IsRunFault fault → ¬ IsRunFault other → fault ≡ other → ⊥
 not_in_run fault other is none same = none (subst IsRunFault same is)
@@ -260,42 +245,93 @@ memory_or Memory is none = none tt
 memory_or FileFault is none = is
 memory_or ErrFault is none = is
 
--- and it is cut short there
-pub runs_and_is_cut_short : (request : Option Request) (before : Outside) (files' : ShelfState) (input' : SourceState) (out' : SinkState) (program : Program) (limits : Limits) (fault : Fault) → HasRead request before files' → RunsProgram request before program limits → RanProgram program limits before.input input' before.out out' (Err fault) → Performs request before (outside files' input' out' before.err) (Err fault)
-runs_and_is_cut_short request before files' input' out' program limits fault has is ran = record {
-  follows = λ outcome comes. (let x = is.only outcome comes in subst (λ (o : Outcome). StoppedShort o.acts fault before.input input' before.out out') (sym x.2) (ran.stopped (comes.told.input is.takes)));
-  settled = λ told ok. cc;
-  missing = λ none. absurd (has.there none);
-  may_answer = tt;
-  alone = alone_in_run request before files' input' out' program limits has.only_reads is;
-  stored = λ told other. has.only_reads.names told;
-  quiet = tt;
-  flushed = tt;
-  tells = record { files = has.only_reads.tells; input = ran.input_tells; out = ran.out_tells; err = refl };
-  no_count_falls = record { files = has.only_reads.never_falls; input = ran.input_later; out = ran.out_later; err = omega arith };
-  counts_stay = record {
-    files = λ other. has.kept;
-    input = λ other. ran.input_kept (λ e. other (ap Err (same_fault fault ReadFault e)));
-    out = λ other. absurd (memory_or fault ran.fault other);
-    err = λ ok. refl;
-  };
-  file_fault = λ e. absurd (not_in_run fault FileFault ran.fault (λ x. x) (same_fault fault FileFault e));
-  read_fault = λ e. record { takes = is.takes; rose = ran.read (ap Err (same_fault fault ReadFault e)); in_run = λ outcome comes. (let x = is.only outcome comes in subst (λ (o : Outcome). IsRun o.done) (sym x.2) tt) };
-  write_fault = λ e. record { writes = is.writes; rose = ran.write (ap Err (same_fault fault WriteFault e)); writing = λ outcome comes. (let x = is.only outcome comes in subst (λ (o : Outcome). WritesOut o.done) (sym x.2) tt) };
-  no_error = λ e. not_in_run fault ErrFault ran.fault (λ x. x) (same_fault fault ErrFault e);
-  usage = λ none. absurd (asks_some request has.only_reads.uses none);
-}
+-- the third way: it runs, to its end or not
+module _ (request : Option Request) (before : Outside) (files' : ShelfState) (input' : SourceState) (out' : SinkState) (heap' : KeptStore) (comes : List ℕ → Outcome) (has : HasRead request before files') (is : RunsTo request before comes)
+    (spares : (footprint request).uses_heap ≡ false → heap' ≡ before.heap) where
+  abbrev pub behind : Outside
+  behind = outside files' input' out' before.err heap'
+
+  alone_in_run : Alone (footprint request) before behind
+  alone_in_run = record {
+    others = λ tells name none. ap (λ (names : Names). names name) (has.only_reads.names tells);
+    names = λ none tells. has.only_reads.names tells;
+    files = λ none. absurd (none has.only_reads.uses);
+    input = λ e. absurd (is_not (footprint request).takes_input is.takes e);
+    out = λ e. absurd (is_not (footprint request).writes_out is.writes e);
+    heap = spares;
+  }
+
+  tells_in_run : (result : Result Done Fault) → Ran comes before.input input' before.out out' heap' result → TellsAsBefore before behind
+  tells_in_run result ran = record { files = has.only_reads.tells; input = ran.input_tells; out = ran.out_tells; err = refl }
+
+  counts_in_run : (result : Result Done Fault) → Ran comes before.input input' before.out out' heap' result → NoCountFalls before behind
+  counts_in_run result ran = record { files = has.only_reads.never_falls; input = ran.input_later; out = ran.out_later; err = omega arith }
+
+  pub runs_to_the_end : (done : Done) → MayAnswer request done → Ran comes before.input input' before.out out' heap' (Ok done) → Performs request before behind (Ok done)
+  runs_to_the_end done may ran = record {
+    follows = λ outcome c. (let tells = c.told.input is.takes in subst (λ (o : Outcome). Follows o before behind (Ok done)) (sym (is.only outcome c))
+        (ran.done tells, ran.performed tells, subst (λ s. IsStored s files'.names) (sym (is.stores_none before.input.rest)) tt, ran.left tells));
+    settled = λ told ok. (comes before.input.rest, is.outcome told);
+    missing = λ none. absurd (has.there none);
+    may_answer = may;
+    alone = alone_in_run;
+    stored = λ told other. has.only_reads.names told;
+    quiet = λ q. absurd (not_quiet done ran.is_run q);
+    spared = λ q. absurd (not_quiet done ran.is_run q);
+    flushed = λ writes. ran.flushed;
+    tells = tells_in_run (Ok done) ran;
+    no_count_falls = counts_in_run (Ok done) ran;
+    counts_stay = record {
+      files = λ other. has.kept;
+      input = λ other. ran.input_kept (λ is. cc);
+      out = λ other. ran.out_kept refl;
+      err = λ ok. refl;
+    };
+    file_fault = λ is. cc;
+    read_fault = λ is. cc;
+    write_fault = λ is. cc;
+    no_error = λ is. cc;
+    usage = λ none. absurd (asks_some request has.only_reads.uses none);
+  }
+
+  -- and it is cut short there
+  pub runs_and_is_cut_short : (fault : Fault) → Ran comes before.input input' before.out out' heap' (Err fault) → Performs request before behind (Err fault)
+  runs_and_is_cut_short fault ran = record {
+    follows = λ outcome c. subst (λ (o : Outcome). StoppedShort o.acts fault before.input input' before.out out') (sym (is.only outcome c)) (ran.stopped (c.told.input is.takes));
+    settled = λ told ok. cc;
+    missing = λ none. absurd (has.there none);
+    may_answer = tt;
+    alone = alone_in_run;
+    stored = λ told other. has.only_reads.names told;
+    quiet = tt;
+    spared = tt;
+    flushed = tt;
+    tells = tells_in_run (Err fault) ran;
+    no_count_falls = counts_in_run (Err fault) ran;
+    counts_stay = record {
+      files = λ other. has.kept;
+      input = λ other. ran.input_kept (λ e. other (ap Err (same_fault fault ReadFault e)));
+      out = λ other. absurd (memory_or fault ran.fault other);
+      err = λ ok. refl;
+    };
+    file_fault = λ e. absurd (not_in_run fault FileFault ran.fault (λ x. x) (same_fault fault FileFault e));
+    read_fault = λ e. record { takes = is.takes; rose = ran.read (ap Err (same_fault fault ReadFault e)); in_run = λ outcome c. subst (λ (o : Outcome). IsRun o.done) (sym (is.only outcome c)) (is.is_run before.input.rest) };
+    write_fault = λ e. record { writes = is.writes; rose = ran.write (ap Err (same_fault fault WriteFault e)); writing = λ outcome c. subst (λ (o : Outcome). WritesOut o.done) (sym (is.only outcome c)) (writes_out (comes before.input.rest).done (is.is_run before.input.rest)) };
+    no_error = λ e. not_in_run fault ErrFault ran.fault (λ x. x) (same_fault fault ErrFault e);
+    usage = λ none. absurd (asks_some request has.only_reads.uses none);
+  }
 
 -- words that ask nothing
 pub asks_usage : (before : Outside) → Performs None before before (Ok Usage)
 asks_usage before = record {
-  follows = λ outcome comes. let is : outcome ≡ answers Usage = comes.comes in subst (λ (o : Outcome). Follows o before before (Ok Usage)) (sym is) (refl, performed_nothing before.input before.input before.out before.out (untouched before.input before.out));
+  follows = λ outcome comes. let is : outcome ≡ answers Usage = comes.comes in subst (λ (o : Outcome). Follows o before before (Ok Usage)) (sym is) (refl, performed_nothing before.input before.input before.out before.out (untouched before.input before.out), tt, tt);
   settled = λ told ok. (answers Usage, refl);
   missing = λ none. absurd (no_use (none.0, inl none.1));
   may_answer = refl;
-  alone = record { others = λ told name other. refl; names = λ none told. refl; files = λ none. refl; input = λ none. refl; out = λ none. refl };
+  alone = record { others = λ told name other. refl; names = λ none told. refl; files = λ none. refl; input = λ none. refl; out = λ none. refl; heap = λ none. refl };
   stored = λ told other. refl;
   quiet = λ q. untouched before.input before.out;
+  spared = λ q. refl;
   flushed = λ writes. absurd writes;
   tells = record { files = refl; input = refl; out = refl; err = refl };
   no_count_falls = record { files = omega arith; input = omega arith; out = omega arith; err = omega arith };

@@ -1,10 +1,12 @@
 -- Which answers a request may have, and of which kind an answer is.
 use Rattle.std.specs.Prelude.{◌≡◌, [], Option, Some, None, Result, Ok, Err}
 use Rattle.rc_driver.specs.Lines.{done_line}
-use Rattle.rc_driver.specs.Request.{Request, Run, Slow}
+use Rattle.rc_driver.specs.Request.{Request, Run, Slow, Listing, Upgrade}
 use Rattle.rc_driver.specs.declared.answer.Done.{Done}
 use Rattle.rc_driver.specs.declared.answer.Done.TheVariants.{Ended, StaleImage, Refused, ImageRefused, Wrote, Reported, Usage}
 use Rattle.rc_driver.specs.declared.answer.Fault.{Fault}
+use Rattle.rc_driver.specs.declared.image_refusal.ImageRefusal.{ImageRefusal}
+use Rattle.rc_driver.specs.declared.image_refusal.ImageRefusal.TheVariants.{Magic, Version, Short, Extra, Field}
 use Rattle.rc_driver.specs.declared.answer.Fault.TheVariants.{FileFault, ReadFault, WriteFault, Memory}
 
 -- a text ends its run or is refused
@@ -13,11 +15,34 @@ EndsOrIsRefused (Ended end) = Unit {0}
 EndsOrIsRefused (Refused refusal) = Unit {0}
 EndsOrIsRefused _ = ⊥
 
+-- bytes are refused as an image before anything is asked of its code
+abbrev pub IsOfBytes : ImageRefusal → Type 0
+IsOfBytes Magic = Unit {0}
+IsOfBytes Version = Unit {0}
+IsOfBytes Short = Unit {0}
+IsOfBytes Extra = Unit {0}
+IsOfBytes (Field offset) = Unit {0}
+IsOfBytes _ = ⊥
+
+-- an image is reported on, or the bytes are refused
+abbrev pub ReportsOrIsRefused : Done → Type 0
+ReportsOrIsRefused Reported = Unit {0}
+ReportsOrIsRefused (ImageRefused refusal) = IsOfBytes refusal
+ReportsOrIsRefused _ = ⊥
+
+-- an image is stored, or the bytes are refused
+abbrev pub WritesOrIsRefused : Done → Type 0
+WritesOrIsRefused Wrote = Unit {0}
+WritesOrIsRefused (ImageRefused refusal) = IsOfBytes refusal
+WritesOrIsRefused _ = ⊥
+
 -- the row of each request; words that ask nothing have the usage alone
 abbrev pub MayAnswer : Option Request → Done → Type 0
 MayAnswer None done = done ≡ Usage
 MayAnswer (Some (Run file limits)) done = EndsOrIsRefused done
 MayAnswer (Some (Slow file limits)) done = EndsOrIsRefused done
+MayAnswer (Some (Listing file)) done = ReportsOrIsRefused done
+MayAnswer (Some (Upgrade from to)) done = WritesOrIsRefused done
 
 -- the answers behind which the output was flushed
 abbrev pub WritesOut : Done → Type 0

@@ -5,7 +5,7 @@ use Rattle.rc_driver.specs.Request as request
 use Rattle.rc_driver.specs.Request.{Chosen}
 use Rattle.rc_driver.specs.declared.request.Chosen as code
 use Rattle.rc_driver.specs.declared.request.Request as code_request
-use Rattle.rc_driver.specs.declared.request.Request.TheVariants.{Run, Slow}
+use Rattle.rc_driver.specs.declared.request.Request.TheVariants.{Run, Slow, Listing, Upgrade}
 
 abbrev pub bytes_of : List (String Global) → List (List ℕ)
 bytes_of words = map string_bytes words
@@ -16,3 +16,5 @@ chosen c = record { number = c.number; rest = bytes_of c.rest.now }
 abbrev pub asks : code_request.Request → request.Request
 asks (Run file limits) = request.Run file.now limits
 asks (Slow file limits) = request.Slow file.now limits
+asks (Listing file) = request.Listing file.now
+asks (Upgrade from to) = request.Upgrade from.now to.now

@@ -2,27 +2,39 @@
 use Rattle.std.specs.Prelude.{◌≡◌, ◌⊎◌, ℕ, Bool, true, false, List, [], ◌∷◌, Option, Some, None, Contains, IsTrue}
 use Rattle.rc_base.specs.Shelves.{Lacks, Names}
 use Rattle.rc_driver.specs.Outside.{Outside}
-use Rattle.rc_driver.specs.Request.{Request, Run, Slow}
+use Rattle.rc_driver.specs.Request.{Request, Run, Slow, Listing, Upgrade}
 
--- the names that it reads, the name that it stores under, and whether it takes bytes of the input and writes to the output
+-- the names that it reads, the name that it stores under, and whether it takes bytes of the input, writes to the output and runs over the
+-- heap
 pub record Footprint : Type 0 where
   pub reads : List (List ℕ)
   pub stores : Option (List ℕ)
   pub takes_input : Bool
   pub writes_out : Bool
+  pub uses_heap : Bool
 
 abbrev pub nothing : Footprint
-nothing = record { reads = []; stores = None; takes_input = false; writes_out = false }
+nothing = record { reads = []; stores = None; takes_input = false; writes_out = false; uses_heap = false }
 
 -- a run of a file
 abbrev pub runs_file : List ℕ → Footprint
-runs_file file = record { reads = file ∷ []; stores = None; takes_input = true; writes_out = true }
+runs_file file = record { reads = file ∷ []; stores = None; takes_input = true; writes_out = true; uses_heap = false }
+
+-- a report on a file
+abbrev pub reports_on : List ℕ → Footprint
+reports_on file = record { reads = file ∷ []; stores = None; takes_input = false; writes_out = true; uses_heap = false }
+
+-- what is made of one file is stored under another name
+abbrev pub stores_from : (from to : List ℕ) → Footprint
+stores_from from to = record { reads = from ∷ []; stores = Some to; takes_input = false; writes_out = false; uses_heap = false }
 
 -- the row of each request
 abbrev pub footprint : Option Request → Footprint
 footprint None = nothing
 footprint (Some (Run file limits)) = runs_file file
 footprint (Some (Slow file limits)) = runs_file file
+footprint (Some (Listing file)) = reports_on file
+footprint (Some (Upgrade from to)) = stores_from from to
 
 abbrev pub Reads : Footprint → List ℕ → Type 0
 Reads f name = Contains f.reads name
@@ -40,6 +52,7 @@ pub record Alone (f : Footprint) (before after : Outside) : Type 0 where
   pub files : ¬ UsesFiles f → after.files ≡ before.files
   pub input : f.takes_input ≡ false → after.input ≡ before.input
   pub out : f.writes_out ≡ false → after.out ≡ before.out
+  pub heap : f.uses_heap ≡ false → after.heap ≡ before.heap
 
 -- what it uses tells what it has
 pub record TellsWhatIsUsed (f : Footprint) (before : Outside) : Type 0 where

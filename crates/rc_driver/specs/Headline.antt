@@ -26,6 +26,7 @@ pub record Replaced (request : Option Request) (before after : Outside) (done : 
   pub untold : Untold done before.err after.err
   pub is : (outcome : Outcome) → Comes request before outcome → done ≡ outcome.done
   pub quiet : IsQuiet done → Untouched before.input after.input before.out after.out
+  pub spared : IsQuiet done → after.heap ≡ before.heap
   pub flushed : WritesOut done → IsFlushed after.out
 
 -- what the error stream took: the line of what was done; with a fault of its own a front of the line that the fault replaces; and else the fault's
@@ -52,7 +53,7 @@ pub record Serves (request : Option Request) (before after : Outside) (result : 
   -- where no count rose, the answer is that of the outcome, or want of memory
   pub complete : NoneRose before after → (outcome : Outcome) → Comes request before outcome → (result ≡ Ok outcome.done) ⊎ (result ≡ Err Memory)
   -- where a name that is read isn't there, nothing is done
-  pub missing : IsMissing (footprint request) before → Untouched before.input after.input before.out after.out × ((result ≡ Err FileFault) ⊎ (result ≡ Err Memory))
+  pub missing : IsMissing (footprint request) before → Untouched before.input after.input before.out after.out × (after.files.names ≡ before.files.names) × (after.heap ≡ before.heap) × ((result ≡ Err FileFault) ⊎ (result ≡ Err Memory))
   -- the answer is one of those that the request may have
   pub may_answer : IfOk result (MayAnswer request)
   -- what the request doesn't use is as it was
@@ -61,6 +62,8 @@ pub record Serves (request : Option Request) (before after : Outside) (result : 
   pub stored : IsTrue before.files.tells → ¬ MayStore result → after.files.names ≡ before.files.names
   -- a refusal takes no byte and writes none
   pub quiet : IfOk result (λ done. IsQuiet done → Untouched before.input after.input before.out after.out)
+  -- and leaves the heap as it was
+  pub spared : IfOk result (λ done. IsQuiet done → after.heap ≡ before.heap)
   -- what was written is flushed
   pub flushed : IfOk result (λ done. WritesOut done → IsFlushed after.out)
   -- what the error stream took

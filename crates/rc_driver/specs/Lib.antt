@@ -4,8 +4,10 @@ pub mod Asking
 pub mod FaultCauses
 pub mod Footprint
 pub mod Headline
+pub mod Images
 pub mod LineBytes
 pub mod Lines
+pub mod Making
 pub mod Outcome
 pub mod Outside
 pub mod Performing

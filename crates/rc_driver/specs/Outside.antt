@@ -4,16 +4,18 @@ use Rattle.rc_base.specs.Causes.{Rose}
 use Rattle.rc_base.specs.Shelves.{ShelfState}
 use Rattle.rc_base.specs.Sinks.{SinkState}
 use Rattle.rc_base.specs.Sources.{SourceState}
+use Rattle.rc_store.specs.Kept.{KeptStore}
 
--- the files, the input, the output and the error stream
+-- the files, the input, the output, the error stream and the heap of the run
 pub record Outside : Type 0 where
   pub files : ShelfState
   pub input : SourceState
   pub out : SinkState
   pub err : SinkState
+  pub heap : KeptStore
 
-abbrev pub outside : ShelfState → SourceState → SinkState → SinkState → Outside
-outside files input out err = record { files = files; input = input; out = out; err = err }
+abbrev pub outside : ShelfState → SourceState → SinkState → SinkState → KeptStore → Outside
+outside files input out err heap = record { files = files; input = input; out = out; err = err; heap = heap }
 
 -- each object tells what it told before
 pub record TellsAsBefore (before after : Outside) : Type 0 where

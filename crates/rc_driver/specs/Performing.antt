@@ -15,11 +15,12 @@ use Rattle.rc_driver.specs.declared.answer.Fault.TheVariants.{FileFault, ReadFau
 pub record Performs (request : Option Request) (before after : Outside) (result : Result Done Fault) : Type 0 where
   pub follows : (outcome : Outcome) → Comes request before outcome → Follows outcome before after result
   pub settled : (UsesFiles (footprint request) → IsTrue before.files.tells) → IsOk result → (outcome : Outcome) × IsOutcome request before.files.names before.input.rest outcome
-  pub missing : IsMissing (footprint request) before → Untouched before.input after.input before.out after.out × ((result ≡ Err FileFault) ⊎ (result ≡ Err Memory))
+  pub missing : IsMissing (footprint request) before → Untouched before.input after.input before.out after.out × (after.files.names ≡ before.files.names) × (after.heap ≡ before.heap) × ((result ≡ Err FileFault) ⊎ (result ≡ Err Memory))
   pub may_answer : IfOk result (MayAnswer request)
   pub alone : Alone (footprint request) before after
   pub stored : IsTrue before.files.tells → ¬ MayStore result → after.files.names ≡ before.files.names
   pub quiet : IfOk result (λ done. IsQuiet done → Untouched before.input after.input before.out after.out)
+  pub spared : IfOk result (λ done. IsQuiet done → after.heap ≡ before.heap)
   pub flushed : IfOk result (λ done. WritesOut done → IsFlushed after.out)
   pub tells : TellsAsBefore before after
   pub no_count_falls : NoCountFalls before after

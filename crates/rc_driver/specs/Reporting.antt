@@ -1,25 +1,16 @@
 -- A report: bytes that a request writes to the output and flushes.
-use Rattle.std.specs.Prelude.{◌≡◌, ◌≤◌, ℕ, List, [], ◌∷◌, take, Option, Result, Ok, Err, IfErr, OnOk, OnErr, IsErr, IsOk, IsTrue}
-use Rattle.rc_base.specs.Acts.{Act, Write}
+use Rattle.std.specs.Prelude.{◌≡◌, ◌≤◌, ℕ, List, take, Option, Result, Ok, Err, IfErr, OnOk, OnErr, IsErr, IsOk, IsTrue}
 use Rattle.rc_base.specs.Causes.{Rose}
 use Rattle.rc_base.specs.Sinks.{IsFlushed, SinkState, Took}
 use Rattle.rc_driver.specs.Answers.{MayAnswer}
 use Rattle.rc_driver.specs.Footprint.{UsesFiles, footprint}
-use Rattle.rc_driver.specs.Outcome.{Comes, IsOutcome, Outcome}
+use Rattle.rc_driver.specs.Outcome.{Comes, IsOutcome, Outcome, reports}
 use Rattle.rc_driver.specs.Outside.{Outside}
 use Rattle.rc_driver.specs.Request.{Request}
 use Rattle.rc_driver.specs.declared.answer.Done.{Done}
 use Rattle.rc_driver.specs.declared.answer.Done.TheVariants.{Reported}
 use Rattle.rc_driver.specs.declared.answer.Fault.{Fault}
 use Rattle.rc_driver.specs.declared.answer.Fault.TheVariants.{WriteFault}
-
--- the acts that write these bytes
-abbrev pub writes : List ℕ → List Act
-writes [] = []
-writes (byte ∷ bytes) = Write byte ∷ writes bytes
-
-abbrev pub reports : List ℕ → Outcome
-reports report = record { done = Reported; acts = writes report }
 
 -- a byte failed behind a front of the report, of which nothing was flushed, or the flush failed behind all of it
 pub data CutReport (report : List ℕ) (out out' : SinkState) : Type 0 where

@@ -12,6 +12,10 @@ pub data Request : Type 0 where
   Run : (file : List ℕ) → Limits → Request
   -- to run it node by node
   Slow : (file : List ℕ) → Limits → Request
+  -- to list the image of this file
+  Listing : (file : List ℕ) → Request
+  -- to store the image of the first file under the second name, in the newest version of the format
+  Upgrade : (from to : List ℕ) → Request
 
 -- the number of a word of decimal digits without a leading zero, where it is no more than `most`
 abbrev pub number_within : (most : ℕ) → List ℕ → Option ℕ
@@ -44,9 +48,21 @@ limits_of words =
     choosing (option (codes "--blocks") most_blocks most_blocks words) (λ blocks words.
     at_end (record { turns = turns; regions = regions; blocks = blocks }) words)))
 
--- a verb, any word as the name of a file, and options; none for every other list of words
+-- nothing stands behind
+abbrev pub ending : Request → List (List ℕ) → Option Request
+ending request [] = Some request
+ending request (word ∷ words) = None
+
+-- one word more, which is a name
+abbrev pub ending_in_name : (List ℕ → Request) → List (List ℕ) → Option Request
+ending_in_name request (name ∷ []) = Some (request name)
+ending_in_name request words = None
+
+-- a verb, any word as the name of a file, and options or another name; none for every other list of words
 abbrev pub request_of : List (List ℕ) → Option Request
-request_of (verb ∷ file ∷ options) =
-    if bytes_eq verb (codes "run") then option_map (Run file) (limits_of options) else
-    if bytes_eq verb (codes "slow") then option_map (Slow file) (limits_of options) else None
+request_of (verb ∷ file ∷ rest) =
+    if bytes_eq verb (codes "run") then option_map (Run file) (limits_of rest) else
+    if bytes_eq verb (codes "slow") then option_map (Slow file) (limits_of rest) else
+    if bytes_eq verb (codes "list") then ending (Listing file) rest else
+    if bytes_eq verb (codes "upgrade") then ending_in_name (Upgrade file) rest else None
 request_of _ = None

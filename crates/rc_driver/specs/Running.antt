@@ -13,14 +13,15 @@ use Rattle.rc_compile.specs.declared.refusal.Refusal.TheVariants.{TooLong}
 use Rattle.rc_core.specs.Meaning.{meaning}
 use Rattle.rc_core.specs.Programs.{Program}
 use Rattle.rc_core.specs.Runs.{Ends}
-use Rattle.rc_driver.specs.Answers.{MayAnswer}
+use Rattle.rc_driver.specs.Answers.{IsRun, MayAnswer}
 use Rattle.rc_driver.specs.Footprint.{Reads, footprint}
-use Rattle.rc_driver.specs.Outcome.{IsOutcome, Outcome, Performed, RunsFile, StoppedShort, Untouched}
+use Rattle.rc_driver.specs.Outcome.{IsLeft, IsOutcome, Outcome, Performed, RunsFile, StoppedShort, Untouched}
 use Rattle.rc_driver.specs.Request.{Request}
 use Rattle.rc_driver.specs.declared.answer.Done.{Done}
 use Rattle.rc_driver.specs.declared.answer.Done.TheVariants.{Ended, Refused}
 use Rattle.rc_driver.specs.declared.answer.Fault.{Fault}
 use Rattle.rc_driver.specs.declared.answer.Fault.TheVariants.{FileFault, ReadFault, WriteFault, ErrFault, Memory}
+use Rattle.rc_store.specs.Kept.{KeptStore}
 use Rattle.rc_safety.specs.Safety.{NeverTouchesDeleted}
 
 -- the faults of a run
@@ -37,6 +38,24 @@ pub record RanProgram (program : Program) (limits : Limits) (input input' : Sour
   pub performed : IsTrue input.tells → OnOk result (Performed (meaning program input.rest limits).acts input input' out out')
   pub stopped : IsTrue input.tells → IfErr result (λ fault. StoppedShort (meaning program input.rest limits).acts fault input input' out out')
   pub never_stale : NeverTouchesDeleted program input.rest limits
+  pub flushed : OnOk result (IsFlushed out')
+  pub fault : IfErr result IsRunFault
+  pub input_later : input.faults ≤ input'.faults
+  pub out_later : out.faults ≤ out'.faults
+  pub read : IsErrOf result ReadFault → Rose input.faults input'.faults
+  pub write : IsErrOf result WriteFault → Rose out.faults out'.faults
+  pub input_tells : input'.tells ≡ input.tells
+  pub out_tells : out'.tells ≡ out.tells
+  pub input_kept : ¬ IsErrOf result ReadFault → input'.faults ≡ input.faults
+  pub out_kept : IsOk result → out'.faults ≡ out.faults
+
+-- a run came to an outcome on the rest of the input, and the output was flushed, but behind a byte that couldn't be written
+pub record Ran (comes : List ℕ → Outcome) (input input' : SourceState) (out out' : SinkState) (heap' : KeptStore) (result : Result Done Fault) : Type 0 where
+  pub done : IsTrue input.tells → IfOk result (λ done. done ≡ (comes input.rest).done)
+  pub performed : IsTrue input.tells → OnOk result (Performed (comes input.rest).acts input input' out out')
+  pub left : IsTrue input.tells → OnOk result (IsLeft (comes input.rest).left heap')
+  pub stopped : IsTrue input.tells → IfErr result (λ fault. StoppedShort (comes input.rest).acts fault input input' out out')
+  pub is_run : IfOk result IsRun
   pub flushed : OnOk result (IsFlushed out')
   pub fault : IfErr result IsRunFault
   pub input_later : input.faults ≤ input'.faults

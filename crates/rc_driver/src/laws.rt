@@ -1,10 +1,15 @@
 // What holds of every request and every text.
-ghost use Rattle.std.specs.Prelude.{◌≡◌, ℕ, List, Option};
+ghost use Rattle.std.specs.Prelude.{◌≡◌, ◌≤◌, ℕ, List, length, Ok, Option};
+ghost use Rattle.std.specs.List.{AllByRecursion as Every};
+ghost use Rattle.rc_base.specs.Limits.{most_image_bytes};
 ghost use Rattle.rc_base.specs.Shelves.{Names};
 ghost use Rattle.rc_base.specs.declared.ends.Limits.{Limits};
+ghost use Rattle.rc_code.specs.declared.image.Parts.{Parts};
 ghost use Rattle.rc_compile.specs.Acceptance.{Accepted};
+ghost use Rattle.rc_core.specs.Numbers.{IsByte};
 ghost use Rattle.rc_core.specs.Programs.{Program};
 ghost use Rattle.rc_driver.specs.Footprint.{AreThere, footprint};
+ghost use Rattle.rc_driver.specs.Images.{IsSpelled, image_in};
 ghost use Rattle.rc_driver.specs.Outcome.{IsOutcome, Outcome};
 ghost use Rattle.rc_driver.specs.Request.{Request};
 ghost use Rattle.rc_safety.specs.Safety.{NeverTouchesDeleted};
@@ -19,4 +24,11 @@ pub fn a_request_has_one_outcome()
 /// No run of a text that is accepted ever touches a deleted region, whatever its input and its limits.
 pub fn an_accepted_text_never_touches_deleted()
     ensures { (text : List ℕ) (program : Program) (input : List ℕ) (limits : Limits) → Accepted text program → NeverTouchesDeleted program input limits }
+{}
+
+/// Bytes are those of an image exactly where they are its spelling in one of the two versions of the
+/// format, and the image keeps the rules of its fields.
+pub fn an_image_is_what_its_bytes_spell()
+    ensures read { (bytes : List ℕ) (image : Parts) → Every IsByte bytes → image_in bytes ≡ Ok image → IsSpelled bytes image }
+    ensures spelled { (bytes : List ℕ) (image : Parts) → length bytes ≤ most_image_bytes → IsSpelled bytes image → image_in bytes ≡ Ok image }
 {}

@@ -3,34 +3,42 @@ ghost use Rattle.rc_base.specs.Sinks.{SinkState};
 ghost use Rattle.rc_driver.specs.Headline.{Serves, asked};
 ghost use Rattle.rc_driver.specs.Outside.{outside};
 ghost use Rattle.rc_driver.specs.Performing.{Performs};
+ghost use Rattle.rc_store.specs.Stores.{IsNew};
 
+use crate::list::list_image;
 use crate::request::{Request, request_of};
 use crate::run::run_file;
 use crate::tell::tell;
+use crate::upgrade::upgrade_image;
 use crate::{Done, Fault};
 use rc_base::{Shelf, Sink, Source};
+use rc_store::Heap;
 use std::alloc::Global;
 
 /// Does what the words ask, but for telling it.
-fn perform<F: Shelf, S: Source, O: Sink>(
+fn perform<F: Shelf, S: Source, O: Sink, H: Heap>(
     alloc: Global,
     words: &[String],
     files: &mut F,
     input: &mut S,
     out: &mut O,
+    _heap: &mut H,
 ) -> Result<Done, Fault>
-    ensures { (err : SinkState) → Performs (asked words.now) (outside (F.state files.old) (S.state input.old) (O.state out.old) err) (outside (F.state files.new) (S.state input.new) (O.state out.new) err) result }
+    ensures { (err : SinkState) → Performs (asked words.now) (outside (F.state files.old) (S.state input.old) (O.state out.old) err (H.store _heap.old)) (outside (F.state files.new) (S.state input.new) (O.state out.new) err (H.store _heap.new)) result }
 {
     match request_of(words) {
         Some(Request::Run(file, limits)) => run_file(alloc, file, limits, files, input, out),
         // until there is another way, both go node by node
         Some(Request::Slow(file, limits)) => run_file(alloc, file, limits, files, input, out),
+        Some(Request::Listing(file)) => list_image(alloc, file, files, out),
+        Some(Request::Upgrade(from, to)) => upgrade_image(alloc, from, to, files),
         None => Ok(Done::Usage),
     }
 }
 
 /// Does what the words ask: `words` are those behind the program's own name.
 ///
+/// A listing writes exactly that of the image to `out`, and an upgrade stores exactly the image's bytes.
 /// A run writes exactly the bytes of its program's meaning to `out`, takes exactly those of `input` that
 /// the meaning asks for, and answers exactly its end. Only a fault of the outside, which its count shows,
 /// or want of memory may cut it short, and then a front of the meaning's acts was done. What is answered
@@ -42,16 +50,18 @@ fn perform<F: Shelf, S: Source, O: Sink>(
 /// `FileFault`, `ReadFault`, `WriteFault` and `ErrFault` come only where the count of `files`, `input`,
 /// `out` or `err` rose in the call; `FileFault` comes also where a name that the words ask to read isn't
 /// there. `Memory` may come at any time.
-pub fn rc_main<F: Shelf, S: Source, O: Sink, E: Sink>(
+pub fn rc_main<F: Shelf, S: Source, O: Sink, E: Sink, H: Heap>(
     alloc: Global,
     words: &[String],
     files: &mut F,
     input: &mut S,
     out: &mut O,
     err: &mut E,
+    heap: &mut H,
 ) -> Result<Done, Fault>
-    ensures { Serves (asked words.now) (outside (F.state files.old) (S.state input.old) (O.state out.old) (E.state err.old)) (outside (F.state files.new) (S.state input.new) (O.state out.new) (E.state err.new)) result }
+    requires { IsNew (H.store heap.old) }
+    ensures { Serves (asked words.now) (outside (F.state files.old) (S.state input.old) (O.state out.old) (E.state err.old) (H.store heap.old)) (outside (F.state files.new) (S.state input.new) (O.state out.new) (E.state err.new) (H.store heap.new)) result }
 {
-    let answer = perform(alloc, words, files, input, out);
+    let answer = perform(alloc, words, files, input, out, heap);
     tell(err, answer)
 }

@@ -4,7 +4,7 @@ ghost use Rattle.std.specs.Option.{option_map};
 ghost use Rattle.std.specs.Fmt.{decimal};
 ghost use Rattle.std.specs.Str.{bytes_eq};
 ghost use Rattle.rc_driver.specs.Asking.{asks, bytes_of, chosen};
-ghost use Rattle.rc_driver.specs.Request.{limits_of, number_within, option, request_of};
+ghost use Rattle.rc_driver.specs.Request.{Listing, Upgrade, ending, ending_in_name, limits_of, number_within, option, request_of};
 
 use itoa::Buffer;
 use rc_base::{Limits, MOST_BLOCKS, MOST_REGIONS, MOST_TURNS, USUAL_TURNS};
@@ -16,6 +16,10 @@ pub(crate) enum Request<'a> {
     Run(&'a str, Limits),
     /// To run it node by node.
     Slow(&'a str, Limits),
+    /// To list an image.
+    Listing(&'a str),
+    /// To store the image of the first file under the second name, in the newest version of the format.
+    Upgrade(&'a str, &'a str),
 }
 
 /// The number of an option, and the words behind it.
@@ -95,26 +99,53 @@ fn limits_of(words: &[String]) -> Option<Limits>
     })
 }
 
-fn asking<'a>(verb: &str, file: &'a str, options: &[String]) -> Option<Request<'a>>
-    ensures { option_map asks result ≡ request_of (verb.now ∷ file.now ∷ bytes_of options.now) }
+/// To list this file, where no word stands behind.
+fn listing<'a>(file: &'a str, rest: &[String]) -> Option<Request<'a>>
+    ensures { option_map asks result ≡ ending (Listing file.now) (bytes_of rest.now) }
+{
+    match rest {
+        [] => Some(Request::Listing(file)),
+        _ => None,
+    }
+}
+
+/// To upgrade this file, where one word stands behind: the name under which to store.
+fn upgrade<'a>(from: &'a str, rest: &'a [String]) -> Option<Request<'a>>
+    ensures { option_map asks result ≡ ending_in_name (Upgrade from.now) (bytes_of rest.now) }
+{
+    match rest {
+        [to] => Some(Request::Upgrade(from, to.as_str())),
+        _ => None,
+    }
+}
+
+fn asking<'a>(verb: &str, file: &'a str, rest: &'a [String]) -> Option<Request<'a>>
+    ensures { option_map asks result ≡ request_of (verb.now ∷ file.now ∷ bytes_of rest.now) }
 {
     if verb == "run" {
-        let limits = limits_of(options)?;
+        let limits = limits_of(rest)?;
         return Some(Request::Run(file, limits));
     }
     if verb == "slow" {
-        let limits = limits_of(options)?;
+        let limits = limits_of(rest)?;
         return Some(Request::Slow(file, limits));
+    }
+    if verb == "list" {
+        return listing(file, rest);
+    }
+    if verb == "upgrade" {
+        return upgrade(file, rest);
     }
     None
 }
 
-/// What the words ask, if anything: a verb, a file's name, which may be any word, and options.
+/// What the words ask, if anything: a verb, a file's name, which may be any word, and options or
+/// another name.
 pub(crate) fn request_of<'a>(words: &'a [String]) -> Option<Request<'a>>
     ensures { option_map asks result ≡ request_of (bytes_of words.now) }
 {
     match words {
-        [verb, file, options @ ..] => asking(verb.as_str(), file.as_str(), options),
+        [verb, file, rest @ ..] => asking(verb.as_str(), file.as_str(), rest),
         _ => None,
     }
 }

@@ -5,6 +5,7 @@ ghost use Rattle.rc_core.specs.Shapes.{program_of};
 ghost use Rattle.rc_driver.specs.Outside.{outside};
 ghost use Rattle.rc_driver.specs.Performing.{Performs};
 ghost use Rattle.rc_driver.specs.Request.{Request};
+ghost use Rattle.rc_store.specs.Kept.{KeptStore};
 ghost use Rattle.rc_driver.specs.Running.{RanPiece, RanProgram, RanText, RunsTextOf};
 
 use crate::{Done, Fault};
@@ -91,7 +92,7 @@ pub(crate) fn run_file<F: Shelf, S: Source, O: Sink>(
     input: &mut S,
     out: &mut O,
 ) -> Result<Done, Fault>
-    ensures { (request : Option Request) (err : SinkState) → RunsTextOf request name.now limits → Performs request (outside (F.state files.old) (S.state input.old) (O.state out.old) err) (outside (F.state files.new) (S.state input.new) (O.state out.new) err) result }
+    ensures { (request : Option Request) (err : SinkState) (heap : KeptStore) → RunsTextOf request name.now limits → Performs request (outside (F.state files.old) (S.state input.old) (O.state out.old) err heap) (outside (F.state files.new) (S.state input.new) (O.state out.new) err heap) result }
 {
     match files.load(alloc, name, MOST) {
         Ok(piece) => run_piece(alloc, &piece, limits, input, out),

@@ -2,8 +2,10 @@
 //! error stream stands behind what it writes on the output.
 #![tactic(auto)]
 
+use rc_base::NoMemory;
+use rc_count::CountHeap;
 use rc_driver::{Folder, StdSink, StdSource, rc_main, status_of};
-use std::io;
+use std::io::{self, ErrorKind};
 use std::process::ExitCode;
 
 const EXAMPLES: [&str; 11] = [
@@ -30,7 +32,13 @@ fn run(rt: &HostRuntime, name: &str) -> io::Result<u8> {
     let mut input = StdSource::new(rt.stdin());
     let mut out = StdSink::new(rt.stdout());
     let mut err = StdSink::new(rt.stdout());
-    let answer = rc_main(alloc, &words, &mut files, &mut input, &mut out, &mut err);
+    let mut heap = match CountHeap::new(alloc) {
+        Ok(heap) => heap,
+        Err(NoMemory) => return Err(io::Error::from(ErrorKind::OutOfMemory)),
+    };
+    let answer = rc_main(
+        alloc, &words, &mut files, &mut input, &mut out, &mut err, &mut heap,
+    );
     Ok(status_of(&answer))
 }
 

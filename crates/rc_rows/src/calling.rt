@@ -1,6 +1,7 @@
 // Calls over objects in memory, and what they come to.
 use crate::row::{Came, Row};
 use rc_base::{Buffer, Bytes, Drawer, NoMemory};
+use rc_count::CountHeap;
 use rc_driver::{rc_main, status_of};
 use std::alloc::{AllocError, Global};
 use std::io::{self, ErrorKind};
@@ -29,18 +30,30 @@ fn sink(alloc: Global, room: u32, fails: &[u64]) -> io::Result<Buffer> {
     }
 }
 
+/// What stands under a name: nothing, where there is no such file.
+fn bytes_under(alloc: Global, files: &Drawer, name: &str) -> Result<Vec<u8>, AllocError> {
+    match files.file(name) {
+        Some(bytes) => bytes.to_vec(alloc),
+        None => Ok(Vec::new(alloc)),
+    }
+}
+
 /// Makes the call of a row with these words, and answers what `rc_main` does, as `{:?}` prints it,
 /// and its status.
 fn answered(
     alloc: Global,
     row: &Row,
     words: &[String],
+    files: &mut Drawer,
     out: &mut Buffer,
     err: &mut Buffer,
 ) -> io::Result<(String, u8)> {
-    let mut files = with_one_file(alloc, &row.text, row.failing.files.clone()?)?;
     let mut input = Bytes::new(row.input.clone()?, row.failing.reads.clone()?);
-    let answer = rc_main(alloc, words, &mut files, &mut input, out, err);
+    let mut heap = match CountHeap::new(alloc) {
+        Ok(heap) => heap,
+        Err(NoMemory) => return Err(io::Error::from(ErrorKind::OutOfMemory)),
+    };
+    let answer = rc_main(alloc, words, files, &mut input, out, err, &mut heap);
     let status = status_of(&answer);
     Ok((format!(in alloc; "{answer:?}")?, status))
 }
@@ -49,18 +62,35 @@ fn answered(
 fn came(alloc: Global, row: &Row, words: &[String]) -> io::Result<Came> {
     let mut out = sink(alloc, row.room, &row.failing.writes)?;
     let mut err = sink(alloc, ERROR_ROOM, &row.failing.errors)?;
-    let (answer, status) = answered(alloc, row, words, &mut out, &mut err)?;
+    let mut files = with_one_file(alloc, &row.text, row.failing.files.clone()?)?;
+    let (answer, status) = answered(alloc, row, words, &mut files, &mut out, &mut err)?;
     Ok(Came {
         answer,
         status,
         out: out.taken().to_vec(alloc)?,
         err: err.taken().to_vec(alloc)?,
+        file: bytes_under(alloc, &files, "a.c")?,
+        stored: bytes_under(alloc, &files, "b.c")?,
     })
 }
 
 /// Whether two lists have the same bytes.
 fn same_bytes(a: &[u8], b: &[u8]) -> bool {
     a == b
+}
+
+/// Whether the files hold other bytes than the row wants. The file that there was is as it was, where
+/// the row doesn't say that it changes.
+fn is_other_file(came: &Came, row: &Row) -> bool {
+    let file = if row.changes {
+        row.wanted.file.as_slice()
+    } else {
+        row.text.as_slice()
+    };
+    if !same_bytes(came.file.as_slice(), file) {
+        return true;
+    }
+    !same_bytes(came.stored.as_slice(), row.wanted.stored.as_slice())
 }
 
 /// Whether a call came to another thing than is wanted.
@@ -90,13 +120,14 @@ fn print(
     println!(rt; "{file}: {name}: {words:?}: {answer} {status}")?;
     let out = came.out.as_slice();
     let err = came.err.as_slice();
-    println!(rt; "  {out:?} {err:?}")
+    let stored = came.stored.as_slice();
+    println!(rt; "  {out:?} {err:?} {stored:?}")
 }
 
 /// Makes a call, and answers whether it differs from what the row wants, which it then prints.
 fn differs(rt: &HostRuntime, file: &str, row: &Row, words: &[String]) -> io::Result<bool> {
     let came = came(rt.alloc(), row, words)?;
-    if !is_other(&came, &row.wanted) {
+    if !is_other(&came, &row.wanted) && !is_other_file(&came, row) {
         return Ok(false);
     }
     print(rt, file, row.name.as_str(), words, &came)?;

@@ -16,6 +16,8 @@
 //! | `answer` | the answer, as `{:?}` prints it |
 //! | `status` | the answer's status |
 //! | `out`, `err` | a piece of what the output and the error stream take |
+//! | `file` | a piece of what stands under `a.c` afterwards; without it, what stood there before |
+//! | `stored` | a piece of what stands under `b.c` afterwards; without it there is no such file |
 //!
 //! In a piece `\n` is a line feed, `\\` a backslash, and `\x` stands before two hexadecimal digits of a
 //! byte. Where a star follows the key, a number stands before the piece, which comes so many times.
@@ -33,7 +35,7 @@ use reading::rows_of;
 use std::process::ExitCode;
 use std::{env, fs, io};
 
-const FILES: [&str; 7] = [
+const FILES: [&str; 8] = [
     "words.rows",
     "programs.rows",
     "values.rows",
@@ -41,6 +43,7 @@ const FILES: [&str; 7] = [
     "refused.rows",
     "failing.rows",
     "deep.rows",
+    "images.rows",
 ];
 
 /// Goes through the rows of a file, and answers how many calls differ.

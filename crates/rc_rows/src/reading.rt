@@ -52,6 +52,11 @@ fn take_piece(row: &mut Row, key: &str, value: &str) -> io::Result<()> {
         "out" => push_piece(&mut row.wanted.out, value),
         "out*" => push_pieces(&mut row.wanted.out, value),
         "err" => push_piece(&mut row.wanted.err, value),
+        "file" => {
+            row.changes = true;
+            push_piece(&mut row.wanted.file, value)
+        }
+        "stored" => push_piece(&mut row.wanted.stored, value),
         _ => unread(),
     }
 }

@@ -10,14 +10,18 @@ pub(crate) struct Failing {
     pub(crate) errors: Vec<u64>,
 }
 
-/// What a call comes to: its answer as `{:?}` prints it, its status, and what the output and the error
-/// stream took.
+/// What a call comes to: its answer as `{:?}` prints it, its status, what the output and the error
+/// stream took, and what stands under the two names afterwards.
 #[derive(Drop)]
 pub(crate) struct Came {
     pub(crate) answer: String,
     pub(crate) status: u8,
     pub(crate) out: Vec<u8>,
     pub(crate) err: Vec<u8>,
+    /// Under `a.c`.
+    pub(crate) file: Vec<u8>,
+    /// Under `b.c`; nothing, where there is no such file.
+    pub(crate) stored: Vec<u8>,
 }
 
 #[derive(Drop)]
@@ -31,6 +35,8 @@ pub(crate) struct Row {
     pub(crate) failing: Failing,
     /// How many bytes the output takes.
     pub(crate) room: u32,
+    /// Whether the file `a.c` is to hold other bytes afterwards.
+    pub(crate) changes: bool,
     /// What each call must come to.
     pub(crate) wanted: Came,
 }
@@ -51,11 +57,14 @@ impl Row {
                 errors: Vec::new(alloc),
             },
             room: 512,
+            changes: false,
             wanted: Came {
                 answer: String::new(alloc),
                 status: 0,
                 out: Vec::new(alloc),
                 err: Vec::new(alloc),
+                file: Vec::new(alloc),
+                stored: Vec::new(alloc),
             },
         })
     }

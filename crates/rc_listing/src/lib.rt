@@ -1,0 +1,7 @@
+//! The listing of an image, a line for each instruction. `specs/Listing` says what it is.
+#![tactic(auto)]
+
+mod listing;
+mod text;
+
+pub use listing::list;
