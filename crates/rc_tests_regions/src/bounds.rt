@@ -1,30 +1,11 @@
 // Programs at the bounds, and deep trees. Programs beyond the bounds come to no call from a text; that
 // `count` refuses them is in rows of rc_rows.
 
+use crate::repeated::Repeated;
 use rc_compile::program;
 use rc_elab::elaborate;
 use std::alloc::Global;
 use std::test::Fail;
-
-/// A text with a part of it so many times over.
-#[derive(Clone, Copy)]
-struct Repeated<'t> {
-    front: &'t [u8],
-    part: &'t [u8],
-    times: u32,
-    end: &'t [u8],
-}
-
-impl Repeated<'_> {
-    fn text(&self, alloc: Global) -> Result<Vec<u8>, Fail> {
-        let mut text = self.front.to_vec(alloc)?;
-        for _ in 0..self.times {
-            text.extend_from_slice(self.part)?;
-        }
-        text.extend_from_slice(self.end)?;
-        Ok(text)
-    }
-}
 
 /// Whether the text is a program and is translated.
 fn is_translated(alloc: Global, text: &Repeated<'_>) -> Result<bool, Fail> {

@@ -1,5 +1,5 @@
-//! Tests of elaboration, from texts to region code: the code of small programs, programs at the bounds
-//! and beyond them, and deep trees.
+//! Tests of elaboration, from texts to region code: the code of small programs, programs at the bounds,
+//! and deep trees; and that their live locals are listed.
 #![tactic(auto)]
 
 #[cfg(test)]
@@ -8,3 +8,7 @@ mod bounds;
 mod codes;
 #[cfg(test)]
 mod listing;
+#[cfg(test)]
+mod lives;
+#[cfg(test)]
+mod repeated;
