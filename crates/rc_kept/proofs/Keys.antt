@@ -10,8 +10,8 @@ use Rattle.rc_core.specs.declared.ty.Note.TheVariants.{Plain, SameRegion, Parent
 use Rattle.rc_core.specs.Types.{Ty, int, unsigned, char, region, struct, pointer}
 use Rattle.rc_emission.specs.KeptOperands.{Kept, kept_at, same_kept, place_in, counted_on}
 use Rattle.rc_scope.specs.Names.{number_of}
-use Rattle.rc_lines.specs.Keys.{type_key}
-use Rattle.rc_kept.specs.Keyed.{key_of, TypeHasKey, HasKey}
+use Rattle.rc_lines.specs.Keys.{type_key, TypeHasKey, HasKey}
+use Rattle.rc_kept.specs.Keyed.{key_of}
 use Rattle.rc_scope.proofs.Numbers.{first_at_end}
 use Rattle.rc_emission.proofs.SameOperands.{kept_is, kept_self}
 

@@ -29,7 +29,7 @@ use rc_rlang::code::Act;
 /// The operands are let go.
 fn let_go(
     out: &mut Vec<Line<'_>>,
-    body: &Body<'_>,
+    body: &Body<'_, '_>,
     operands: &[Operand<'_>],
 ) -> Result<(), NoMemory>
     ensures { OnOk result (lines_of out.new.items ≡ lines_of out.old.items ++ bare_code 0 (pops (slot_in body.now) (deleting_in body.now) (types_in body.now) (types_on operands.now))) }
@@ -44,7 +44,7 @@ fn let_go(
 /// height `from`.
 fn fetch<'a>(
     out: &mut Vec<Line<'a>>,
-    body: &Body<'a>,
+    body: &Body<'a, '_>,
     line: u32,
     from: usize,
     operands: &[Operand<'a>],
@@ -71,7 +71,7 @@ struct Changed<'a> {
 
 fn change<'a>(
     out: &mut Vec<Line<'a>>,
-    body: &Body<'a>,
+    body: &Body<'a, '_>,
     line: u32,
     changed: Changed<'a>,
 ) -> Result<(), NoMemory>
@@ -103,7 +103,7 @@ fn change<'a>(
 /// locals.
 fn update<'a>(
     out: &mut Vec<Line<'a>>,
-    body: &Body<'a>,
+    body: &Body<'a, '_>,
     line: u32,
     place: &'a Access,
     way: Change,
@@ -152,7 +152,7 @@ struct Places<'a, 'o> {
 /// So many cells, one after another, from the places in their locals.
 fn copy_cells<'a>(
     out: &mut Vec<Line<'a>>,
-    body: &Body<'a>,
+    body: &Body<'a, '_>,
     line: u32,
     places: Places<'a, '_>,
     count: u32,
@@ -180,7 +180,7 @@ fn copy_cells<'a>(
 /// What is done with the operands that stand, which are those of an act that has the point.
 pub fn act_on<'a>(
     out: &mut Vec<Line<'a>>,
-    body: &Body<'a>,
+    body: &Body<'a, '_>,
     act: &'a Act,
     operands: &[Operand<'a>],
     point: u32,

@@ -16,25 +16,26 @@ use rc_rlang::live_map::LiveMap;
 use rc_scope::Names;
 use std::alloc::Global;
 
-/// What the code of a function is made over.
+/// What the code of a function is made over. Its lines name what is of the program and of the lists of
+/// live locals, and nothing of the layouts and the keys.
 #[derive(Clone, Copy)]
-pub struct Body<'a> {
+pub struct Body<'a, 'k> {
     pub alloc: Global,
     /// The whole program.
     pub parts: &'a RegionParts,
     /// The layouts of its structs.
-    pub layouts: &'a Layouts,
+    pub layouts: &'k Layouts,
     /// The function.
     pub routine: &'a Routine,
     /// What is listed at deleting points.
     pub live: &'a LiveMap,
     /// The keys of the operands that the function keeps in locals.
-    pub kept: &'a Names,
+    pub kept: &'k Names,
     /// The first of these locals.
     pub first: u32,
 }
 
-impl<'a> Body<'a> {
+impl<'a, 'k> Body<'a, 'k> {
     /// Whether a function deletes.
     pub fn is_deleting(&self, function: u32) -> bool
         ensures { result ≡ deleting_in self.now function }

@@ -37,7 +37,7 @@ pub fn zero<'a>(out: &mut Vec<Line<'a>>, line: u32, ty: &'a Ty) -> Result<(), No
 }
 
 /// What stands behind the body of a function: it gives zero or null, or nothing.
-pub fn end<'a>(out: &mut Vec<Line<'a>>, body: &Body<'a>) -> Result<(), NoMemory>
+pub fn end<'a>(out: &mut Vec<Line<'a>>, body: &Body<'a, '_>) -> Result<(), NoMemory>
     ensures { OnOk result (lines_of out.new.items ≡ lines_of out.old.items ++ bare_code 0 (end_lines (slot_in body.now) (deleting_in body.now) (types_in body.now) (option_map ty_of body.now.routine.now.result) body.now.routine.now.line)) }
 {
     let line = body.routine.line;

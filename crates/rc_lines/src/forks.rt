@@ -36,7 +36,7 @@ fn next(point: u32) -> Result<u32, NoMemory>
 #[cycle(steps)]
 pub fn steps<'a>(
     out: &mut Vec<Line<'a>>,
-    body: &Body<'a>,
+    body: &Body<'a, '_>,
     steps: &'a [Step],
     base: usize,
     point: u32,
@@ -82,7 +82,7 @@ pub fn steps<'a>(
 #[cycle(steps)]
 fn two_ways<'a>(
     out: &mut Vec<Line<'a>>,
-    body: &Body<'a>,
+    body: &Body<'a, '_>,
     step: &'a Step,
     operands: &[Operand<'a>],
     base: usize,

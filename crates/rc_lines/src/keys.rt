@@ -1,7 +1,8 @@
 // Keys, by which types are found in maps.
 ghost use Rattle.std.specs.Prelude.{◌≡◌, ◌++◌, OnOk, IfOk};
 ghost use Rattle.rc_core.specs.Shapes.{ty_of};
-ghost use Rattle.rc_lines.specs.Keys.{note_key, type_key, kept_key};
+ghost use Rattle.rc_emission.specs.KeptOperands.{kept_at};
+ghost use Rattle.rc_lines.specs.Keys.{note_key, type_key, kept_key, TypeHasKey, HasKey};
 
 use rc_base::NoMemory;
 use rc_core::ty::{Note, Ty};
@@ -21,7 +22,8 @@ fn note_key(note: Note) -> u8
 
 /// Puts the key of a type behind what is there.
 pub fn add_type_key(out: &mut Vec<u8>, ty: &Ty) -> Result<(), NoMemory>
-    ensures { OnOk result (out.new.items ≡ out.old.items ++ type_key (ty_of ty.now)) }
+    ensures key { OnOk result (out.new.items ≡ out.old.items ++ type_key (ty_of ty.now)) }
+    ensures own { OnOk result (TypeHasKey (ty_of ty.now)) }
 {
     match ty {
         Ty::Int => Ok(out.push(0)?),
@@ -39,9 +41,10 @@ pub fn add_type_key(out: &mut Vec<u8>, ty: &Ty) -> Result<(), NoMemory>
     }
 }
 
-/// The key of an operand of the type at the height.
+/// The key of an operand of the type at the height. It has a key of its own.
 pub fn kept_key(alloc: Global, height: usize, ty: &Ty) -> Result<Vec<u8>, NoMemory>
-    ensures { IfOk result (λ r. r.items ≡ kept_key height (ty_of ty.now)) }
+    ensures key { IfOk result (λ r. r.items ≡ kept_key height (ty_of ty.now)) }
+    ensures own { OnOk result (HasKey (kept_at height (ty_of ty.now))) }
 {
     let mut key = Vec::new(alloc);
     let height = height as u64;

@@ -80,7 +80,7 @@ pub(crate) fn give<'a>(
 /// The operands go into their locals, from the top; the lowest has the height `base`.
 pub(crate) fn keep<'a>(
     out: &mut Vec<Line<'a>>,
-    body: &Body<'a>,
+    body: &Body<'a, '_>,
     line: u32,
     base: usize,
     operands: &[Operand<'a>],
@@ -100,7 +100,7 @@ pub(crate) fn keep<'a>(
 /// The operands come back from their locals, the lowest first, which has the height `base`.
 pub(crate) fn bring_back<'a>(
     out: &mut Vec<Line<'a>>,
-    body: &Body<'a>,
+    body: &Body<'a, '_>,
     line: u32,
     base: usize,
     operands: &[Operand<'a>],

@@ -154,7 +154,7 @@ pub(crate) fn signed_of(ty: &Ty) -> Signedness
 /// Two operands change places: the lower one has the height.
 fn exchange<'a>(
     out: &mut Vec<Line<'a>>,
-    body: &Body<'a>,
+    body: &Body<'a, '_>,
     line: u32,
     height: usize,
     low: &Ty,
@@ -189,7 +189,7 @@ pub(crate) struct Spot {
 /// An operation whose value is of a type.
 pub(crate) fn operation<'a>(
     out: &mut Vec<Line<'a>>,
-    body: &Body<'a>,
+    body: &Body<'a, '_>,
     spot: Spot,
     ty: &'a Ty,
     operation: &'a Operation,

@@ -1,0 +1,3 @@
+pub mod SameSlots
+pub mod Maps
+pub mod Functions

@@ -1,0 +1,5 @@
+pub mod Still
+pub mod Holding
+pub mod Making
+pub mod Walks
+pub mod InFront
