@@ -1,0 +1,6 @@
+use Rattle.rc_core.specs.Shapes.{program_of}
+use Rattle.rc_build.proofs.Images.{has_image}
+use Rattle.rc_build.proofs.building.image.Goals as goal
+
+pub returns-in-Ok : goal.returns-in-Ok
+returns-in-Ok c = has_image (program_of c.args.program.now) c.in-Ok.image c.parts-parts.ensures.well_typed c.in-Ok.ensures.image c.in-Ok.ensures.means

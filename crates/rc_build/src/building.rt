@@ -1,0 +1,50 @@
+// The image of a text: that of its program.
+ghost use Rattle.std.specs.Prelude.{IfOk};
+ghost use Rattle.rc_core.specs.Shapes.{program_of};
+ghost use Rattle.rc_build.specs.Built.{Builds, HasImage};
+
+use rc_base::NoMemory;
+use rc_code::{Image, Loaded};
+use rc_compile::{CompileFault, program};
+use rc_core::program::Program;
+use rc_emit::compile_program;
+use std::alloc::Global;
+
+/// The image of a program. Where it keeps within the bounds of points and region variables, as that of
+/// a text does, it is refused for want of memory alone.
+fn image(alloc: Global, program: &Program) -> Result<Image, NoMemory>
+    ensures { IfOk result (HasImage (program_of program.now)) }
+{
+    let _parts = program.parts();
+    match compile_program(alloc, program) {
+        Ok(image) => Ok(image),
+        Err(_fault) => Err(NoMemory),
+    }
+}
+
+/// The image of a text's program, without marks.
+///
+/// # Errors
+///
+/// The text's refusal, as `program` of rc_compile answers it, or out of memory.
+pub fn compile(alloc: Global, text: &[u8]) -> Result<Image, CompileFault>
+    ensures { Builds text.now result }
+{
+    let program = program(alloc, text)?;
+    match image(alloc, &program) {
+        Ok(image) => Ok(image),
+        Err(_) => Err(CompileFault::Memory),
+    }
+}
+
+/// The same image, to be run.
+///
+/// # Errors
+///
+/// As `compile`.
+pub fn ready(alloc: Global, text: &[u8]) -> Result<Loaded, CompileFault>
+    ensures { Builds text.now result }
+{
+    let image = compile(alloc, text)?;
+    Ok(Loaded::new(image))
+}

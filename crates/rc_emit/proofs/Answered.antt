@@ -1,0 +1,6 @@
+-- What an answer has, where it is one.
+use Rattle.std.specs.Prelude.{IfOk, Result, Ok, Err}
+
+pub if_ok : {T E : Type 0} {P Q : T → Type 0} (r : Result T E) → ((x : T) → P x → Q x) → IfOk r P → IfOk r Q
+if_ok (Ok x) f h = f x h
+if_ok (Err e) f h = h

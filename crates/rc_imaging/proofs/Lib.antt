@@ -1,0 +1,4 @@
+pub mod Backs
+mod Functions
+mod Laid
+mod Whole

@@ -1,0 +1,4 @@
+pub mod Places
+mod PathKeys
+pub mod Taken
+mod TypeKeys
