@@ -7,11 +7,12 @@ ghost use Rattle.rc_store.specs.Kept.{refs};
 ghost use Rattle.rc_store.specs.declared.cell.Denied.TheVariants.{Reference, Root, Subregion};
 ghost use Rattle.rc_store.specs.Stores.{IsLive, all_cells, allocated, cells_in, deleted, has_child, live_in, no_view, objects_in, parent_in, region_at};
 
+use crate::together::{cells_of, give_all, has_root, is_named, take_back_all};
 use rc_base::{Limits, NoMemory, Steps};
 use rc_core::layout::Layout;
 use rc_core::ty::Note;
 use rc_space::Space;
-use rc_store::{Cell, Denied, Heap, MakeFault, Pins, Place};
+use rc_store::{Cell, Denied, Heap, MakeFault, Pins, Place, SetHeap};
 use std::alloc::Global;
 use std::marker::Model;
 use std::sync::ledger::Ledger;
@@ -244,5 +245,32 @@ impl Heap for CountHeap {
     fn limit(&mut self, limits: &Limits) {
         self.region_limit = limits.regions;
         self.block_limit = limits.blocks;
+    }
+}
+
+impl SetHeap for CountHeap {
+    /// Deletes live regions, each of which stands there once: all of them or none. It reads the cells of
+    /// these regions alone, each at most twice, and looks at their children. It takes no memory.
+    ///
+    /// # Errors
+    ///
+    /// Where region 0 is among them, else where a live region that isn't has a member as its parent,
+    /// else where a counted cell of such a region, or a pin, names a member. After an error nothing has
+    /// changed.
+    fn delete_set<L: Ledger>(&mut self, set: &[u32], steps: &mut Steps<L>) -> Result<(), Denied> {
+        if has_root(set) {
+            return Err(Denied::Root);
+        }
+        if self.space.has_child_outside(set) {
+            return Err(Denied::Subregion);
+        }
+        take_back_all(&mut self.space, set, steps);
+        if is_named(&self.space, set) {
+            give_all(&mut self.space, set, steps);
+            return Err(Denied::Reference);
+        }
+        self.cells -= cells_of(&self.space, set);
+        self.space.remove_all(set);
+        Ok(())
     }
 }

@@ -2,5 +2,6 @@
 #![tactic(auto)]
 
 mod count;
+mod together;
 
 pub use count::CountHeap;

@@ -3,4 +3,4 @@
 
 mod laws;
 
-pub use laws::{cells_follow, references_follow};
+pub use laws::{cells_follow, references_follow, sets_follow};

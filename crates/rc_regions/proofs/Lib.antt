@@ -8,3 +8,4 @@ pub mod Sounds
 pub mod Stored
 pub mod TakenOut
 pub mod Writes
+pub mod Walked

@@ -22,3 +22,11 @@ live_slots slots = count_by is_live slots
 -- a live slot has this one as its parent
 abbrev pub IsParent : List Slot → ℕ → Type 0
 IsParent slots p = (s : ℕ) × (slot_at slots s ≡ Child p)
+
+-- a slot has no mark; one beyond the marks has none
+abbrev pub IsUnmarked : List Bool → ℕ → Type 0
+IsUnmarked marks s = slice_index_or marks s false ≡ false
+
+-- a live slot without a mark has this one as its parent
+abbrev pub HasUnmarked : List Slot → (p : ℕ) → (marks : List Bool) → Type 0
+HasUnmarked slots p marks = (s : ℕ) × (slot_at slots s ≡ Child p) × IsUnmarked marks s

@@ -2,7 +2,7 @@
 ghost use Rattle.std.specs.Prelude.{◌≡◌, ◌≢◌, ◌↔◌, ◌<◌, ◌≤◌, ◌+◌, ◌-◌, [], ◌∷◌, ℕ, length, slice_set, IfOk, OnOk, OnErr, IsTrue};
 ghost use Rattle.rc_regions.specs.declared.record.Slot.TheVariants.{Free, Root, Child};
 ghost use Rattle.rc_regions.specs.Above.{Above, HasDepth, HasDigits, IsTree};
-ghost use Rattle.rc_regions.specs.Slots.{IsLive, IsParent, live_slots, slot_at};
+ghost use Rattle.rc_regions.specs.Slots.{HasUnmarked, IsLive, IsParent, live_slots, slot_at};
 
 use crate::ascent::climb;
 use crate::record::{BLANK, Record, Slot};
@@ -98,6 +98,28 @@ impl Tree {
         ensures tree { IsTree self.now }
     {
         self.table.records[slot as usize].first_child.is_some()
+    }
+
+    /// Whether a live slot without a mark has this one as its parent. Marks go by slots, and each live
+    /// slot has one. It looks at the children alone, and at none behind one without a mark.
+    pub fn has_unmarked_child(&self, slot: u32, marks: &[bool]) -> bool
+        requires live { IsLive self.now slot }
+        requires marks { (s : ℕ) → IsLive self.now s → s < length marks.now }
+        ensures { IsTrue result ↔ HasUnmarked self.now slot marks.now }
+    {
+        let records = &self.table.records;
+        let mut next = records[slot as usize].first_child;
+        // No list has more slots than there are records.
+        for _ in 0..records.len() {
+            let Some(child) = next else {
+                return false;
+            };
+            if !marks[child as usize] {
+                return true;
+            }
+            next = records[child as usize].next;
+        }
+        false
     }
 
     /// Whether `a` is above `b`, which is so where they are one. It climbs by links that double, and

@@ -1,9 +1,10 @@
 -- Members by their numbers: one that is taken out, one more, and the children of one.
-use Rattle.std.proofs.Common.{◌≡◌, ◌≢◌, ◌<◌, ◌∙◌, ◌⊎◌, inl, inr, ℕ, zero, suc, Bool, true, false, nat_eq, IsTrue, [], ◌∷◌, ◌++◌, Option, Some, None, length, set, refl, ap, subst, arith, rules, get_or-set_other}
-use Rattle.std.specs.Prelude.{◌||◌}
+use Rattle.std.proofs.Common.{◌≡◌, ◌≢◌, ◌<◌, ◌∙◌, ◌⊎◌, inl, inr, ℕ, zero, suc, Bool, true, false, nat_eq, IsTrue, List, [], ◌∷◌, ◌++◌, Option, Some, None, length, map, get_or, set, refl, sym, ap, subst, arith, rules, get_or-set_other}
+use Rattle.std.specs.Prelude.{◌||◌, option_map}
 use Rattle.std.proofs.lemmas.Bool.{false≢true}
-use Rattle.rc_slots.specs.Entries.{Member}
-use Rattle.rc_registry.specs.Registries.{IsMember, Members, has_child, is_child_of, is_member, member_at, or_root, parent_among}
+use Rattle.rc_slots.specs.declared.entry.Entry.{Entry}
+use Rattle.rc_slots.specs.Entries.{Member, counted, entry_at, member_of, members_of}
+use Rattle.rc_registry.specs.Registries.{IsMember, Members, has_child, is_child_of, is_member, member_at, member_in, or_root, parent_among}
 
 pub member_there : (members : Members) (n : ℕ) → IsMember members n → n < length members
 member_there [] n live = absurd (false≢true live)
@@ -75,3 +76,21 @@ pub child_there : (members : Members) (r n : ℕ) → IsMember members n → par
 child_there [] r n live same = absurd (false≢true live)
 child_there (m ∷ ms) r zero live same = ap (λ b. b || has_child ms r) (is_child r m live same)
 child_there (m ∷ ms) r (suc n) live same = ap (λ b. is_child_of r m || b) (child_there ms r n live same) ∙ or_right (is_child_of r m)
+
+-- a member by its entry
+pub entry_slot : (d : List (Option Entry)) (n : ℕ) (e : Entry) → entry_at d n ≡ Some e → IsMember (members_of d) n × ((member_in (members_of d) n).slot ≡ e.slot)
+entry_slot [] n e is = cc
+entry_slot (x ∷ xs) zero e is = (ap (λ y. is_member (option_map member_of y)) is, ap (λ y. (or_root (option_map member_of y)).slot) is)
+entry_slot (x ∷ xs) (suc n) e is = entry_slot xs n e is
+
+pub no_entry : (d : List (Option Entry)) (n : ℕ) → entry_at d n ≡ None → ¬ IsMember (members_of d) n
+no_entry [] n is live = false≢true live
+no_entry (x ∷ xs) zero is live = false≢true (sym (ap (λ y. is_member (option_map member_of y)) is) ∙ live)
+no_entry (x ∷ xs) (suc n) is live = no_entry xs n is live
+
+-- one that is counted is live
+pub counted_live : (d : List (Option Entry)) (r : ℕ) → 0 < get_or (map counted d) r 0 → IsMember (members_of d) r
+counted_live [] r some = absurd (omega (arith, some))
+counted_live (None ∷ es) zero some = absurd (omega (arith, some))
+counted_live (Some e ∷ es) zero some = refl
+counted_live (e ∷ es) (suc r) some = counted_live es r some

@@ -1,13 +1,14 @@
 -- A registry's members in the tree: who is above whom, who has a child, and what is left when one is taken out.
-use Rattle.std.proofs.Common.{◌≡◌, ◌≢◌, ◌<◌, ◌≤◌, ◌+◌, ◌∙◌, ◌⊎◌, inl, inr, ℕ, zero, suc, Bool, true, false, nat_eq, IsTrue, List, [], ◌∷◌, None, set, refl, sym, ap, subst, arith, rules, get_or-set_other, length-set}
+use Rattle.std.proofs.Common.{◌≡◌, ◌≢◌, ◌<◌, ◌≤◌, ◌+◌, ◌∙◌, ◌⊎◌, inl, inr, ℕ, zero, suc, Bool, true, false, nat_eq, IsTrue, List, [], ◌∷◌, Option, None, Some, set, slice_index_or, refl, sym, ap, subst, arith, rules, get_or-set_other, length-set}
 use Rattle.std.specs.Prelude.{◌||◌, ◌&&◌, ◌↔◌, not}
 use Rattle.std.proofs.lemmas.Bool.{false≢true}
 use Rattle.rc_core.specs.Heap.{is_above, is_above_within}
 use Rattle.rc_regions.specs.declared.record.Slot.{Slot}
 use Rattle.rc_regions.specs.declared.record.Slot.TheVariants.{Free, Root, Child}
 use Rattle.rc_regions.specs.Above.{Above, IsTree, here, higher}
-use Rattle.rc_regions.specs.Slots.{IsLive, IsParent, is_live, live_slots, slot_at}
-use Rattle.rc_registry.specs.Registries.{IsMember, Members, has_child, is_member, member_at, member_in, or_root, parent_among}
+use Rattle.rc_regions.specs.Slots.{HasUnmarked, IsLive, IsParent, is_live, live_slots, slot_at}
+use Rattle.rc_slots.specs.Entries.{Member}
+use Rattle.rc_registry.specs.Registries.{AreOlder, HasUnmarkedChild, IsMember, Members, has_child, is_marked, is_member, mark_of, member_at, member_in, or_root, parent_among}
 use Rattle.rc_registry.specs.Sound.{IsPlaced}
 use Rattle.rc_registry.proofs.Members.{child_found, child_there, left_apart, left_same}
 
@@ -124,6 +125,32 @@ module _ (members : Members) (slots : List Slot) (placed : IsPlaced members slot
   parent_same result r s es live apart is = same_answer result _
       (λ holds. parent_found r live (subst (IsParent slots) es (is.0 holds)))
       (λ holds. is.1 (subst (IsParent slots) (sym es) (parent_there r apart holds)))
+
+  -- a child without a mark
+  mark_here : (marks : List Bool) (m : Option Member) → IsTrue (is_member m) → mark_of marks m ≡ slice_index_or marks (or_root m).slot false
+  mark_here marks None live = absurd (false≢true live)
+  mark_here marks (Some m) live = refl
+
+  pub marked_slot : (marks : List Bool) (n : ℕ) → IsMember members n → is_marked members marks n ≡ slice_index_or marks (slot_of n) false
+  marked_slot marks n live = mark_here marks (member_at members n) live
+
+  pub unmarked_same : (marks : List Bool) (result : Bool) (r s : ℕ) → s ≡ slot_of r → IsMember members r → r ≢ 0 → IsTrue result ↔ HasUnmarked slots s marks → IsTrue result ↔ HasUnmarkedChild members r marks
+  unmarked_same marks result r s es live apart is = (
+    (λ yes.
+        let has = is.0 yes in
+        let there = placed.all has.0 (ap is_live has.1) in
+        let n = there.0 in
+        let child : slot_at slots (slot_of n) ≡ Child (slot_of r) = ap (slot_at slots) there.2 ∙ has.1 ∙ ap Child es in
+        let some = deep n (slot_of r) child in
+        let same = child_parent (slot_of (parent_among members n)) (slot_of r) (sym (placed.children n some there.1) ∙ child) in
+        (n, there.1, placed.apart (parent_among members n) r (placed.parents n some there.1) live same, marked_slot marks n there.1 ∙ ap (λ k. slice_index_or marks k false) there.2 ∙ has.2)),
+    (λ has. is.1 (slot_of has.0, placed.children has.0 (nonzero_child r has.0 apart has.2) has.1 ∙ ap (λ n. Child (slot_of n)) has.2 ∙ sym (ap Child es), sym (marked_slot marks has.0 has.1) ∙ has.3)),
+  )
+
+  -- parents are older
+  pub parents_older : AreOlder members
+  parents_older zero live some = absurd (omega (arith, some, first_parent))
+  parents_older (suc n) live some = placed.older (suc n) (omega arith) live
 
   pub leaf : (r s : ℕ) → s ≡ slot_of r → IsMember members r → has_child members r ≡ false → ¬ IsParent slots s
   leaf r s es live childless parent = false≢true (sym childless ∙ parent_found r live (subst (IsParent slots) es parent))

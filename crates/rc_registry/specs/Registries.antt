@@ -1,6 +1,6 @@
 -- What a registry has of regions, by their numbers: the slot and the parent of each live one, and how many references to it are
 -- counted; and how many slots there are.
-use Rattle.std.specs.Prelude.{◌≡◌, ◌<◌, ◌+◌, ℕ, Bool, true, false, nat_eq, IsTrue, List, Option, Some, None, slice_index_or}
+use Rattle.std.specs.Prelude.{◌≡◌, ◌<◌, ◌+◌, ℕ, Bool, true, false, nat_eq, IsTrue, List, [], ◌∷◌, Option, Some, None, slice_index_or, slice_set}
 use Rattle.std.specs.List.{list_any}
 use Rattle.rc_slots.specs.Entries.{Member}
 
@@ -63,3 +63,28 @@ pub record IsLess (old new : RegistryState) (by : ℕ → ℕ) : Type 0 where
   pub counts : (r : ℕ) → count_in new r + by r ≡ count_in old r
   pub members : new.members ≡ old.members
   pub slots : new.slots ≡ old.slots
+
+-- a parent other than region 0 is older
+abbrev pub AreOlder : Members → Type 0
+AreOlder members = (n : ℕ) → IsMember members n → 0 < parent_among members n → parent_among members n < n
+
+-- whether a live region has a mark; marks go by slots
+abbrev pub mark_of : List Bool → Option Member → Bool
+mark_of marks None = false
+mark_of marks (Some m) = slice_index_or marks m.slot false
+
+abbrev pub is_marked : Members → List Bool → ℕ → Bool
+is_marked members marks n = mark_of marks (member_at members n)
+
+-- a live region without a mark has r as its parent
+abbrev pub HasUnmarkedChild : Members → (r : ℕ) → List Bool → Type 0
+HasUnmarkedChild members r marks = (n : ℕ) × IsMember members n × (parent_among members n ≡ r) × (is_marked members marks n ≡ false)
+
+-- a list by slots, with this item at the slot of each region of a set
+abbrev pub at_slots : {A : Type 0} → Members → (item : A) → (set : List ℕ) → List A → List A
+at_slots members item [] items = items
+at_slots members item (n ∷ set) items = at_slots members item set (slice_set items (member_in members n).slot item)
+
+-- the slot is that of a region of a set
+abbrev pub is_slot_of : Members → (set : List ℕ) → (slot : ℕ) → Bool
+is_slot_of members set slot = list_any (λ n. nat_eq (member_in members n).slot slot) set

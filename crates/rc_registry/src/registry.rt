@@ -1,10 +1,10 @@
 // The registry.
-ghost use Rattle.std.specs.Prelude.{◌≡◌, ◌≢◌, ◌<◌, ◌≤◌, ◌+◌, ◌++◌, ◌∷◌, [], ℕ, Some, None, false, max, length, slice_set, IfOk, OnErr};
+ghost use Rattle.std.specs.Prelude.{◌≡◌, ◌≢◌, ◌<◌, ◌≤◌, ◌+◌, ◌↔◌, ◌++◌, ◌∷◌, [], ℕ, Some, None, false, max, length, slice_set, All, IfOk, IsTrue, OnErr};
 ghost use Rattle.rc_core.specs.Heap.{is_above};
 ghost use Rattle.rc_store.specs.Values.{value_of};
 ghost use Rattle.rc_areas.specs.Areas.{IsLaid, objects_of};
 ghost use Rattle.rc_tally.specs.Tally.{held_refs, pin_refs, value_refs};
-ghost use Rattle.rc_registry.specs.Registries.{IsApart, IsLess, IsMember, IsMore, count_in, has_child, is_member, member_at, member_in, parent_among, root};
+ghost use Rattle.rc_registry.specs.Registries.{AreOlder, HasUnmarkedChild, IsApart, IsLess, IsMember, IsMore, at_slots, count_in, has_child, is_marked, is_member, member_at, member_in, parent_among, root};
 
 use rc_areas::{Area, Shapes};
 use rc_base::{NoMemory, Steps};
@@ -85,6 +85,44 @@ impl Registry {
         }
     }
 
+    /// The parent of a live region; region 0 is its own.
+    pub fn parent(&self, region: u32) -> u32
+        requires { IsMember self.now.members region }
+        ensures { result ≡ parent_among self.now.members region }
+    {
+        match self.directory.get(region) {
+            None => unreachable!(),
+            Some(entry) => entry.parent,
+        }
+    }
+
+    /// Whether a region is live and has a mark. Marks go by slots.
+    pub fn is_marked(&self, region: u32, marks: &[bool]) -> bool
+        requires { self.now.slots ≤ length marks.now }
+        ensures { result ≡ is_marked self.now.members marks.now region }
+    {
+        match self.directory.get(region) {
+            None => false,
+            Some(entry) => marks[entry.slot as usize],
+        }
+    }
+
+    /// Gives each region of a set, all of them live, this mark.
+    pub fn set_marks(&self, set: &[u32], mark: bool, marks: &mut [bool])
+        requires live { All (IsMember self.now.members) set.now }
+        requires room { self.now.slots ≤ length marks.old }
+        ensures marks { marks.new ≡ at_slots self.now.members mark set.now marks.old }
+        ensures apart { IsApart self.now.members self.now.slots }
+        ensures older { AreOlder self.now.members }
+    {
+        let directory = &self.directory;
+        for region in set {
+            if let Some(entry) = directory.get(*region) {
+                marks[entry.slot as usize] = mark;
+            }
+        }
+    }
+
     /// How many references to a region are counted.
     pub fn count(&self, region: u32) -> u64
         ensures { result ≡ count_in self.now region }
@@ -148,6 +186,17 @@ impl Registry {
         self.tree.has_child(self.slot(region))
     }
 
+    /// Whether a live region, which isn't region 0, is the parent of one without a mark. It looks at the
+    /// children alone.
+    pub fn has_unmarked_child(&self, region: u32, marks: &[bool]) -> bool
+        requires live { IsMember self.now.members region }
+        requires not_root { region ≢ 0 }
+        requires room { self.now.slots ≤ length marks.now }
+        ensures { IsTrue result ↔ HasUnmarkedChild self.now.members region marks.now }
+    {
+        self.tree.has_unmarked_child(self.slot(region), marks)
+    }
+
     /// Whether live region a is b, or above b's parent. The links that it follows up the tree are
     /// steps.
     pub fn is_above<L: Ledger>(&self, a: u32, b: u32, steps: &mut Steps<L>) -> bool
@@ -194,7 +243,7 @@ impl Registry {
     }
 
     /// Takes back what the cells of a region, the holder, count. Each cell that counts is read, which is
-    /// a step.
+    /// a step. A region to which references are counted is live.
     pub fn take_back_area<L: Ledger>(
         &mut self,
         area: &Area,
@@ -205,9 +254,29 @@ impl Registry {
         requires laid { IsLaid shapes.now area.now }
         requires enough { (r : ℕ) → held_refs r holder (objects_of shapes.now area.now) ≤ count_in self.old r }
         ensures taken { IsLess self.old self.new (λ r. held_refs r holder (objects_of shapes.now area.now)) }
+        ensures live { (r : ℕ) → 0 < count_in self.old r → IsMember self.old.members r }
         ensures cost { steps.new ≤ steps.old + length area.now.codes }
         ensures never_falls { steps.old ≤ steps.new }
     {
         rc_tally::take_back_area(area, shapes, holder, &mut self.directory, steps);
+    }
+
+    /// Gives again what the cells of a region, the holder, count. Each cell that counts is read, which
+    /// is a step.
+    pub fn give_area<L: Ledger>(
+        &mut self,
+        area: &Area,
+        shapes: &Shapes,
+        holder: u32,
+        steps: &mut Steps<L>,
+    )
+        requires laid { IsLaid shapes.now area.now }
+        requires live { (r : ℕ) → 0 < held_refs r holder (objects_of shapes.now area.now) → IsMember self.old.members r }
+        requires few { (r : ℕ) → count_in self.old r + held_refs r holder (objects_of shapes.now area.now) ≤ 18446744073709551615 }
+        ensures given { IsMore self.old self.new (λ r. held_refs r holder (objects_of shapes.now area.now)) }
+        ensures cost { steps.new ≤ steps.old + length area.now.codes }
+        ensures never_falls { steps.old ≤ steps.new }
+    {
+        rc_tally::give_area(area, shapes, holder, &mut self.directory, steps);
     }
 }

@@ -2,3 +2,4 @@ pub mod Regions
 pub mod Wholes
 pub mod Shown
 pub mod Grown
+pub mod Sets

@@ -1,6 +1,6 @@
 -- The live regions with their objects, as registry, areas and shapes have them: the objects of a region are those of the area at
 -- its slot.
-use Rattle.std.specs.Prelude.{◌≡◌, ◌≢◌, ◌<◌, ℕ, IsTrue, List, [], map, option_map, length, slice_index_or}
+use Rattle.std.specs.Prelude.{◌≡◌, ◌≢◌, ◌<◌, ℕ, Bool, IsTrue, List, [], map, option_map, length, slice_index_or}
 use Rattle.rc_core.specs.declared.layouts.Kind.TheVariants.{Number as NumberKind}
 use Rattle.rc_store.specs.declared.cell.Place.{Place}
 use Rattle.rc_store.specs.Kept.{KeptObject, KeptView, Regions}
@@ -10,6 +10,7 @@ use Rattle.rc_slots.specs.Entries.{Member}
 use Rattle.rc_areas.specs.Areas.{AreaState, IsLaid, objects_of}
 use Rattle.rc_areas.specs.Shapes.{Shape}
 use Rattle.rc_registry.specs.Registries.{Members}
+use Rattle.rc_groups.specs.Groups.{AreClear}
 
 -- the regions, and how many references to each are counted
 pub record SpaceState : Type 0 where
@@ -36,6 +37,12 @@ regions_of members areas shapes = map (option_map (view_of areas shapes)) member
 pub record IsSpace (slots : ℕ) (areas : List AreaState) (shapes : List Shape) : Type 0 where
   pub count : length areas ≡ slots
   pub laid : (slot : ℕ) → IsLaid shapes (area_at areas slot)
+
+-- besides, room for a mark for each slot, none of which is set
+pub record IsSound (slots : ℕ) (areas : List AreaState) (shapes : List Shape) (marks : List Bool) : Type 0 where
+  pub space : IsSpace slots areas shapes
+  pub count : length marks ≡ slots
+  pub clear : AreClear marks
 
 -- the other areas are as they were
 pub record IsBeside (slot : ℕ) (old new : List AreaState) : Type 0 where

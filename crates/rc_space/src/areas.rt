@@ -1,15 +1,17 @@
 // One area among others.
-ghost use Rattle.std.specs.Prelude.{◌≡◌, ◌<◌, ◌++◌, ◌∷◌, [], length, IsTrue, OnOk, OnErr, slice_index_or, slice_set};
+ghost use Rattle.std.specs.Prelude.{◌≡◌, ◌<◌, ◌++◌, ◌∷◌, [], length, All, IsTrue, OnOk, OnErr, slice_index_or, slice_set};
 ghost use Rattle.rc_core.specs.declared.layouts.Kind.TheVariants.{Number as NumberKind};
 ghost use Rattle.rc_store.specs.Kept.{blank};
 ghost use Rattle.rc_store.specs.Stores.{HasCell, cell_place, no_object, objects_with};
 ghost use Rattle.rc_store.specs.Values.{suits, value_of};
 ghost use Rattle.rc_areas.specs.Areas.{IsLaid, objects_of};
+ghost use Rattle.rc_registry.specs.Registries.{IsMember, at_slots};
 ghost use Rattle.rc_space.specs.Spaces.{IsBeside, area_at, no_area};
 
 use rc_areas::{Area, Shapes};
 use rc_base::NoMemory;
 use rc_pages::Bank;
+use rc_registry::Registry;
 use rc_store::{Cell, Place};
 use std::alloc::Global;
 
@@ -61,4 +63,21 @@ pub(crate) fn clear(alloc: Global, areas: &mut [Area], slot: usize, bank: &mut B
     ensures beside { IsBeside slot areas.old areas.new }
 {
     areas[slot].clear(alloc, bank);
+}
+
+/// Lets the objects of all regions of a set go, all of them live.
+pub(crate) fn clear_all(
+    alloc: Global,
+    registry: &Registry,
+    set: &[u32],
+    areas: &mut [Area],
+    bank: &mut Bank,
+)
+    requires live { All (IsMember registry.now.members) set.now }
+    requires areas { length areas.old ≡ registry.now.slots }
+    ensures { areas.new ≡ at_slots registry.now.members no_area set.now areas.old }
+{
+    for region in set {
+        clear(alloc, areas, registry.slot(*region) as usize, bank);
+    }
 }

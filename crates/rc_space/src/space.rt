@@ -1,17 +1,19 @@
 // The space of all regions.
-ghost use Rattle.std.specs.Prelude.{◌≡◌, ◌≢◌, ◌<◌, ◌≤◌, ◌+◌, ◌++◌, ◌∷◌, [], ℕ, Some, None, false, length, map, slice_index_or, slice_set, IfOk, OnOk, OnErr, IsTrue};
+ghost use Rattle.std.specs.Prelude.{◌≡◌, ◌≢◌, ◌<◌, ◌≤◌, ◌+◌, ◌++◌, ◌∷◌, [], ℕ, Some, None, false, length, map, slice_index_or, slice_set, All, Contains, IfOk, OnOk, OnErr, IsTrue};
 ghost use Rattle.std.specs.List.{list_any};
 ghost use Rattle.rc_core.specs.declared.layouts.Kind.TheVariants.{Number as NumberKind};
 ghost use Rattle.rc_core.specs.Heap.{is_above};
 ghost use Rattle.rc_core.specs.Laid.{kind_of};
 ghost use Rattle.rc_core.specs.Shapes.{kinds_in};
 ghost use Rattle.rc_store.specs.Kept.{blank};
+ghost use Rattle.rc_store.specs.Sets.{has_child_outside};
 ghost use Rattle.rc_store.specs.Stores.{cell_place, cell_value, cells_in, is_child, live_in, no_view, object_in, objects_in, objects_with, parent_in, region_at, with_objects};
 ghost use Rattle.rc_store.specs.Values.{suits, value_of};
+ghost use Rattle.rc_counts.specs.Together.{without};
 ghost use Rattle.rc_tally.specs.Tally.{held_refs, pin_refs, value_refs};
 ghost use Rattle.rc_space.specs.Spaces.{HasSpot, IsWhole, count_of};
 
-use crate::areas::{clear, push_object, write_cell};
+use crate::areas::{clear, clear_all, push_object, write_cell};
 use rc_areas::{Area, Shapes};
 use rc_base::{NoMemory, Steps};
 use rc_core::layout::Layout;
@@ -33,18 +35,31 @@ pub struct Space {
     registry: Registry,
     /// By slot.
     areas: Vec<Area>,
+    /// By slot; between two calls none is set.
+    marks: Vec<bool>,
     shapes: Shapes,
     bank: Bank,
 }
 
 impl Model for Space {
-    ghost use Rattle.rc_space.specs.Spaces.{IsSpace, SpaceState, regions_of};
+    ghost use Rattle.rc_space.specs.Spaces.{IsSound, SpaceState, regions_of};
 
     ghost Value = { SpaceState };
 
     ghost view = { λ s. record { regions = regions_of s.registry.members s.areas.items s.shapes; counts = s.registry.counts } };
 
-    ghost invariant = { λ s. IsSpace s.registry.slots s.areas.items s.shapes };
+    ghost invariant = { λ s. IsSound s.registry.slots s.areas.items s.shapes s.marks.items };
+}
+
+/// Room for the mark of one slot, which isn't set.
+fn one_mark(alloc: Global) -> Result<Vec<bool>, NoMemory>
+    ensures { IfOk result (λ marks. marks.items ≡ false ∷ []) }
+{
+    let mut marks = Vec::new(alloc);
+    match marks.push(false) {
+        Ok(()) => Ok(marks),
+        Err(_) => Err(NoMemory),
+    }
 }
 
 impl Space {
@@ -59,12 +74,14 @@ impl Space {
     {
         let registry = Registry::new(alloc)?;
         let bank = Bank::new(alloc, BANK_PLACES)?;
+        let marks = one_mark(alloc)?;
         let mut areas = Vec::new(alloc);
         match areas.push(Area::new(alloc)) {
             Ok(()) => Ok(Space {
                 alloc,
                 registry,
                 areas,
+                marks,
                 shapes: Shapes::new(alloc),
                 bank,
             }),
@@ -162,9 +179,14 @@ impl Space {
             Ok(()) => {}
             Err(_) => return Err(NoMemory),
         }
+        match self.marks.reserve(1) {
+            Ok(()) => {}
+            Err(_) => return Err(NoMemory),
+        }
         let slot = self.registry.add(parent)? as usize;
         if slot == self.areas.len() {
             self.areas.push(Area::new(self.alloc)).unwrap();
+            self.marks.push(false).unwrap();
         } else {
             clear(self.alloc, &mut self.areas, slot, &mut self.bank);
         }
@@ -195,10 +217,12 @@ impl Space {
     }
 
     /// Takes back what the cells of a live region count. Each cell that counts is read, which is a step.
+    /// A region to which references are counted is live.
     pub fn take_back_region<L: Ledger>(&mut self, region: u32, steps: &mut Steps<L>)
         requires live { IsTrue (live_in self.old.regions region) }
         requires enough { (r : ℕ) → held_refs r region (objects_in self.old.regions region) ≤ count_of self.old r }
         ensures counts { (r : ℕ) → count_of self.new r + held_refs r region (objects_in self.old.regions region) ≡ count_of self.old r }
+        ensures live { (r : ℕ) → 0 < count_of self.old r → IsTrue (live_in self.old.regions r) }
         ensures regions { self.new.regions ≡ self.old.regions }
         ensures cost { steps.new ≤ steps.old + cells_in (region_at self.old.regions region) }
         ensures never_falls { steps.old ≤ steps.new }
@@ -206,6 +230,20 @@ impl Space {
         let area = &self.areas[self.registry.slot(region) as usize];
         self.registry
             .take_back_area(area, &self.shapes, region, steps);
+    }
+
+    /// Gives again what the cells of a live region count. Each cell that counts is read, which is a step.
+    pub fn give_region<L: Ledger>(&mut self, region: u32, steps: &mut Steps<L>)
+        requires region { IsTrue (live_in self.old.regions region) }
+        requires live { (r : ℕ) → 0 < held_refs r region (objects_in self.old.regions region) → IsTrue (live_in self.old.regions r) }
+        requires few { (r : ℕ) → count_of self.old r + held_refs r region (objects_in self.old.regions region) ≤ 18446744073709551615 }
+        ensures counts { (r : ℕ) → count_of self.new r ≡ count_of self.old r + held_refs r region (objects_in self.old.regions region) }
+        ensures regions { self.new.regions ≡ self.old.regions }
+        ensures cost { steps.new ≤ steps.old + cells_in (region_at self.old.regions region) }
+        ensures never_falls { steps.old ≤ steps.new }
+    {
+        let area = &self.areas[self.registry.slot(region) as usize];
+        self.registry.give_area(area, &self.shapes, region, steps);
     }
 
     /// Takes a live region out that has no child and to which no reference is counted. Its pages go to
@@ -230,6 +268,38 @@ impl Space {
         ensures { result ≡ list_any (is_child region) self.now.regions }
     {
         self.registry.has_child(region)
+    }
+
+    /// Whether a live region that isn't of a set has one of the set as its parent. It looks at the
+    /// children of the set alone, and takes no memory.
+    pub fn has_child_outside(&mut self, set: &[u32]) -> bool
+        requires live { All (λ r. IsTrue (live_in self.old.regions r)) set.now }
+        requires not_root { ¬ Contains set.now 0 }
+        ensures child { result ≡ has_child_outside set.now 0 self.old.regions }
+        ensures same { self.new ≡ self.old }
+    {
+        rc_groups::has_child_outside(&self.registry, set, &mut self.marks)
+    }
+
+    /// Takes all regions of a set out, in whatever order they stand there. They are live, none is region
+    /// 0, no child of theirs is outside, and no reference to one is counted. Their pages go to the bank.
+    /// It takes no memory.
+    pub fn remove_all(&mut self, set: &[u32])
+        requires live { All (λ r. IsTrue (live_in self.old.regions r)) set.now }
+        requires not_root { ¬ Contains set.now 0 }
+        requires closed { has_child_outside set.now 0 self.old.regions ≡ false }
+        requires unnamed { All (λ r. count_of self.old r ≡ 0) set.now }
+        ensures regions { self.new.regions ≡ without set.now self.old.regions }
+        ensures counts { (r : ℕ) → count_of self.new r ≡ count_of self.old r }
+    {
+        clear_all(
+            self.alloc,
+            &self.registry,
+            set,
+            &mut self.areas,
+            &mut self.bank,
+        );
+        rc_groups::remove_all(&mut self.registry, set, &mut self.marks);
     }
 
     /// Whether live region a is b, or above b's parent. The links that it follows up the tree are

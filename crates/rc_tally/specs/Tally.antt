@@ -1,12 +1,12 @@
 -- What values and cells add to the count of the region that they name, and what giving and taking back do to a directory.
-use Rattle.std.specs.Prelude.{◌≡◌, ◌+◌, ℕ, Bool, false, nat_eq, List, [], ◌∷◌, Option, Some, None, sum_by, if◌then◌else◌}
+use Rattle.std.specs.Prelude.{◌≡◌, ◌<◌, ◌≤◌, ◌+◌, ℕ, Bool, false, nat_eq, List, [], ◌∷◌, Option, Some, None, sum_by, if◌then◌else◌}
 use Rattle.rc_core.specs.declared.layouts.Kind.{Kind}
 use Rattle.rc_core.specs.Heap.{Value, names}
 use Rattle.rc_store.specs.Kept.{KeptObject, object_refs}
 use Rattle.rc_cells.specs.Codes.{decoded}
 use Rattle.rc_counts.specs.Follow.{cell_refs}
 use Rattle.rc_slots.specs.declared.entry.Entry.{Entry}
-use Rattle.rc_slots.specs.Entries.{counted, entry_at, members_of}
+use Rattle.rc_slots.specs.Entries.{IsEntry, counted, entry_at, members_of}
 
 abbrev pub is_target : ℕ → Option ℕ → Bool
 is_target r None = false
@@ -39,3 +39,8 @@ pub record IsTaken (old new : List (Option Entry)) (by : ℕ → ℕ) : Type 0 w
 pub record IsGiven (old new : List (Option Entry)) (by : ℕ → ℕ) : Type 0 where
   pub counts : (r : ℕ) → counted (entry_at new r) ≡ counted (entry_at old r) + by r
   pub members : members_of new ≡ members_of old
+
+-- so many more can be given: to live regions alone, and no count passes 64 bits
+pub record MayBeGiven (d : List (Option Entry)) (by : ℕ → ℕ) : Type 0 where
+  pub live : (r : ℕ) → 0 < by r → IsEntry (entry_at d r)
+  pub few : (r : ℕ) → counted (entry_at d r) + by r ≤ 18446744073709551615

@@ -3,9 +3,9 @@ ghost use Rattle.std.specs.Prelude.{◌≡◌, ◌<◌, ◌≤◌, ◌+◌, ℕ,
 ghost use Rattle.rc_cells.specs.Codes.{decoded};
 ghost use Rattle.rc_counts.specs.Follow.{cell_refs};
 ghost use Rattle.rc_slots.specs.Entries.{counted, entry_at};
-ghost use Rattle.rc_tally.specs.Tally.{IsTaken};
+ghost use Rattle.rc_tally.specs.Tally.{IsGiven, IsTaken, MayBeGiven};
 
-use crate::tally::take_back;
+use crate::tally::{give, take_back};
 use rc_areas::Area;
 use rc_base::Steps;
 use rc_cells::decode;
@@ -34,4 +34,26 @@ pub(crate) fn take_back_cell<L: Ledger>(
     }
     let value = decode(kind, area.code(place, steps));
     take_back(directory, holder, value);
+}
+
+/// Gives what the cell at a place counts. A cell that counts is read, which is a step.
+pub(crate) fn give_cell<L: Ledger>(
+    area: &Area,
+    place: u64,
+    kind: Kind,
+    holder: u32,
+    directory: &mut Directory,
+    steps: &mut Steps<L>,
+)
+    requires place { place < length area.now.codes }
+    requires may { MayBeGiven directory.old (λ r. cell_refs r holder kind (decoded kind (slice_index area.now.codes place))) }
+    ensures given { IsGiven directory.old directory.new (λ r. cell_refs r holder kind (decoded kind (slice_index area.now.codes place))) }
+    ensures cost { steps.new ≤ steps.old + 1 }
+    ensures never_falls { steps.old ≤ steps.new }
+{
+    if !is_counted(kind) {
+        return;
+    }
+    let value = decode(kind, area.code(place, steps));
+    give(directory, holder, value);
 }

@@ -3,7 +3,9 @@
 
 mod area;
 mod cell;
+mod given;
 mod tally;
 
 pub use area::take_back_area;
+pub use given::give_area;
 pub use tally::{give, pin, take_back, target, unpin};

@@ -7,3 +7,5 @@ mod calls;
 mod references;
 #[cfg(test)]
 mod scripts;
+#[cfg(test)]
+mod sets;

@@ -27,7 +27,7 @@ push_object-requires-clause-laid c =
     let shapes = c.number.new.self in
     let more : shapes ≡ with_shape ks s.shapes = c.in_ok-shape.ensures.shapes in
     let kept : (a : AreaState) → IsLaid s.shapes a → IsLaid shapes a = λ a laid. subst (λ x. IsLaid x a) (sym more) (shape_laid s.shapes ks a laid) in
-    subst (λ xs. IsLaid shapes (area_at xs slot)) (sym c.deref_mut.ensures.value) (kept (area_at areas slot) (c.self.invariant.laid slot))
+    subst (λ xs. IsLaid shapes (area_at xs slot)) (sym c.deref_mut.ensures.value) (kept (area_at areas slot) (c.self.invariant.space.laid slot))
 
 pub invariant_of-self-2 : goal.invariant_of-self-2
 invariant_of-self-2 c =
@@ -45,7 +45,11 @@ invariant_of-self-2 c =
     let new = c.push_object.new.areas in
     let beside : IsBeside slot areas new = subst (λ xs. IsBeside slot xs new) c.deref_mut.ensures.value c.push_object.ensures.beside in
     let items = with_items_is s.areas new (c.push_object.ensures.beside.count ∙ c.deref_mut.ensures.len) in
-    subst (λ xs. IsSpace slots xs shapes) (sym items) (space_beside slots slot areas new s.shapes shapes c.self.invariant beside kept c.push_object.ensures.laid)
+    record {
+      space = subst (λ xs. IsSpace slots xs shapes) (sym items) (space_beside slots slot areas new s.shapes shapes c.self.invariant.space beside kept c.push_object.ensures.laid);
+      count = c.self.invariant.count;
+      clear = c.self.invariant.clear;
+    }
 
 pub returns-clause-ok : goal.returns-clause-ok
 returns-clause-ok c =
@@ -64,16 +68,16 @@ returns-clause-ok c =
     let beside : IsBeside slot areas new = subst (λ xs. IsBeside slot xs new) c.deref_mut.ensures.value c.push_object.ensures.beside in
     let items = with_items_is s.areas new (c.push_object.ensures.beside.count ∙ c.deref_mut.ensures.len) in
     let objects_kept : (a : AreaState) → IsLaid s.shapes a → objects_of shapes a ≡ objects_of s.shapes a = λ a laid. ap (λ x. objects_of x a) more ∙ shape_objects s.shapes ks a laid in
-    let live = live_shown ms areas s.shapes slots c.self.invariant c.args.self.now.regions view r c.requires in
+    let live = live_shown ms areas s.shapes slots c.self.invariant.space c.args.self.now.regions view r c.requires in
     on_ok_weaker c.push_object.result (λ pushed.
     let same : objects_of shapes (area_at new slot) ≡ objects_in c.args.self.now.regions r ++ blank ks c.args.count ∷ [] =
     pushed
     ∙ ap (λ xs. objects_of shapes (area_at xs slot) ++ blank (get_or shapes c.in_ok-shape.shape []) c.args.count ∷ []) c.deref_mut.ensures.value
-    ∙ ap (λ os. os ++ blank (get_or shapes c.in_ok-shape.shape []) c.args.count ∷ []) (objects_kept (area_at areas slot) (c.self.invariant.laid slot) ∙ sym (objects_shown ms areas s.shapes slots c.self.invariant c.args.self.now.regions view r slot c.requires c.slot-slot.ensures.slot))
+    ∙ ap (λ os. os ++ blank (get_or shapes c.in_ok-shape.shape []) c.args.count ∷ []) (objects_kept (area_at areas slot) (c.self.invariant.space.laid slot) ∙ sym (objects_shown ms areas s.shapes slots c.self.invariant.space c.args.self.now.regions view r slot c.requires c.slot-slot.ensures.slot))
     ∙ ap (λ k. objects_in c.args.self.now.regions r ++ blank k c.args.count ∷ []) (get_or_from_slice_get shapes c.in_ok-shape.shape ks [] c.in_ok-shape.ensures.number) in
     ap (λ xs. regions_of ms xs shapes) items
     ∙ regions_beside ms areas new s.shapes shapes slots r slot (objects_in c.args.self.now.regions r ++ blank ks c.args.count ∷ []) live c.slot-slot.ensures.slot (λ n there other e. other (c.slot-slot.ensures.apart.apart n r there live (e ∙ c.slot-slot.ensures.slot)))
-    c.self.invariant beside objects_kept same
+    c.self.invariant.space beside objects_kept same
     ∙ ap (with_objects r (objects_in c.args.self.now.regions r ++ blank ks c.args.count ∷ [])) view) c.push_object.ensures.ok
 
 pub returns-clause-err : goal.returns-clause-err
@@ -95,5 +99,5 @@ returns-clause-err c =
     let objects_kept : (a : AreaState) → IsLaid s.shapes a → objects_of shapes a ≡ objects_of s.shapes a = λ a laid. ap (λ x. objects_of x a) more ∙ shape_objects s.shapes ks a laid in
     on_err_weaker c.push_object.result (λ same.
     ap (λ xs. regions_of ms xs shapes) items
-    ∙ regions_stay ms areas new s.shapes shapes slots slot c.self.invariant beside objects_kept (same ∙ ap (λ xs. area_at xs slot) c.deref_mut.ensures.value)
+    ∙ regions_stay ms areas new s.shapes shapes slots slot c.self.invariant.space beside objects_kept (same ∙ ap (λ xs. area_at xs slot) c.deref_mut.ensures.value)
     ∙ view) c.push_object.ensures.err

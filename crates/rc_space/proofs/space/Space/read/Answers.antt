@@ -10,11 +10,11 @@ get-requires-clause-object g c =
     let s = c.self.inside in
     let view = ap (λ (x : SpaceState). x.regions) c.self.view_is in
     let r = c.args.place.pointer.region in
-    let inside = slot_inside s.registry.members s.areas.items s.shapes s.registry.slots c.self.invariant c.args.self.now.regions view r c.slot.result c.requires.live c.slot.ensures.slot c.slot.ensures.apart in
+    let inside = slot_inside s.registry.members s.areas.items s.shapes s.registry.slots c.self.invariant.space c.args.self.now.regions view r c.slot.result c.requires.live c.slot.ensures.slot c.slot.ensures.apart in
     omega (
       arith,
       c.requires.object,
-      heads_many s.registry.members s.areas.items s.shapes s.registry.slots c.self.invariant c.args.self.now.regions view r c.slot.result c.requires.live c.slot.ensures.slot c.index.result.now (area_read s.areas.items c.slot.result c.index.result.now inside c.index.ensures),
+      heads_many s.registry.members s.areas.items s.shapes s.registry.slots c.self.invariant.space c.args.self.now.regions view r c.slot.result c.requires.live c.slot.ensures.slot c.index.result.now (area_read s.areas.items c.slot.result c.index.result.now inside c.index.ensures),
     )
 
 pub get-requires-clause-cell : goal.get-requires-clause-cell
@@ -22,8 +22,8 @@ get-requires-clause-cell g c =
     let s = c.self.inside in
     let view = ap (λ (x : SpaceState). x.regions) c.self.view_is in
     let p = c.args.place.pointer in
-    let inside = slot_inside s.registry.members s.areas.items s.shapes s.registry.slots c.self.invariant c.args.self.now.regions view p.region c.slot.result c.requires.live c.slot.ensures.slot c.slot.ensures.apart in
-    cell_inside s.registry.members s.areas.items s.shapes s.registry.slots c.self.invariant c.args.self.now.regions view p.region c.slot.result c.requires.live c.slot.ensures.slot c.index.result.now (area_read s.areas.items c.slot.result c.index.result.now inside c.index.ensures)
+    let inside = slot_inside s.registry.members s.areas.items s.shapes s.registry.slots c.self.invariant.space c.args.self.now.regions view p.region c.slot.result c.requires.live c.slot.ensures.slot c.slot.ensures.apart in
+    cell_inside s.registry.members s.areas.items s.shapes s.registry.slots c.self.invariant.space c.args.self.now.regions view p.region c.slot.result c.requires.live c.slot.ensures.slot c.index.result.now (area_read s.areas.items c.slot.result c.index.result.now inside c.index.ensures)
     p.object p.index c.args.place.cell c.requires.object c.requires.cell
 
 pub returns-clause-value : goal.returns-clause-value
@@ -31,9 +31,9 @@ returns-clause-value g c =
     let s = c.self.inside in
     let view = ap (λ (x : SpaceState). x.regions) c.self.view_is in
     let p = c.args.place.pointer in
-    let inside = slot_inside s.registry.members s.areas.items s.shapes s.registry.slots c.self.invariant c.args.self.now.regions view p.region c.slot.result c.requires.live c.slot.ensures.slot c.slot.ensures.apart in
+    let inside = slot_inside s.registry.members s.areas.items s.shapes s.registry.slots c.self.invariant.space c.args.self.now.regions view p.region c.slot.result c.requires.live c.slot.ensures.slot c.slot.ensures.apart in
     c.get.ensures.value
-    ∙ ap (λ (o : KeptObject). cell_value o p.index c.args.place.cell) (sym (area_object s.registry.members s.areas.items s.shapes s.registry.slots c.self.invariant c.args.self.now.regions view p.region c.slot.result c.requires.live c.slot.ensures.slot c.index.result.now
+    ∙ ap (λ (o : KeptObject). cell_value o p.index c.args.place.cell) (sym (area_object s.registry.members s.areas.items s.shapes s.registry.slots c.self.invariant.space c.args.self.now.regions view p.region c.slot.result c.requires.live c.slot.ensures.slot c.index.result.now
     (area_read s.areas.items c.slot.result c.index.result.now inside c.index.ensures) p.object))
 
 pub returns-clause-whole : goal.returns-clause-whole
@@ -41,6 +41,6 @@ returns-clause-whole g c =
     let s = c.self.inside in
     let view = ap (λ (x : SpaceState). x.regions) c.self.view_is in
     let p = c.args.place.pointer in
-    let inside = slot_inside s.registry.members s.areas.items s.shapes s.registry.slots c.self.invariant c.args.self.now.regions view p.region c.slot.result c.requires.live c.slot.ensures.slot c.slot.ensures.apart in
-    cell_whole s.registry.members s.areas.items s.shapes s.registry.slots c.self.invariant c.args.self.now.regions view p.region c.slot.result c.requires.live c.slot.ensures.slot c.index.result.now (area_read s.areas.items c.slot.result c.index.result.now inside c.index.ensures)
+    let inside = slot_inside s.registry.members s.areas.items s.shapes s.registry.slots c.self.invariant.space c.args.self.now.regions view p.region c.slot.result c.requires.live c.slot.ensures.slot c.slot.ensures.apart in
+    cell_whole s.registry.members s.areas.items s.shapes s.registry.slots c.self.invariant.space c.args.self.now.regions view p.region c.slot.result c.requires.live c.slot.ensures.slot c.index.result.now (area_read s.areas.items c.slot.result c.index.result.now inside c.index.ensures)
     p.object p.index c.args.place.cell c.requires.object c.requires.cell

@@ -27,8 +27,12 @@ invariant_of-self c =
     let new = c.clear.new.areas in
     let beside : IsBeside slot areas new = subst (λ xs. IsBeside slot xs new) c.deref_mut.ensures.value c.clear.ensures.beside in
     let items = with_items_is s.areas new (c.clear.ensures.beside.count ∙ c.deref_mut.ensures.len) in
-    let space = space_beside slots slot areas new s.shapes s.shapes c.self.invariant beside (λ a laid. laid) (subst (IsLaid s.shapes) (sym c.clear.ensures.empty) (empty_laid s.shapes)) in
-    subst (λ xs. IsSpace c.remove.new.self.slots xs s.shapes) (sym items) (subst (λ n. IsSpace n new s.shapes) (sym c.remove.ensures.slots) space)
+    let space = space_beside slots slot areas new s.shapes s.shapes c.self.invariant.space beside (λ a laid. laid) (subst (IsLaid s.shapes) (sym c.clear.ensures.empty) (empty_laid s.shapes)) in
+    record {
+      space = subst (λ xs. IsSpace c.remove.new.self.slots xs s.shapes) (sym items) (subst (λ n. IsSpace n new s.shapes) (sym c.remove.ensures.slots) space);
+      count = c.self.invariant.count ∙ sym c.remove.ensures.slots;
+      clear = c.self.invariant.clear;
+    }
 
 pub returns-clause-regions : goal.returns-clause-regions
 returns-clause-regions c =
@@ -42,8 +46,8 @@ returns-clause-regions c =
     let new = c.clear.new.areas in
     let beside : IsBeside slot areas new = subst (λ xs. IsBeside slot xs new) c.deref_mut.ensures.value c.clear.ensures.beside in
     let items = with_items_is s.areas new (c.clear.ensures.beside.count ∙ c.deref_mut.ensures.len) in
-    let live = live_shown ms areas s.shapes slots c.self.invariant c.args.self.now.regions view r c.requires.live in
-    let changed = regions_beside ms areas new s.shapes s.shapes slots r slot (objects_of s.shapes (area_at new slot)) live c.slot-slot.ensures.slot (λ n there other e. other (c.slot-slot.ensures.apart.apart n r there live (e ∙ c.slot-slot.ensures.slot))) c.self.invariant beside (λ a laid. refl) refl in
+    let live = live_shown ms areas s.shapes slots c.self.invariant.space c.args.self.now.regions view r c.requires.live in
+    let changed = regions_beside ms areas new s.shapes s.shapes slots r slot (objects_of s.shapes (area_at new slot)) live c.slot-slot.ensures.slot (λ n there other e. other (c.slot-slot.ensures.apart.apart n r there live (e ∙ c.slot-slot.ensures.slot))) c.self.invariant.space beside (λ a laid. refl) refl in
     ap (λ xs. regions_of c.remove.new.self.members xs s.shapes) items
     ∙ ap (λ x. regions_of x new s.shapes) c.remove.ensures.members
     ∙ regions_less new s.shapes ms r

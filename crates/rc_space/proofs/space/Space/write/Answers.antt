@@ -21,7 +21,7 @@ write_cell-requires-clause-object c =
     let r = c.args.place.pointer.region in
     let slot = c.slot-slot.result in
     let spot = c.requires.spot in
-    let below : c.args.place.pointer.object < length (area_at areas slot).heads = omega (arith, spot.object, heads_many ms areas s.shapes slots c.self.invariant c.args.self.now.regions view r slot spot.live c.slot-slot.ensures.slot (area_at areas slot) refl) in
+    let below : c.args.place.pointer.object < length (area_at areas slot).heads = omega (arith, spot.object, heads_many ms areas s.shapes slots c.self.invariant.space c.args.self.now.regions view r slot spot.live c.slot-slot.ensures.slot (area_at areas slot) refl) in
     subst (λ xs. c.args.place.pointer.object < length (area_at xs slot).heads) (sym c.deref_mut.ensures.value) below
 
 pub write_cell-requires-clause-cell : goal.write_cell-requires-clause-cell
@@ -35,7 +35,7 @@ write_cell-requires-clause-cell c =
     let slot = c.slot-slot.result in
     let spot = c.requires.spot in
     subst (λ xs. HasCell (get_or (objects_of s.shapes (area_at xs slot)) c.args.place.pointer.object no_object) c.args.place.pointer.index c.args.place.cell) (sym c.deref_mut.ensures.value)
-    (subst (λ o. HasCell o c.args.place.pointer.index c.args.place.cell) (area_object ms areas s.shapes slots c.self.invariant c.args.self.now.regions view r slot spot.live c.slot-slot.ensures.slot (area_at areas slot) refl c.args.place.pointer.object) spot.cell)
+    (subst (λ o. HasCell o c.args.place.pointer.index c.args.place.cell) (area_object ms areas s.shapes slots c.self.invariant.space c.args.self.now.regions view r slot spot.live c.slot-slot.ensures.slot (area_at areas slot) refl c.args.place.pointer.object) spot.cell)
 
 pub write_cell-requires-clause-suits : goal.write_cell-requires-clause-suits
 write_cell-requires-clause-suits c =
@@ -49,7 +49,7 @@ write_cell-requires-clause-suits c =
     let spot = c.requires.spot in
     let p = c.args.place.pointer in
     subst (λ xs. let o = get_or (objects_of s.shapes (area_at xs slot)) p.object no_object in IsTrue (suits (get_or o.kinds (cell_place o p.index c.args.place.cell) NumberKind) (value_of c.args.value))) (sym c.deref_mut.ensures.value)
-    (subst (λ o. IsTrue (suits (get_or o.kinds (cell_place o p.index c.args.place.cell) NumberKind) (value_of c.args.value))) (area_object ms areas s.shapes slots c.self.invariant c.args.self.now.regions view r slot spot.live c.slot-slot.ensures.slot (area_at areas slot) refl c.args.place.pointer.object) c.requires.suits)
+    (subst (λ o. IsTrue (suits (get_or o.kinds (cell_place o p.index c.args.place.cell) NumberKind) (value_of c.args.value))) (area_object ms areas s.shapes slots c.self.invariant.space c.args.self.now.regions view r slot spot.live c.slot-slot.ensures.slot (area_at areas slot) refl c.args.place.pointer.object) c.requires.suits)
 
 pub invariant_of-self : goal.invariant_of-self
 invariant_of-self c =
@@ -64,7 +64,11 @@ invariant_of-self c =
     let new = c.write_cell.new.areas in
     let beside : IsBeside slot areas new = subst (λ xs. IsBeside slot xs new) c.deref_mut.ensures.value c.write_cell.ensures.beside in
     let items = with_items_is s.areas new (c.write_cell.ensures.beside.count ∙ c.deref_mut.ensures.len) in
-    subst (λ xs. IsSpace slots xs s.shapes) (sym items) (space_beside slots slot areas new s.shapes s.shapes c.self.invariant beside (λ a laid. laid) c.write_cell.ensures.laid)
+    record {
+      space = subst (λ xs. IsSpace slots xs s.shapes) (sym items) (space_beside slots slot areas new s.shapes s.shapes c.self.invariant.space beside (λ a laid. laid) c.write_cell.ensures.laid);
+      count = c.self.invariant.count;
+      clear = c.self.invariant.clear;
+    }
 
 pub returns-clause-written : goal.returns-clause-written
 returns-clause-written c =
@@ -80,14 +84,14 @@ returns-clause-written c =
     let beside : IsBeside slot areas new = subst (λ xs. IsBeside slot xs new) c.deref_mut.ensures.value c.write_cell.ensures.beside in
     let items = with_items_is s.areas new (c.write_cell.ensures.beside.count ∙ c.deref_mut.ensures.len) in
     let p = c.args.place.pointer in
-    let live = live_shown ms areas s.shapes slots c.self.invariant c.args.self.now.regions view r spot.live in
+    let live = live_shown ms areas s.shapes slots c.self.invariant.space c.args.self.now.regions view r spot.live in
     let objects = objects_with p.object p.index c.args.place.cell (value_of c.args.value) (objects_in c.args.self.now.regions r) in
     let same : objects_of s.shapes (area_at new slot) ≡ objects =
     c.write_cell.ensures.written
     ∙ ap (λ xs. objects_with p.object p.index c.args.place.cell (value_of c.args.value) (objects_of s.shapes (area_at xs slot))) c.deref_mut.ensures.value
-    ∙ ap (objects_with p.object p.index c.args.place.cell (value_of c.args.value)) (sym (objects_shown ms areas s.shapes slots c.self.invariant c.args.self.now.regions view r slot spot.live c.slot-slot.ensures.slot)) in
+    ∙ ap (objects_with p.object p.index c.args.place.cell (value_of c.args.value)) (sym (objects_shown ms areas s.shapes slots c.self.invariant.space c.args.self.now.regions view r slot spot.live c.slot-slot.ensures.slot)) in
     ap (λ xs. regions_of ms xs s.shapes) items
-    ∙ regions_beside ms areas new s.shapes s.shapes slots r slot objects live c.slot-slot.ensures.slot (λ n there other e. other (c.slot-slot.ensures.apart.apart n r there live (e ∙ c.slot-slot.ensures.slot))) c.self.invariant beside (λ a laid. refl) same
+    ∙ regions_beside ms areas new s.shapes s.shapes slots r slot objects live c.slot-slot.ensures.slot (λ n there other e. other (c.slot-slot.ensures.apart.apart n r there live (e ∙ c.slot-slot.ensures.slot))) c.self.invariant.space beside (λ a laid. refl) same
     ∙ ap (with_objects r objects) view
 
 pub returns-clause-whole : goal.returns-clause-whole
@@ -100,4 +104,4 @@ returns-clause-whole c =
     let r = c.args.place.pointer.region in
     let slot = c.slot-slot.result in
     let spot = c.requires.spot in
-    cell_whole ms areas s.shapes slots c.self.invariant c.args.self.now.regions view r slot spot.live c.slot-slot.ensures.slot (area_at areas slot) refl c.args.place.pointer.object c.args.place.pointer.index c.args.place.cell spot.object spot.cell
+    cell_whole ms areas s.shapes slots c.self.invariant.space c.args.self.now.regions view r slot spot.live c.slot-slot.ensures.slot (area_at areas slot) refl c.args.place.pointer.object c.args.place.pointer.index c.args.place.cell spot.object spot.cell
