@@ -1,0 +1,5 @@
+pub mod Replies
+pub mod Stores
+pub mod Examples
+pub mod Laws
+pub mod Writing

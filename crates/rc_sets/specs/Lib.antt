@@ -1,0 +1,4 @@
+pub mod Deletions
+pub mod Records
+pub mod Obeying
+pub mod Scripts
