@@ -1,0 +1,5 @@
+pub mod Renaming
+pub mod Carrying
+pub mod Settling
+pub mod Owning
+pub mod Adding

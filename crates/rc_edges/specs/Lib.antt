@@ -1,0 +1,4 @@
+pub mod Edges
+pub mod EdgeLaws
+pub mod Families
+pub mod News

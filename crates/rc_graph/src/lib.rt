@@ -1,0 +1,17 @@
+//! The points of region code in code: what each does to the region variables, and where it leads.
+//! `specs/Nodes` leads from these types to the definitions of rc_rlang's `specs/RegionFlow`.
+#![tactic(auto)]
+
+mod acts;
+mod counts;
+mod graph;
+mod heights;
+mod names;
+mod node;
+mod operations;
+mod output;
+mod plans;
+mod walk;
+
+pub use graph::{Graph, graph_of};
+pub use node::{Effect, Entry, Node};

@@ -1,0 +1,23 @@
+-- What is given where the news of an effect are listed: the facts of the exits of functions, in their order.
+use Rattle.std.specs.Prelude.{◌<◌, ◌≤◌, List, length, get_or}
+use Rattle.rc_facts.specs.Facts.{Known}
+use Rattle.rc_rlang.specs.RegionFlow.{Effect, nothing, nulled, moved, fixed, beside, made, under, loaded, looked_at, stored, present, absent, called, entered}
+use Rattle.rc_flow.specs.Flow.{no_set}
+use Rattle.rc_edges.specs.News.{places_of}
+
+-- a call is of a function that is there, whose exit speaks of as many variables at least as the call has places
+abbrev pub CallFits : List Known → Effect → Type 0
+CallFits exits nothing = Unit {0}
+CallFits exits (nulled x) = Unit {0}
+CallFits exits (moved x y) = Unit {0}
+CallFits exits (fixed x) = Unit {0}
+CallFits exits (beside x y) = Unit {0}
+CallFits exits (made x) = Unit {0}
+CallFits exits (under x y) = Unit {0}
+CallFits exits (loaded x y note) = Unit {0}
+CallFits exits (looked_at y) = Unit {0}
+CallFits exits (stored z y note) = Unit {0}
+CallFits exits (present y) = Unit {0}
+CallFits exits (absent y) = Unit {0}
+CallFits exits (called x g arguments) = (g < length exits) × (length (places_of arguments x) ≤ (get_or exits g no_set).variables)
+CallFits exits (entered pairs) = Unit {0}
