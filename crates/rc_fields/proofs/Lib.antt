@@ -5,3 +5,4 @@ pub mod Rules
 pub mod Codecs
 pub mod Fields
 pub mod Wholes
+mod Narrow

@@ -1,7 +1,8 @@
 // Paths.
-ghost use Rattle.std.specs.Prelude.{◌≡◌, ◌++◌, nat_lt, length, drop, OnOk};
+ghost use Rattle.std.specs.Prelude.{◌≡◌, ◌++◌, nat_lt, true, length, drop, IfOk, OnOk};
 ghost use Rattle.rc_code.specs.Image.{is_apart, is_nested, span, is_reached, is_alike, are_alike, has_one_kind};
 ghost use Rattle.rc_fields.specs.Spelling.{number, counted, shift_number, index_bytes, path_bytes};
+ghost use Rattle.rc_fields.specs.Wide.{is_wide, wide_of};
 ghost use Rattle.rc_fields.specs.Reading.{Gives, many, counted_at, keeps_rules, shift_at, index_at, path_at};
 
 use crate::globals::cells_of;
@@ -120,12 +121,52 @@ fn cells_from(cells: &[Cell], offset: u32) -> &[Cell]
     }
 }
 
+/// Whether an index can be other than 0.
+fn is_wide(index: Index) -> bool
+    ensures { result ≡ is_wide index }
+{
+    if index.length != 1 {
+        return true;
+    }
+    index.stride == 0
+}
+
+/// The indices that can be other than 0. Where strides are nested and what is reached is inside a
+/// type, there are few of them, however many indices there are.
+fn wide_indices(alloc: Global, indices: &[Index]) -> Result<Vec<Index>, AllocError>
+    ensures { IfOk result (λ wide. wide.items ≡ wide_of indices.now) }
+{
+    let mut wide = Vec::new(alloc);
+    for index in indices {
+        if is_wide(*index) {
+            wide.push(*index)?;
+        }
+    }
+    Ok(wide)
+}
+
+/// Whether the cells that are reached are of one kind, where strides are nested. Each cell is asked
+/// about the indices that can be other than 0 alone.
+fn reaches_one_kind(alloc: Global, from: &[Cell], indices: &[Index]) -> Result<bool, AllocError>
+    requires { is_nested indices.now ≡ true }
+    ensures { IfOk result (λ is_one. is_one ≡ has_one_kind indices.now from.now) }
+{
+    let wide = wide_indices(alloc, indices)?;
+    Ok(has_one_kind(wide.as_slice(), from))
+}
+
 /// Whether a path keeps the rules on strides and on the cells that it reaches, of the cells from its
 /// offset on.
-fn keeps_rules(from: &[Cell], indices: &[Index]) -> bool
-    ensures { result ≡ keeps_rules from.now indices.now }
+fn keeps_rules(alloc: Global, from: &[Cell], indices: &[Index]) -> Result<bool, AllocError>
+    ensures { IfOk result (λ keeps. keeps ≡ keeps_rules from.now indices.now) }
 {
-    is_nested(indices) && is_inside(indices, from.len()) && has_one_kind(indices, from)
+    if !is_nested(indices) {
+        return Ok(false);
+    }
+    if !is_inside(indices, from.len()) {
+        return Ok(false);
+    }
+    reaches_one_kind(alloc, from, indices)
 }
 
 /// Reads the kind of a path's shift, 0 for none.
@@ -197,7 +238,7 @@ fn read_path<'b>(
     let (offset, rest) = read_number(rest)?;
     let (indices, rest) = read_indices(alloc, rest)?;
     let from = cells_from(cells_of(types, type_number), offset);
-    if !keeps_rules(from, &indices) {
+    if !keeps_rules(alloc, from, &indices)? {
         return Err(Stop::Field(bytes.len()));
     }
     let indices = Items::new(indices);

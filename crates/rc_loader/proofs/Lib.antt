@@ -2,3 +2,4 @@ pub mod Operands
 pub mod Firsts
 pub mod Marks
 pub mod Deciding
+pub mod Totals

@@ -1,5 +1,5 @@
 // Laws of loading.
-ghost use Rattle.std.specs.Prelude.{◌≡◌};
+ghost use Rattle.std.specs.Prelude.{◌≡◌, ◌⊎◌};
 ghost use Rattle.rc_code.specs.declared.image.Parts.{Parts};
 ghost use Rattle.rc_code.specs.Image.{FieldsFit};
 ghost use Rattle.rc_code.specs.Soundness.{Sound, SoundUnmarked};
@@ -8,8 +8,9 @@ ghost use Rattle.rc_loader.specs.declared.fault.Violation.{Violation};
 ghost use Rattle.rc_loader.specs.Violations.{FirstViolation};
 ghost use Rattle.rc_loader.specs.Unmarked.{unmarked};
 
-/// An image has one first violation at most, and none where it is sound.
+/// An image is sound or has a first violation; it has one at most, and none where it is sound.
 pub fn there_is_one_first_violation()
+    ensures some { (parts : Parts) → Sound parts ⊎ ((violation : Violation) × FirstViolation parts violation) }
     ensures one { (parts : Parts) (v w : Violation) → FirstViolation parts v → FirstViolation parts w → v ≡ w }
     ensures none { (parts : Parts) (v : Violation) → Sound parts → FirstViolation parts v → ⊥ }
 {}

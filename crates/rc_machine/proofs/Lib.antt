@@ -1,3 +1,4 @@
+pub mod Beginning
 pub mod Steps
 pub mod Comings
 pub mod Growing

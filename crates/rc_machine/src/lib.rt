@@ -4,13 +4,12 @@
 #![tactic(auto)]
 
 mod end;
-mod layouts;
-mod run;
+mod rounds;
 mod start;
 mod step;
 mod whole;
 
 pub use end::ImageEnd;
-pub use run::run_on;
-pub use start::run_first;
+pub use rounds::run_on;
+pub use start::{run, run_first};
 pub use whole::run_to_end;

@@ -1,5 +1,9 @@
 use Rattle.rc_loader.proofs.Firsts.{one_first, none_where_sound}
+use Rattle.rc_loader.proofs.Totals.{sound_or_first}
 use Rattle.rc_loader.proofs.laws.there_is_one_first_violation.Goals as goal
+
+pub returns-clause-some : goal.returns-clause-some
+returns-clause-some c = sound_or_first
 
 pub returns-clause-one : goal.returns-clause-one
 returns-clause-one c = one_first
