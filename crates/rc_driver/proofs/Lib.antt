@@ -1,14 +1,1 @@
-mod EmptyLines
-mod Fronts
-mod ImageFiles
-mod Numbers
-mod OneOutcome
-mod Reports
-mod RunFiles
-mod RunLaws
-mod Served
-mod TextLaws
-mod SpelledImages
-mod ToldLaws
-mod Ways
-mod Written
+pub mod Served

@@ -6,20 +6,20 @@ use Rattle.rc_base.specs.Sinks.{SinkState, TookFront}
 use Rattle.rc_base.specs.Sources.{SourceState}
 use Rattle.rc_store.specs.Kept.{KeptStore}
 use Rattle.rc_base.proofs.ActLaws.{took_all}
-use Rattle.rc_driver.specs.Answers.{HasLine, IsQuiet, MayStore}
-use Rattle.rc_driver.specs.Footprint.{IsMissing, footprint}
+use Rattle.rc_answers.specs.Answers.{HasLine, IsQuiet, MayStore}
+use Rattle.rc_outcomes.specs.Footprint.{IsMissing, footprint}
 use Rattle.rc_driver.specs.Headline.{Heard, Serves}
-use Rattle.rc_driver.specs.Lines.{done_line}
-use Rattle.rc_driver.specs.Outcome.{Comes, IsOutcome, Outcome, Performed, StoppedShort}
-use Rattle.rc_driver.specs.Outside.{NoneRose, Outside, outside}
-use Rattle.rc_driver.specs.Performing.{Performs}
-use Rattle.rc_driver.specs.Request.{Request, Run, Slow, Listing, Upgrade}
-use Rattle.rc_driver.specs.Telling.{Tells, ToldDone, ToldFault, Untold}
-use Rattle.rc_driver.specs.declared.answer.Done.{Done}
-use Rattle.rc_driver.specs.declared.answer.Done.TheVariants.{Ended, StaleImage, Refused, ImageRefused, Wrote, Reported, Usage}
-use Rattle.rc_driver.specs.declared.answer.Fault.{Fault}
-use Rattle.rc_driver.specs.declared.answer.Fault.TheVariants.{FileFault, ReadFault, WriteFault, ErrFault, Memory}
-use Rattle.rc_driver.proofs.RunFiles.{the_only, there_is}
+use Rattle.rc_answers.specs.Lines.{done_line}
+use Rattle.rc_outcomes.specs.Outcome.{Comes, IsOutcome, Outcome, Performed, StoppedShort}
+use Rattle.rc_outcomes.specs.Outside.{NoneRose, Outside, outside}
+use Rattle.rc_outcomes.specs.Performing.{Performs}
+use Rattle.rc_requests.specs.Request.{Request, Run, Slow, Compile, Exec, Listing, Upgrade}
+use Rattle.rc_answers.specs.Telling.{Tells, ToldDone, ToldFault, Untold}
+use Rattle.rc_answers.specs.declared.answer.Done.{Done}
+use Rattle.rc_answers.specs.declared.answer.Done.TheVariants.{Ended, StaleImage, Refused, ImageRefused, Wrote, Reported, Usage}
+use Rattle.rc_answers.specs.declared.answer.Fault.{Fault}
+use Rattle.rc_answers.specs.declared.answer.Fault.TheVariants.{FileFault, ReadFault, WriteFault, ErrFault, Memory}
+use Rattle.rc_outcomes.proofs.Ways.{the_only, there_is}
 
 -- an answer that stays the usage
 usage_is : (done : Done) → ◌≡◌ {A = Result Done Fault} (Ok done) (Ok Usage) → done ≡ Usage
@@ -122,6 +122,8 @@ there : (request : Option Request) (before : Outside) (outcome : Outcome) → Is
 there None before outcome is (name, read, lacks) = let low = read.1 in omega (arith, low)
 there (Some (Run file limits)) before outcome is (name, read, lacks) = there_is before.files.names file name is.0 (the_only file name read) is.1 lacks.none
 there (Some (Slow file limits)) before outcome is (name, read, lacks) = there_is before.files.names file name is.0 (the_only file name read) is.1 lacks.none
+there (Some (Compile from to)) before outcome is (name, read, lacks) = there_is before.files.names from name is.0 (the_only from name read) is.1 lacks.none
+there (Some (Exec file limits)) before outcome is (name, read, lacks) = there_is before.files.names file name is.0 (the_only file name read) is.1 lacks.none
 there (Some (Listing file)) before outcome is (name, read, lacks) = there_is before.files.names file name is.0 (the_only file name read) is.1 lacks.none
 there (Some (Upgrade from to)) before outcome is (name, read, lacks) = there_is before.files.names from name is.0 (the_only from name read) is.1 lacks.none
 

@@ -3,18 +3,19 @@ use Rattle.std.specs.Prelude.{◌≡◌, ◌⊎◌, List, map, Option, None, Res
 use Rattle.std.specs.declared.alloc.Global.{Global}
 use Rattle.rc_base.specs.Causes.{Rose}
 use Rattle.rc_base.specs.Sinks.{IsFlushed, TookFront}
-use Rattle.rc_driver.specs.Answers.{IsQuiet, MayAnswer, MayStore, WritesOut}
-use Rattle.rc_driver.specs.FaultCauses.{CountsStay, ErrorCause, FileCause, ReadCause, WriteCause}
-use Rattle.rc_driver.specs.Footprint.{Alone, IsMissing, UsesFiles, footprint}
-use Rattle.rc_driver.specs.Lines.{done_line}
-use Rattle.rc_driver.specs.Outcome.{Comes, Follows, IsOutcome, Outcome, Untouched}
-use Rattle.rc_driver.specs.Outside.{NoCountFalls, NoFault, NoneRose, Outside, TellsAsBefore}
-use Rattle.rc_driver.specs.Request.{Request, request_of}
-use Rattle.rc_driver.specs.Telling.{ToldDone, ToldFault, Untold}
-use Rattle.rc_driver.specs.declared.answer.Done.{Done}
-use Rattle.rc_driver.specs.declared.answer.Done.TheVariants.{Usage}
-use Rattle.rc_driver.specs.declared.answer.Fault.{Fault}
-use Rattle.rc_driver.specs.declared.answer.Fault.TheVariants.{FileFault, ReadFault, WriteFault, ErrFault, Memory}
+use Rattle.rc_answers.specs.Answers.{IsQuiet, MayStore, WritesOut}
+use Rattle.rc_outcomes.specs.MayAnswer.{MayAnswer}
+use Rattle.rc_outcomes.specs.FaultCauses.{CountsStay, ErrorCause, FileCause, ReadCause, WriteCause}
+use Rattle.rc_outcomes.specs.Footprint.{Alone, IsMissing, UsesFiles, footprint}
+use Rattle.rc_answers.specs.Lines.{done_line}
+use Rattle.rc_outcomes.specs.Outcome.{Comes, Follows, IsOutcome, Outcome, Untouched}
+use Rattle.rc_outcomes.specs.Outside.{NoCountFalls, NoFault, NoneRose, Outside, TellsAsBefore}
+use Rattle.rc_requests.specs.Request.{Request, request_of}
+use Rattle.rc_answers.specs.Telling.{ToldDone, ToldFault, Untold}
+use Rattle.rc_answers.specs.declared.answer.Done.{Done}
+use Rattle.rc_answers.specs.declared.answer.Done.TheVariants.{Usage}
+use Rattle.rc_answers.specs.declared.answer.Fault.{Fault}
+use Rattle.rc_answers.specs.declared.answer.Fault.TheVariants.{FileFault, ReadFault, WriteFault, ErrFault, Memory}
 
 -- what the words ask
 abbrev pub asked : List (String Global) → Option Request

@@ -1,17 +1,17 @@
 // The top call.
 ghost use Rattle.rc_base.specs.Sinks.{SinkState};
 ghost use Rattle.rc_driver.specs.Headline.{Serves, asked};
-ghost use Rattle.rc_driver.specs.Outside.{outside};
-ghost use Rattle.rc_driver.specs.Performing.{Performs};
+ghost use Rattle.rc_outcomes.specs.Outside.{outside};
+ghost use Rattle.rc_outcomes.specs.Performing.{Performs};
 ghost use Rattle.rc_store.specs.Stores.{IsNew};
 
-use crate::list::list_image;
-use crate::request::{Request, request_of};
-use crate::run::run_file;
-use crate::tell::tell;
-use crate::upgrade::upgrade_image;
-use crate::{Done, Fault};
+use rc_answers::{Done, Fault, tell};
 use rc_base::{Shelf, Sink, Source};
+use rc_evaluation::evaluate_file;
+use rc_exec::exec_image;
+use rc_image_files::{list_image, upgrade_image};
+use rc_programs::{compile_file, run_file};
+use rc_requests::{Request, request_of};
 use rc_store::Heap;
 use std::alloc::Global;
 
@@ -22,14 +22,22 @@ fn perform<F: Shelf, S: Source, O: Sink, H: Heap>(
     files: &mut F,
     input: &mut S,
     out: &mut O,
-    _heap: &mut H,
+    heap: &mut H,
 ) -> Result<Done, Fault>
-    ensures { (err : SinkState) → Performs (asked words.now) (outside (F.state files.old) (S.state input.old) (O.state out.old) err (H.store _heap.old)) (outside (F.state files.new) (S.state input.new) (O.state out.new) err (H.store _heap.new)) result }
+    requires { IsNew (H.store heap.old) }
+    ensures { (err : SinkState) → Performs (asked words.now) (outside (F.state files.old) (S.state input.old) (O.state out.old) err (H.store heap.old)) (outside (F.state files.new) (S.state input.new) (O.state out.new) err (H.store heap.new)) result }
 {
     match request_of(words) {
-        Some(Request::Run(file, limits)) => run_file(alloc, file, limits, files, input, out),
-        // until there is another way, both go node by node
-        Some(Request::Slow(file, limits)) => run_file(alloc, file, limits, files, input, out),
+        Some(Request::Run(file, limits)) => {
+            run_file(alloc, file, limits, files, input, out, heap)
+        }
+        Some(Request::Slow(file, limits)) => {
+            evaluate_file(alloc, file, limits, files, input, out)
+        }
+        Some(Request::Compile(from, to)) => compile_file(alloc, from, to, files),
+        Some(Request::Exec(file, limits)) => {
+            exec_image(alloc, file, limits, files, input, out, heap)
+        }
         Some(Request::Listing(file)) => list_image(alloc, file, files, out),
         Some(Request::Upgrade(from, to)) => upgrade_image(alloc, from, to, files),
         None => Ok(Done::Usage),
@@ -38,10 +46,14 @@ fn perform<F: Shelf, S: Source, O: Sink, H: Heap>(
 
 /// Does what the words ask: `words` are those behind the program's own name.
 ///
-/// A listing writes exactly that of the image to `out`, and an upgrade stores exactly the image's bytes.
-/// A run writes exactly the bytes of its program's meaning to `out`, takes exactly those of `input` that
-/// the meaning asks for, and answers exactly its end. Only a fault of the outside, which its count shows,
-/// or want of memory may cut it short, and then a front of the meaning's acts was done. What is answered
+/// A listing writes exactly that of the image to `out`. A compilation stores exactly the image of the
+/// text's program, which means what the program means, and an upgrade exactly the image's bytes. A run
+/// writes exactly the bytes of the meaning of its program or its image to `out`, takes exactly those of
+/// `input` that the meaning asks for, and answers exactly its end. A program is run through its image,
+/// but for the request to go node by node; an image of a file is run with all marks of its stores taken
+/// away. Both run over `heap`, which is as its constructor made it, under the request's limits. Only a
+/// fault of the outside, which its count shows, or want of memory may cut a run short, and then a front
+/// of the meaning's acts was done. What is answered
 /// is told on `err`. All that is promised stands fact by fact in `Serves` of specs/Headline, over the
 /// outside before the call and after it.
 ///

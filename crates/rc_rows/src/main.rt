@@ -35,7 +35,7 @@ use reading::rows_of;
 use std::process::ExitCode;
 use std::{env, fs, io};
 
-const FILES: [&str; 8] = [
+const FILES: [&str; 10] = [
     "words.rows",
     "programs.rows",
     "values.rows",
@@ -44,6 +44,8 @@ const FILES: [&str; 8] = [
     "failing.rows",
     "deep.rows",
     "images.rows",
+    "exec.rows",
+    "compile.rows",
 ];
 
 /// Goes through the rows of a file, and answers how many calls differ.

@@ -1,34 +1,46 @@
 use Rattle.std.proofs.Common.{◌∙◌, Ok, Option, Some, ap, subst, sym}
-use Rattle.rc_driver.specs.Asking.{asks}
-use Rattle.rc_driver.specs.Outside.{outside}
-use Rattle.rc_driver.specs.Performing.{Performs}
-use Rattle.rc_driver.specs.Request.{Request, Run, Slow, Listing, Upgrade}
-use Rattle.rc_driver.specs.declared.request.Request.{Request as Asked}
-use Rattle.rc_driver.specs.declared.answer.Done.TheVariants.{Usage}
-use Rattle.rc_driver.proofs.RunFiles.{run_row, slow_row}
-use Rattle.rc_driver.proofs.ImageFiles.{list_row, upgrade_row}
-use Rattle.rc_driver.proofs.Ways.{asks_usage}
+use Rattle.rc_requests.specs.Asking.{asks}
+use Rattle.rc_outcomes.specs.Outside.{outside}
+use Rattle.rc_outcomes.specs.Performing.{Performs}
+use Rattle.rc_requests.specs.Request.{Request, Run, Slow, Compile, Exec, Listing, Upgrade}
+use Rattle.rc_requests.specs.declared.request.Request.{Request as Asked}
+use Rattle.rc_answers.specs.declared.answer.Done.TheVariants.{Usage}
+use Rattle.rc_evaluation.proofs.Rows.{slow_row}
+use Rattle.rc_programs.proofs.Rows.{compile_row, run_row}
+use Rattle.rc_exec.proofs.Executions.{exec_row}
+use Rattle.rc_image_files.proofs.ImageFiles.{list_row, upgrade_row}
+use Rattle.rc_outcomes.proofs.Ways.{asks_usage}
 use Rattle.rc_driver.proofs.program.perform.Goals as goal
 
 pub returns-in-Some-Run : goal.returns-in-Some-Run
-returns-in-Some-Run g c = λ err. subst (λ (request : Option Request). Performs request (outside (g.F.Shelf.state c.args.files.now) (g.S.Source.state c.args.input.now) (g.O.Sink.state c.args.out.now) err (g.H.Heap.store c.args._heap.now)) (outside (g.F.Shelf.state c.run_file.new.files) (g.S.Source.state c.run_file.new.input) (g.O.Sink.state c.run_file.new.out) err (g.H.Heap.store c.args._heap.now)) c.run_file.result)
+returns-in-Some-Run g c = λ err. subst (λ (request : Option Request). Performs request (outside (g.F.Shelf.state c.args.files.now) (g.S.Source.state c.args.input.now) (g.O.Sink.state c.args.out.now) err (g.H.Heap.store c.args.heap.now)) (outside (g.F.Shelf.state c.run_file.new.files) (g.S.Source.state c.run_file.new.input) (g.O.Sink.state c.run_file.new.out) err (g.H.Heap.store c.run_file.new.heap)) c.run_file.result)
     (ap (λ (r : Asked). Some (asks r)) (sym c.in-Some-Run.field-0-is) ∙ c.in-Some-Run.ensures)
-    (c.run_file.ensures (Some (Run c.in-Some-Run.file.now c.in-Some-Run.limits)) err (g.H.Heap.store c.args._heap.now) (run_row c.in-Some-Run.file.now c.in-Some-Run.limits))
+    (c.run_file.ensures (Some (Run c.in-Some-Run.file.now c.in-Some-Run.limits)) err (run_row c.in-Some-Run.file.now c.in-Some-Run.limits))
 
 pub returns-in-Some-Slow : goal.returns-in-Some-Slow
-returns-in-Some-Slow g c = λ err. subst (λ (request : Option Request). Performs request (outside (g.F.Shelf.state c.args.files.now) (g.S.Source.state c.args.input.now) (g.O.Sink.state c.args.out.now) err (g.H.Heap.store c.args._heap.now)) (outside (g.F.Shelf.state c.run_file-in-Some-Slow.new.files) (g.S.Source.state c.run_file-in-Some-Slow.new.input) (g.O.Sink.state c.run_file-in-Some-Slow.new.out) err (g.H.Heap.store c.args._heap.now)) c.run_file-in-Some-Slow.result)
+returns-in-Some-Slow g c = λ err. subst (λ (request : Option Request). Performs request (outside (g.F.Shelf.state c.args.files.now) (g.S.Source.state c.args.input.now) (g.O.Sink.state c.args.out.now) err (g.H.Heap.store c.args.heap.now)) (outside (g.F.Shelf.state c.evaluate_file.new.files) (g.S.Source.state c.evaluate_file.new.input) (g.O.Sink.state c.evaluate_file.new.out) err (g.H.Heap.store c.args.heap.now)) c.evaluate_file.result)
     (ap (λ (r : Asked). Some (asks r)) (sym c.in-Some-Slow.field-0-is) ∙ c.in-Some-Slow.ensures)
-    (c.run_file-in-Some-Slow.ensures (Some (Slow c.in-Some-Slow.file.now c.in-Some-Slow.limits)) err (g.H.Heap.store c.args._heap.now) (slow_row c.in-Some-Slow.file.now c.in-Some-Slow.limits))
+    (c.evaluate_file.ensures (Some (Slow c.in-Some-Slow.file.now c.in-Some-Slow.limits)) err (g.H.Heap.store c.args.heap.now) (slow_row c.in-Some-Slow.file.now c.in-Some-Slow.limits))
+
+pub returns-in-Some-Compile : goal.returns-in-Some-Compile
+returns-in-Some-Compile g c = λ err. subst (λ (request : Option Request). Performs request (outside (g.F.Shelf.state c.args.files.now) (g.S.Source.state c.args.input.now) (g.O.Sink.state c.args.out.now) err (g.H.Heap.store c.args.heap.now)) (outside (g.F.Shelf.state c.compile_file.new.files) (g.S.Source.state c.args.input.now) (g.O.Sink.state c.args.out.now) err (g.H.Heap.store c.args.heap.now)) c.compile_file.result)
+    (ap (λ (r : Asked). Some (asks r)) (sym c.in-Some-Compile.field-0-is) ∙ c.in-Some-Compile.ensures)
+    (c.compile_file.ensures (Some (Compile c.in-Some-Compile.from.now c.in-Some-Compile.to.now)) (g.S.Source.state c.args.input.now) (g.O.Sink.state c.args.out.now) err (g.H.Heap.store c.args.heap.now) (compile_row c.in-Some-Compile.from.now c.in-Some-Compile.to.now))
+
+pub returns-in-Some-Exec : goal.returns-in-Some-Exec
+returns-in-Some-Exec g c = λ err. subst (λ (request : Option Request). Performs request (outside (g.F.Shelf.state c.args.files.now) (g.S.Source.state c.args.input.now) (g.O.Sink.state c.args.out.now) err (g.H.Heap.store c.args.heap.now)) (outside (g.F.Shelf.state c.exec_image.new.files) (g.S.Source.state c.exec_image.new.input) (g.O.Sink.state c.exec_image.new.out) err (g.H.Heap.store c.exec_image.new.heap)) c.exec_image.result)
+    (ap (λ (r : Asked). Some (asks r)) (sym c.in-Some-Exec.field-0-is) ∙ c.in-Some-Exec.ensures)
+    (c.exec_image.ensures (Some (Exec c.in-Some-Exec.file.now c.in-Some-Exec.limits)) err (exec_row c.in-Some-Exec.file.now c.in-Some-Exec.limits))
 
 pub returns-in-Some-Listing : goal.returns-in-Some-Listing
-returns-in-Some-Listing g c = λ err. subst (λ (request : Option Request). Performs request (outside (g.F.Shelf.state c.args.files.now) (g.S.Source.state c.args.input.now) (g.O.Sink.state c.args.out.now) err (g.H.Heap.store c.args._heap.now)) (outside (g.F.Shelf.state c.list_image.new.files) (g.S.Source.state c.args.input.now) (g.O.Sink.state c.list_image.new.out) err (g.H.Heap.store c.args._heap.now)) c.list_image.result)
+returns-in-Some-Listing g c = λ err. subst (λ (request : Option Request). Performs request (outside (g.F.Shelf.state c.args.files.now) (g.S.Source.state c.args.input.now) (g.O.Sink.state c.args.out.now) err (g.H.Heap.store c.args.heap.now)) (outside (g.F.Shelf.state c.list_image.new.files) (g.S.Source.state c.args.input.now) (g.O.Sink.state c.list_image.new.out) err (g.H.Heap.store c.args.heap.now)) c.list_image.result)
     (ap (λ (r : Asked). Some (asks r)) (sym c.in-Some-Listing.field-0-is) ∙ c.in-Some-Listing.ensures)
-    (c.list_image.ensures (Some (Listing c.in-Some-Listing.file.now)) (g.S.Source.state c.args.input.now) err (g.H.Heap.store c.args._heap.now) (list_row c.in-Some-Listing.file.now))
+    (c.list_image.ensures (Some (Listing c.in-Some-Listing.file.now)) (g.S.Source.state c.args.input.now) err (g.H.Heap.store c.args.heap.now) (list_row c.in-Some-Listing.file.now))
 
 pub returns-in-Some-Upgrade : goal.returns-in-Some-Upgrade
-returns-in-Some-Upgrade g c = λ err. subst (λ (request : Option Request). Performs request (outside (g.F.Shelf.state c.args.files.now) (g.S.Source.state c.args.input.now) (g.O.Sink.state c.args.out.now) err (g.H.Heap.store c.args._heap.now)) (outside (g.F.Shelf.state c.upgrade_image.new.files) (g.S.Source.state c.args.input.now) (g.O.Sink.state c.args.out.now) err (g.H.Heap.store c.args._heap.now)) c.upgrade_image.result)
+returns-in-Some-Upgrade g c = λ err. subst (λ (request : Option Request). Performs request (outside (g.F.Shelf.state c.args.files.now) (g.S.Source.state c.args.input.now) (g.O.Sink.state c.args.out.now) err (g.H.Heap.store c.args.heap.now)) (outside (g.F.Shelf.state c.upgrade_image.new.files) (g.S.Source.state c.args.input.now) (g.O.Sink.state c.args.out.now) err (g.H.Heap.store c.args.heap.now)) c.upgrade_image.result)
     (ap (λ (r : Asked). Some (asks r)) (sym c.in-Some-Upgrade.field-0-is) ∙ c.in-Some-Upgrade.ensures)
-    (c.upgrade_image.ensures (Some (Upgrade c.in-Some-Upgrade.from.now c.in-Some-Upgrade.to.now)) (g.S.Source.state c.args.input.now) (g.O.Sink.state c.args.out.now) err (g.H.Heap.store c.args._heap.now) (upgrade_row c.in-Some-Upgrade.from.now c.in-Some-Upgrade.to.now))
+    (c.upgrade_image.ensures (Some (Upgrade c.in-Some-Upgrade.from.now c.in-Some-Upgrade.to.now)) (g.S.Source.state c.args.input.now) (g.O.Sink.state c.args.out.now) err (g.H.Heap.store c.args.heap.now) (upgrade_row c.in-Some-Upgrade.from.now c.in-Some-Upgrade.to.now))
 
 pub returns-in-None : goal.returns-in-None
-returns-in-None g c = λ err. subst (λ (request : Option Request). Performs request (outside (g.F.Shelf.state c.args.files.now) (g.S.Source.state c.args.input.now) (g.O.Sink.state c.args.out.now) err (g.H.Heap.store c.args._heap.now)) (outside (g.F.Shelf.state c.args.files.now) (g.S.Source.state c.args.input.now) (g.O.Sink.state c.args.out.now) err (g.H.Heap.store c.args._heap.now)) (Ok Usage)) c.in-None.ensures (asks_usage (outside (g.F.Shelf.state c.args.files.now) (g.S.Source.state c.args.input.now) (g.O.Sink.state c.args.out.now) err (g.H.Heap.store c.args._heap.now)))
+returns-in-None g c = λ err. subst (λ (request : Option Request). Performs request (outside (g.F.Shelf.state c.args.files.now) (g.S.Source.state c.args.input.now) (g.O.Sink.state c.args.out.now) err (g.H.Heap.store c.args.heap.now)) (outside (g.F.Shelf.state c.args.files.now) (g.S.Source.state c.args.input.now) (g.O.Sink.state c.args.out.now) err (g.H.Heap.store c.args.heap.now)) (Ok Usage)) c.in-None.ensures (asks_usage (outside (g.F.Shelf.state c.args.files.now) (g.S.Source.state c.args.input.now) (g.O.Sink.state c.args.out.now) err (g.H.Heap.store c.args.heap.now)))

@@ -1,0 +1,3 @@
+pub mod EmptyLines
+pub mod ToldLaws
+pub mod Written

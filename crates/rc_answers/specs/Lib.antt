@@ -1,0 +1,6 @@
+pub mod Answers
+pub mod LineBytes
+pub mod Lines
+pub mod Pieces
+pub mod Status
+pub mod Telling

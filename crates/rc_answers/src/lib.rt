@@ -1,0 +1,13 @@
+//! What the program answers: its answers, the status and the line of each, and how the line is told.
+#![tactic(auto)]
+
+mod answer;
+mod image_refusal;
+mod line;
+mod numbered;
+mod telling;
+mod texts;
+
+pub use answer::{Done, Fault, status_of};
+pub use image_refusal::ImageRefusal;
+pub use telling::tell;

@@ -1,5 +1,0 @@
-use Rattle.rc_driver.proofs.OneOutcome.{accepted_never}
-use Rattle.rc_driver.proofs.laws.an_accepted_text_never_touches_deleted.Goals as goal
-
-pub returns : goal.returns
-returns c = accepted_never

@@ -1,6 +1,0 @@
-use Rattle.std.proofs.Common.{◌∙◌, arith, sym}
-use Rattle.rc_driver.proofs.Numbers.{number_found}
-use Rattle.rc_driver.proofs.request.number_within.Goals as goal
-
-pub returns-clause-is : goal.returns-clause-is
-returns-clause-is c = number_found c.args.most c.in_ok-number.number c.args.word.now (omega arith) (omega arith) (sym c.is_printed.ensures ∙ c.if-not-is_printed.false)

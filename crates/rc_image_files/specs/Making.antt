@@ -1,0 +1,41 @@
+-- Requests that make something of the image of a file.
+use Rattle.std.specs.Prelude.{◌≡◌, ℕ, List, Option, Result, Err, IsTrue}
+use Rattle.rc_base.specs.Shelves.{Names}
+use Rattle.rc_base.specs.Sinks.{SinkState}
+use Rattle.rc_code.specs.declared.image.Parts.{Parts}
+use Rattle.rc_answers.specs.Answers.{IsOfBytes}
+use Rattle.rc_outcomes.specs.MayAnswer.{MayAnswer}
+use Rattle.rc_outcomes.specs.Footprint.{Reads, Stores, footprint}
+use Rattle.rc_outcomes.specs.Outcome.{IsOutcome, Lists, OfImage, Outcome, Upgrades}
+use Rattle.rc_outcomes.specs.Reporting.{WroteReport, reported}
+use Rattle.rc_requests.specs.Request.{Request}
+use Rattle.rc_answers.specs.declared.answer.Done.{Done}
+use Rattle.rc_answers.specs.declared.answer.Done.TheVariants.{ImageRefused, Reported, Wrote}
+use Rattle.rc_answers.specs.declared.answer.Fault.{Fault}
+use Rattle.rc_answers.specs.declared.answer.Fault.TheVariants.{Memory}
+use Rattle.rc_answers.specs.declared.image_refusal.ImageRefusal.{ImageRefusal}
+
+-- the rows of the tables say of a request that this comes of the image of this file
+pub record MakesOf (request : Option Request) (name : List ℕ) (Made : Parts → List ℕ → Outcome → Type 0) : Type 0 where
+  pub reads : Reads (footprint request) name
+  pub only : (other : List ℕ) → Reads (footprint request) other → name ≡ other
+  pub may_refuse : (refusal : ImageRefusal) → IsOfBytes refusal → MayAnswer request (ImageRefused refusal)
+  pub is_outcome : (files : Names) (input : List ℕ) (outcome : Outcome) → OfImage name Made files input outcome → IsOutcome request files input outcome
+  pub outcome_is : (files : Names) (input : List ℕ) (outcome : Outcome) → IsOutcome request files input outcome → OfImage name Made files input outcome
+
+-- it lists it
+pub record ListsOf (request : Option Request) (name : List ℕ) : Type 0 where
+  pub makes : MakesOf request name Lists
+  pub writes_out : IsTrue (footprint request).writes_out
+  pub may_report : MayAnswer request Reported
+
+-- it stores it under the other name
+pub record UpgradesOf (request : Option Request) (from to : List ℕ) : Type 0 where
+  pub makes : MakesOf request from (Upgrades to)
+  pub stores : Stores (footprint request) to
+  pub may_write : MayAnswer request Wrote
+
+-- a report is written; or there is no memory to make it
+pub data MadeReport (report : List ℕ) (out out' : SinkState) : Result Done Fault → Type 0 where
+  no_memory : out' ≡ out → MadeReport report out out' (Err Memory)
+  wrote : (result : Result (Unit {0}) Fault) → WroteReport report out out' result → MadeReport report out out' (reported result)

@@ -1,0 +1,7 @@
+pub mod Flushing
+pub mod OneOutcome
+pub mod Reports
+pub mod Storing
+pub mod SpelledImages
+pub mod TextLaws
+pub mod Ways

@@ -1,0 +1,129 @@
+-- A request whose names are there has one outcome.
+use Rattle.std.proofs.Common.{◌≡◌, ◌⊎◌, ◌∙◌, ℕ, List, Option, Some, None, Result, Ok, Err, refl, sym, ap, subst, inl, inr, arith}
+use Rattle.rc_base.specs.Shelves.{Names}
+use Rattle.rc_base.specs.declared.ends.End.{End}
+use Rattle.rc_base.specs.declared.ends.Limits.{Limits}
+use Rattle.rc_compile.specs.Acceptance as acceptance
+use Rattle.rc_compile.specs.Acceptance.{Accepted}
+use Rattle.rc_compile.specs.declared.refusal.Refusal.{Refusal}
+use Rattle.rc_compile.proofs.EveryText.{decided}
+use Rattle.rc_compile.proofs.InPlace.{accepted_in_place}
+use Rattle.rc_compile.proofs.OneAnswer.{not_both, one_program, one_refusal}
+use Rattle.rc_core.specs.Meaning.{meaning}
+use Rattle.rc_core.specs.Meaning as meant
+use Rattle.rc_core.specs.Programs.{Program}
+use Rattle.rc_core.specs.Runs.{Ends}
+use Rattle.rc_code.specs.declared.image.Parts.{Parts}
+use Rattle.rc_code.specs.ImageMeaning.{image_left, image_meaning}
+use Rattle.rc_code.specs.Soundness.{Sound}
+use Rattle.rc_image.specs.Spelling.{spelling}
+use Rattle.rc_image.specs.declared.version.Version.TheVariants.{Two}
+use Rattle.rc_listing.specs.Listing.{listing}
+use Rattle.rc_loader.specs.Unmarked.{unmarked}
+use Rattle.rc_loader.specs.Violations.{FirstViolation}
+use Rattle.rc_loader.specs.declared.fault.Violation.{Violation}
+use Rattle.rc_loader.proofs.Firsts.{none_where_sound, one_first}
+use Rattle.rc_loader.proofs.Totals.{sound_or_first}
+use Rattle.rc_answers.specs.declared.image_refusal.ImageRefusal.{ImageRefusal}
+use Rattle.rc_outcomes.specs.Images.{image_in}
+use Rattle.rc_outcomes.specs.Footprint.{AreThere, footprint}
+use Rattle.rc_joined.specs.Programs.{image_of_program}
+use Rattle.rc_outcomes.specs.Outcome.{Executes, IsOutcome, Lists, OfImage, OfRead, OfText, OfTextFile, Leaving, Runs, Compiles, Outcome, Upgrades, unsaid, accepts, answers, broken, came, refusal_of_code, refuses, reports, runs, sound, stores}
+use Rattle.rc_requests.specs.Request.{Request, Run, Slow, Compile, Exec, Listing, Upgrade}
+use Rattle.rc_answers.specs.declared.answer.Done.TheVariants.{ImageRefused, Refused, Usage}
+use Rattle.rc_outcomes.proofs.Ways.{an_end}
+use Rattle.rc_safety.specs.Safety.{NeverTouchesDeleted}
+use Rattle.rc_safety.proofs.Never.{never_touches_deleted}
+
+-- what comes of a text, where something comes of each program
+text_outcome : (Made : Program → Outcome → Type 0) → (text : List ℕ) → ((program : Program) → Accepted text program → (outcome : Outcome) × Made program outcome) → (outcome : Outcome) × OfText Made text outcome
+text_outcome Made text some = by (decided text) where
+  by : ((program : Program) × Accepted text program) ⊎ ((refusal : Refusal) × acceptance.Refused text refusal) → (outcome : Outcome) × OfText Made text outcome
+  by (inl (program, accepted)) = let made = some program accepted in (made.0, accepts program accepted made.1)
+  by (inr (refusal, refused)) = (answers (Refused refusal), refuses refusal refused refl)
+
+file_outcome : (file : List ℕ) (Made : List ℕ → Program → Outcome → Type 0) (files : Names) (input : List ℕ) → ((text : List ℕ) (program : Program) → Accepted text program → (outcome : Outcome) × Made input program outcome) → ¬ (files file ≡ None) → (outcome : Outcome) × OfTextFile file Made files input outcome
+file_outcome file Made files input some there = by (files file) refl where
+  by : (o : Option (List ℕ)) → files file ≡ o → (outcome : Outcome) × OfTextFile file Made files input outcome
+  by None is = absurd (there is)
+  by (Some text) is = let found = text_outcome (Made input) text (some text) in (found.0, (text, is, found.1))
+
+-- a program that is accepted comes to an end
+run_outcome : (leaves : Leaving) (limits : Limits) (input text : List ℕ) (program : Program) → Accepted text program → (outcome : Outcome) × Runs leaves limits input program outcome
+run_outcome leaves limits input text program accepted =
+    let e = an_end (meaning program input limits).end (never_touches_deleted program input limits (accepted_in_place text program accepted)) in
+    (runs (meaning program input limits).acts e.0 (leaves program input limits), record { end = e.0; ends = e.1; comes = refl })
+
+-- what comes of an image, where something comes of each
+image_outcome : (file : List ℕ) (Made : Parts → List ℕ → Outcome → Type 0) (files : Names) (input : List ℕ) → ((image : Parts) → (outcome : Outcome) × Made image input outcome) → ¬ (files file ≡ None) → (outcome : Outcome) × OfImage file Made files input outcome
+image_outcome file Made files input some there = by (files file) refl where
+  of : (said : Result Parts ImageRefusal) → (outcome : Outcome) × OfRead Made said input outcome
+  of (Ok image) = some image
+  of (Err refusal) = (answers (ImageRefused refusal), refl)
+
+  by : (o : Option (List ℕ)) → files file ≡ o → (outcome : Outcome) × OfImage file Made files input outcome
+  by None is = absurd (there is)
+  by (Some bytes) is = let found = of (image_in bytes) in (found.0, (bytes, is, found.1))
+
+execution : (limits : Limits) (input : List ℕ) (image : Parts) → (outcome : Outcome) × Executes limits image input outcome
+execution limits input image = by (sound_or_first image) where
+  by : Sound image ⊎ ((v : Violation) × FirstViolation image v) → (outcome : Outcome) × Executes limits image input outcome
+  by (inl is) = (came (image_meaning (unmarked image) input limits) (image_left (unmarked image) input limits), sound is refl)
+  by (inr (v, first)) = (answers (ImageRefused (refusal_of_code v)), broken v first refl)
+
+pub some_outcome : (request : Option Request) (files : Names) (input : List ℕ) → AreThere (footprint request) files → (outcome : Outcome) × IsOutcome request files input outcome
+some_outcome None files input there = (answers Usage, refl)
+some_outcome (Some (Run file limits)) files input there = file_outcome file (Runs meant.left limits) files input (run_outcome meant.left limits input) (there file (0, omega arith, refl))
+some_outcome (Some (Slow file limits)) files input there = file_outcome file (Runs unsaid limits) files input (run_outcome unsaid limits input) (there file (0, omega arith, refl))
+some_outcome (Some (Compile from to)) files input there = file_outcome from (Compiles to) files input (λ text program accepted. (stores to (spelling Two (image_of_program program)), refl)) (there from (0, omega arith, refl))
+some_outcome (Some (Exec file limits)) files input there = image_outcome file (Executes limits) files input (execution limits input) (there file (0, omega arith, refl))
+some_outcome (Some (Listing file)) files input there = image_outcome file Lists files input (λ image. (reports (listing image), refl)) (there file (0, omega arith, refl))
+some_outcome (Some (Upgrade from to)) files input there = image_outcome from (Upgrades to) files input (λ image. (stores to (spelling Two image), refl)) (there from (0, omega arith, refl))
+
+-- two outcomes of one text are one
+same_end : (program : Program) (input : List ℕ) (limits : Limits) (one other : End) → (meaning program input limits).end ≡ Ends one → (meaning program input limits).end ≡ Ends other → one ≡ other
+same_end program input limits one other is also = let e : Ends one ≡ Ends other = sym is ∙ also in cc
+
+one_run : (leaves : Leaving) (limits : Limits) (input : List ℕ) (one other : Outcome) (program : Program) → Runs leaves limits input program one → Runs leaves limits input program other → one ≡ other
+one_run leaves limits input one other program is also =
+    is.comes ∙ ap (λ (e : End). runs (meaning program input limits).acts e (leaves program input limits)) (same_end program input limits is.end also.end is.ends also.ends) ∙ sym also.comes
+
+one_of_text : (Made : Program → Outcome → Type 0) (text : List ℕ) (one other : Outcome) → ((program : Program) → Made program one → Made program other → one ≡ other) → OfText Made text one → OfText Made text other → one ≡ other
+one_of_text Made text one other only (accepts p a m) (accepts q b n) = only p m (subst (λ (r : Program). Made r other) (one_program text q p b a) n)
+one_of_text Made text one other only (accepts p a m) (refuses k b d) = absurd (not_both text p k a b)
+one_of_text Made text one other only (refuses k a c) (accepts q b n) = absurd (not_both text q k b a)
+one_of_text Made text one other only (refuses k a c) (refuses l b d) = c ∙ ap (λ (r : Refusal). answers (Refused r)) (one_refusal text k l a b) ∙ sym d
+
+one_of_file : (file : List ℕ) (Made : List ℕ → Program → Outcome → Type 0) (files : Names) (input : List ℕ) (one other : Outcome) → ((program : Program) → Made input program one → Made input program other → one ≡ other) → OfTextFile file Made files input one → OfTextFile file Made files input other → one ≡ other
+one_of_file file Made files input one other only (text, is, so) (text', is', so') =
+    let e : Some text' ≡ Some text = sym is' ∙ is in
+    let same : text' ≡ text = cc in
+    one_of_text (Made input) text one other only so (subst (λ (t : List ℕ). OfText (Made input) t other) same so')
+
+one_of_image : (file : List ℕ) (Made : Parts → List ℕ → Outcome → Type 0) (files : Names) (input : List ℕ) (one other : Outcome) → ((image : Parts) → Made image input one → Made image input other → one ≡ other) → OfImage file Made files input one → OfImage file Made files input other → one ≡ other
+one_of_image file Made files input one other only (bytes, is, so) (bytes', is', so') =
+    let e : Some bytes' ≡ Some bytes = sym is' ∙ is in
+    let same : bytes' ≡ bytes = cc in
+    by (image_in bytes) so (subst (λ (b : List ℕ). OfRead Made (image_in b) input other) same so')
+  where
+    by : (said : Result Parts ImageRefusal) → OfRead Made said input one → OfRead Made said input other → one ≡ other
+    by (Ok image) so also = only image so also
+    by (Err refusal) so also = so ∙ sym also
+
+one_execution : (limits : Limits) (input : List ℕ) (one other : Outcome) (image : Parts) → Executes limits image input one → Executes limits image input other → one ≡ other
+one_execution limits input one other image (sound a c) (sound b d) = c ∙ sym d
+one_execution limits input one other image (sound a c) (broken v b d) = absurd (none_where_sound image v a b)
+one_execution limits input one other image (broken v a c) (sound b d) = absurd (none_where_sound image v b a)
+one_execution limits input one other image (broken v a c) (broken w b d) = c ∙ ap (λ (u : Violation). answers (ImageRefused (refusal_of_code u))) (one_first image v w a b) ∙ sym d
+
+pub one_outcome : (request : Option Request) (files : Names) (input : List ℕ) (one other : Outcome) → IsOutcome request files input one → IsOutcome request files input other → one ≡ other
+one_outcome None files input one other is also = is ∙ sym also
+one_outcome (Some (Run file limits)) files input one other is also = one_of_file file (Runs meant.left limits) files input one other (one_run meant.left limits input one other) is also
+one_outcome (Some (Slow file limits)) files input one other is also = one_of_file file (Runs unsaid limits) files input one other (one_run unsaid limits input one other) is also
+one_outcome (Some (Compile from to)) files input one other is also = one_of_file from (Compiles to) files input one other (λ program a b. a ∙ sym b) is also
+one_outcome (Some (Exec file limits)) files input one other is also = one_of_image file (Executes limits) files input one other (one_execution limits input one other) is also
+one_outcome (Some (Listing file)) files input one other is also = one_of_image file Lists files input one other (λ image a b. a ∙ sym b) is also
+one_outcome (Some (Upgrade from to)) files input one other is also = one_of_image from (Upgrades to) files input one other (λ image a b. a ∙ sym b) is also
+
+pub accepted_never : (text : List ℕ) (program : Program) (input : List ℕ) (limits : Limits) → Accepted text program → NeverTouchesDeleted program input limits
+accepted_never text program input limits accepted = never_touches_deleted program input limits (accepted_in_place text program accepted)

@@ -1,0 +1,11 @@
+pub mod FaultCauses
+pub mod Footprint
+pub mod Images
+pub mod Loading
+pub mod MayAnswer
+pub mod Outcome
+pub mod Outside
+pub mod Performing
+pub mod Reporting
+pub mod Storing
+pub mod Runs

@@ -1,0 +1,47 @@
+-- Which answers a request may have.
+use Rattle.std.specs.Prelude.{◌≡◌, Option, Some, None}
+use Rattle.rc_answers.specs.Answers.{IsOfBytes}
+use Rattle.rc_answers.specs.declared.answer.Done.{Done}
+use Rattle.rc_answers.specs.declared.answer.Done.TheVariants.{Ended, StaleImage, Refused, ImageRefused, Wrote, Reported, Usage}
+use Rattle.rc_requests.specs.Request.{Request, Run, Slow, Compile, Exec, Listing, Upgrade}
+
+-- a text ends its run or is refused
+abbrev pub EndsOrIsRefused : Done → Type 0
+EndsOrIsRefused (Ended end) = Unit {0}
+EndsOrIsRefused (Refused refusal) = Unit {0}
+EndsOrIsRefused _ = ⊥
+
+-- an image ends its run, or its bytes or its code are refused
+abbrev pub RunsOrIsRefused : Done → Type 0
+RunsOrIsRefused (Ended end) = Unit {0}
+RunsOrIsRefused (StaleImage line) = Unit {0}
+RunsOrIsRefused (ImageRefused refusal) = Unit {0}
+RunsOrIsRefused _ = ⊥
+
+-- an image is reported on, or the bytes are refused
+abbrev pub ReportsOrIsRefused : Done → Type 0
+ReportsOrIsRefused Reported = Unit {0}
+ReportsOrIsRefused (ImageRefused refusal) = IsOfBytes refusal
+ReportsOrIsRefused _ = ⊥
+
+-- an image is stored, or the bytes are refused
+abbrev pub WritesOrIsRefused : Done → Type 0
+WritesOrIsRefused Wrote = Unit {0}
+WritesOrIsRefused (ImageRefused refusal) = IsOfBytes refusal
+WritesOrIsRefused _ = ⊥
+
+-- a program's image is stored, or the text is refused
+abbrev pub StoresOrIsRefused : Done → Type 0
+StoresOrIsRefused Wrote = Unit {0}
+StoresOrIsRefused (Refused refusal) = Unit {0}
+StoresOrIsRefused _ = ⊥
+
+-- the row of each request; words that ask nothing have the usage alone
+abbrev pub MayAnswer : Option Request → Done → Type 0
+MayAnswer None done = done ≡ Usage
+MayAnswer (Some (Run file limits)) done = EndsOrIsRefused done
+MayAnswer (Some (Slow file limits)) done = EndsOrIsRefused done
+MayAnswer (Some (Compile from to)) done = StoresOrIsRefused done
+MayAnswer (Some (Exec file limits)) done = RunsOrIsRefused done
+MayAnswer (Some (Listing file)) done = ReportsOrIsRefused done
+MayAnswer (Some (Upgrade from to)) done = WritesOrIsRefused done

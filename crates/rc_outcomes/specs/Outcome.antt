@@ -1,0 +1,194 @@
+-- What a request comes to if nothing fails: its answer, and what it does outside.
+use Rattle.std.specs.Prelude.{◌≡◌, ◌⊎◌, ℕ, List, [], ◌∷◌, ◌++◌, map, Option, Some, None, Result, Ok, Err, IsTrue}
+use Rattle.rc_base.specs.Acts.{Act, Gave, IsGetcharNext, IsWriteNext, Write, output}
+use Rattle.rc_base.specs.Causes.{Rose}
+use Rattle.rc_base.specs.Shelves.{Names}
+use Rattle.rc_base.specs.Sinks.{IsFlushed, SinkState, Took}
+use Rattle.rc_base.specs.Sources.{SourceState}
+use Rattle.rc_base.specs.declared.ends.End.{End}
+use Rattle.rc_base.specs.declared.ends.Limits.{Limits}
+use Rattle.rc_code.specs.declared.image.Parts.{Parts}
+use Rattle.rc_compile.specs.Acceptance.{Accepted}
+use Rattle.rc_compile.specs.Acceptance as acceptance
+use Rattle.rc_compile.specs.declared.refusal.Refusal.{Refusal}
+use Rattle.rc_core.specs.Meaning.{Left, Meaning, meaning}
+use Rattle.rc_core.specs.Meaning as meant
+use Rattle.rc_core.specs.Programs.{Program}
+use Rattle.rc_core.specs.Runs.{Ends, Stale, Stop}
+use Rattle.rc_core.specs.Store.{Store}
+use Rattle.rc_code.specs.ImageMeaning.{image_left, image_meaning, view_left}
+use Rattle.rc_code.specs.Soundness.{Sound}
+use Rattle.rc_loader.specs.Unmarked.{unmarked}
+use Rattle.rc_loader.specs.Violations.{FirstViolation}
+use Rattle.rc_loader.specs.declared.fault.Rule.{Rule}
+use Rattle.rc_loader.specs.declared.fault.Rule.TheVariants as rule
+use Rattle.rc_loader.specs.declared.fault.Violation.{Violation}
+use Rattle.rc_steps.specs.Stands.{IsKept}
+use Rattle.rc_store.specs.Kept.{KeptStore}
+use Rattle.rc_outcomes.specs.Footprint.{TellsWhatIsUsed, footprint}
+use Rattle.rc_outcomes.specs.Images.{image_in}
+use Rattle.rc_outcomes.specs.Outside.{Outside}
+use Rattle.rc_requests.specs.Request.{Request, Run, Slow, Compile, Exec, Listing, Upgrade}
+use Rattle.rc_answers.specs.declared.answer.Done.{Done}
+use Rattle.rc_answers.specs.declared.answer.Done.TheVariants.{Ended, StaleImage, Refused, ImageRefused, Wrote, Reported, Usage}
+use Rattle.rc_answers.specs.declared.answer.Fault.{Fault}
+use Rattle.rc_answers.specs.declared.answer.Fault.TheVariants.{FileFault, ReadFault, WriteFault, ErrFault, Memory}
+use Rattle.rc_answers.specs.declared.image_refusal.ImageRefusal.{ImageRefusal}
+use Rattle.rc_answers.specs.declared.image_refusal.ImageRefusal.TheVariants.{Target, Height, Kind, Number}
+use Rattle.rc_image.specs.Spelling.{spelling}
+use Rattle.rc_image.specs.declared.version.Version.TheVariants.{Two}
+use Rattle.rc_listing.specs.Listing.{listing}
+use Rattle.rc_joined.specs.Programs.{image_of_program}
+
+-- bytes that are stored under a name
+pub record Stored : Type 0 where
+  pub name : List ℕ
+  pub bytes : List ℕ
+
+-- the answer of a request, its acts on the input and the output, what it stores, and what it leaves of the heap, where that is said
+pub record Outcome : Type 0 where
+  pub done : Done
+  pub acts : List Act
+  pub stored : Option Stored
+  pub left : Option Left
+
+abbrev pub answers : Done → Outcome
+answers done = record { done = done; acts = []; stored = None; left = None }
+
+abbrev pub runs : List Act → End → Option Left → Outcome
+runs acts end left = record { done = Ended end; acts = acts; stored = None; left = left }
+
+-- a run ends, or an image from elsewhere touched a deleted region
+abbrev pub end_as : Stop → Done
+end_as (Ends end) = Ended end
+end_as (Stale line) = StaleImage line
+
+-- what a run comes to that means this
+abbrev pub came : Meaning → Option Left → Outcome
+came means left = record { done = end_as means.end; acts = means.acts; stored = None; left = left }
+
+-- the acts that write these bytes
+abbrev pub writes : List ℕ → List Act
+writes [] = []
+writes (byte ∷ bytes) = Write byte ∷ writes bytes
+
+abbrev pub reports : List ℕ → Outcome
+reports report = record { done = Reported; acts = writes report; stored = None; left = None }
+
+abbrev pub stores : (name bytes : List ℕ) → Outcome
+stores name bytes = record { done = Wrote; acts = []; stored = Some (record { name = name; bytes = bytes }); left = None }
+
+-- ---- texts
+
+-- what is made of the program that a text is; a text that is none is refused
+pub data OfText (Made : Program → Outcome → Type 0) (text : List ℕ) (outcome : Outcome) : Type 0 where
+  accepts : (program : Program) → Accepted text program → Made program outcome → OfText Made text outcome
+  refuses : (refusal : Refusal) → acceptance.Refused text refusal → outcome ≡ answers (Refused refusal) → OfText Made text outcome
+
+abbrev pub OfTextFile : (file : List ℕ) → (Made : List ℕ → Program → Outcome → Type 0) → Names → (input : List ℕ) → Outcome → Type 0
+OfTextFile file Made files input outcome = (text : List ℕ) × (files file ≡ Some text) × OfText (Made input) text outcome
+
+-- what is said of the heap behind the run of a program
+abbrev pub Leaving : Type 0
+Leaving = Program → List ℕ → Limits → Option Left
+
+-- nothing
+abbrev pub unsaid : Leaving
+unsaid program input limits = None
+
+-- a program does what it means
+pub record Runs (leaves : Leaving) (limits : Limits) (input : List ℕ) (program : Program) (outcome : Outcome) : Type 0 where
+  pub end : End
+  pub ends : (meaning program input limits).end ≡ Ends end
+  pub comes : outcome ≡ runs (meaning program input limits).acts end (leaves program input limits)
+
+-- its image is stored
+abbrev pub Compiles : (to : List ℕ) → (input : List ℕ) → Program → Outcome → Type 0
+Compiles to input program outcome = outcome ≡ stores to (spelling Two (image_of_program program))
+
+-- ---- images
+
+-- what comes of a file that is an image; bytes that are none are refused
+abbrev pub OfRead : (Made : Parts → List ℕ → Outcome → Type 0) → Result Parts ImageRefusal → (input : List ℕ) → Outcome → Type 0
+OfRead Made (Ok image) input outcome = Made image input outcome
+OfRead Made (Err refusal) input outcome = outcome ≡ answers (ImageRefused refusal)
+
+abbrev pub OfImage : (file : List ℕ) → (Made : Parts → List ℕ → Outcome → Type 0) → Names → (input : List ℕ) → Outcome → Type 0
+OfImage file Made files input outcome = (bytes : List ℕ) × (files file ≡ Some bytes) × OfRead Made (image_in bytes) input outcome
+
+-- the refusal of a broken rule of code
+abbrev pub refusal_by : Rule → (function instruction : ℕ) → ImageRefusal
+refusal_by rule.Number function instruction = Number function instruction
+refusal_by rule.Target function instruction = Target function instruction
+refusal_by rule.Height function instruction = Height function instruction
+refusal_by rule.Kind function instruction = Kind function instruction
+
+abbrev pub refusal_of_code : Violation → ImageRefusal
+refusal_of_code v = refusal_by v.rule v.function v.instruction
+
+-- an image whose code keeps the rules does what it means with the mark of every store taken away, and leaves the heap so; every
+-- other one is refused by its first violation
+pub data Executes (limits : Limits) (image : Parts) (input : List ℕ) (outcome : Outcome) : Type 0 where
+  sound : Sound image → outcome ≡ came (image_meaning (unmarked image) input limits) (image_left (unmarked image) input limits) → Executes limits image input outcome
+  broken : (v : Violation) → FirstViolation image v → outcome ≡ answers (ImageRefused (refusal_of_code v)) → Executes limits image input outcome
+
+abbrev pub Lists : Parts → (input : List ℕ) → Outcome → Type 0
+Lists image input outcome = outcome ≡ reports (listing image)
+
+abbrev pub Upgrades : (to : List ℕ) → Parts → (input : List ℕ) → Outcome → Type 0
+Upgrades to image input outcome = outcome ≡ stores to (spelling Two image)
+
+-- what each request comes to over these files, with these bytes of input; it has no outcome where a name that it reads is not there
+abbrev pub IsOutcome : Option Request → Names → List ℕ → Outcome → Type 0
+IsOutcome None files input outcome = outcome ≡ answers Usage
+IsOutcome (Some (Run file limits)) files input outcome = OfTextFile file (Runs meant.left limits) files input outcome
+IsOutcome (Some (Slow file limits)) files input outcome = OfTextFile file (Runs unsaid limits) files input outcome
+IsOutcome (Some (Compile from to)) files input outcome = OfTextFile from (Compiles to) files input outcome
+IsOutcome (Some (Exec file limits)) files input outcome = OfImage file (Executes limits) files input outcome
+IsOutcome (Some (Listing file)) files input outcome = OfImage file Lists files input outcome
+IsOutcome (Some (Upgrade from to)) files input outcome = OfImage from (Upgrades to) files input outcome
+
+-- the outcome, where what the request uses tells what it has
+pub record Comes (request : Option Request) (before : Outside) (outcome : Outcome) : Type 0 where
+  pub told : TellsWhatIsUsed (footprint request) before
+  pub comes : IsOutcome request before.files.names before.input.rest outcome
+
+-- what is to be stored stands there
+abbrev pub IsStored : Option Stored → Names → Type 0
+IsStored None names = Unit {0}
+IsStored (Some s) names = names s.name ≡ Some s.bytes
+
+-- the heap keeps what is to be left, and nothing is pinned
+abbrev pub IsLeft : Option Left → KeptStore → Type 0
+IsLeft None heap = Unit {0}
+IsLeft (Some regions) heap = (store : Store) × (regions ≡ map view_left store.regions) × IsKept heap store × (heap.pins ≡ [])
+
+-- neither was called
+pub record Untouched (input input' : SourceState) (out out' : SinkState) : Type 0 where
+  pub input_same : input' ≡ input
+  pub out_same : out' ≡ out
+
+-- these acts were done: their bytes were written, and the input lost what their `getchar`s gave
+pub record Performed (acts : List Act) (input input' : SourceState) (out out' : SinkState) : Type 0 where
+  pub wrote : Took (output acts) out out'
+  pub gave : Gave acts input input'
+
+-- a front of the acts was done; where a fault came, it says what the next act was
+pub record StoppedShort (acts : List Act) (fault : Fault) (input input' : SourceState) (out out' : SinkState) : Type 0 where
+  pub before : List Act
+  pub left : List Act
+  pub split : acts ≡ before ++ left
+  pub performed : Performed before input input' out out'
+  pub at_file : fault ≡ FileFault → before ≡ []
+  pub at_read : fault ≡ ReadFault → IsGetcharNext left
+  pub at_write : fault ≡ WriteFault → IsWriteNext left ⊎ (left ≡ [])
+  pub at_error : fault ≡ ErrFault → left ≡ []
+  -- after a byte that could not be written there is no flush, and else there is one behind what was written
+  pub unflushed : fault ≡ WriteFault → IsWriteNext left → IsTrue out.tells → out'.flushed ≡ out.flushed
+  pub flushed_at_read : fault ≡ ReadFault → ¬ Rose out.faults out'.faults → IsFlushed out'
+  pub flushed_at_memory : fault ≡ Memory → ¬ (before ≡ []) → ¬ Rose out.faults out'.faults → IsFlushed out'
+
+-- an answer beside the outcome
+abbrev pub Follows : Outcome → Outside → Outside → Result Done Fault → Type 0
+Follows outcome before after (Ok done) = (done ≡ outcome.done) × Performed outcome.acts before.input after.input before.out after.out × IsStored outcome.stored after.files.names × IsLeft outcome.left after.heap
+Follows outcome before after (Err fault) = StoppedShort outcome.acts fault before.input after.input before.out after.out

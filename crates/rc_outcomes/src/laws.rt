@@ -1,0 +1,34 @@
+// What holds of every request and every text.
+ghost use Rattle.std.specs.Prelude.{◌≡◌, ◌≤◌, ℕ, List, length, Ok, Option};
+ghost use Rattle.std.specs.List.{AllByRecursion as Every};
+ghost use Rattle.rc_base.specs.Limits.{most_image_bytes};
+ghost use Rattle.rc_base.specs.Shelves.{Names};
+ghost use Rattle.rc_base.specs.declared.ends.Limits.{Limits};
+ghost use Rattle.rc_code.specs.declared.image.Parts.{Parts};
+ghost use Rattle.rc_compile.specs.Acceptance.{Accepted};
+ghost use Rattle.rc_core.specs.Numbers.{IsByte};
+ghost use Rattle.rc_core.specs.Programs.{Program};
+ghost use Rattle.rc_outcomes.specs.Footprint.{AreThere, footprint};
+ghost use Rattle.rc_outcomes.specs.Images.{IsSpelled, image_in};
+ghost use Rattle.rc_outcomes.specs.Outcome.{IsOutcome, Outcome};
+ghost use Rattle.rc_requests.specs.Request.{Request};
+ghost use Rattle.rc_safety.specs.Safety.{NeverTouchesDeleted};
+
+/// Whatever the words ask comes to one outcome where the names that it reads are there, and never to
+/// two, whatever bytes the files and the input have.
+pub fn a_request_has_one_outcome()
+    ensures some { (request : Option Request) (files : Names) (input : List ℕ) → AreThere (footprint request) files → (outcome : Outcome) × IsOutcome request files input outcome }
+    ensures one { (request : Option Request) (files : Names) (input : List ℕ) (one other : Outcome) → IsOutcome request files input one → IsOutcome request files input other → one ≡ other }
+{}
+
+/// No run of a text that is accepted ever touches a deleted region, whatever its input and its limits.
+pub fn an_accepted_text_never_touches_deleted()
+    ensures { (text : List ℕ) (program : Program) (input : List ℕ) (limits : Limits) → Accepted text program → NeverTouchesDeleted program input limits }
+{}
+
+/// Bytes are those of an image exactly where they are its spelling in one of the two versions of the
+/// format, and the image keeps the rules of its fields.
+pub fn an_image_is_what_its_bytes_spell()
+    ensures read { (bytes : List ℕ) (image : Parts) → Every IsByte bytes → image_in bytes ≡ Ok image → IsSpelled bytes image }
+    ensures spelled { (bytes : List ℕ) (image : Parts) → length bytes ≤ most_image_bytes → IsSpelled bytes image → image_in bytes ≡ Ok image }
+{}

@@ -1,0 +1,14 @@
+//! What a request comes to. `specs/` says which outcome each request has over the files and the input
+//! that it finds, what of the outside it may use, and when each fault comes; `Performing` puts these
+//! together as what a request does. `proofs/Ways` and `Reports` show how any request may end, and
+//! `Flushing` how a run does behind which the output is flushed.
+#![tactic(auto)]
+
+mod flush;
+mod laws;
+
+pub use flush::flush_behind;
+pub use laws::{
+    a_request_has_one_outcome, an_accepted_text_never_touches_deleted,
+    an_image_is_what_its_bytes_spell,
+};

@@ -1,0 +1,41 @@
+-- Requests that store the image of a file's program.
+use Rattle.std.proofs.Common.{◌≡◌, ℕ, List, Option, Result, Ok, Err, refl, sym, subst}
+use Rattle.rc_base.specs.Shelves.{ShelfState}
+use Rattle.rc_compile.specs.Answers.{IsOnlyRefusal}
+use Rattle.rc_image.specs.Spelling.{spelling}
+use Rattle.rc_image.specs.declared.version.Version.TheVariants.{Two}
+use Rattle.rc_joined.specs.Programs.{image_of_program}
+use Rattle.rc_answers.specs.declared.answer.Done.{Done}
+use Rattle.rc_answers.specs.declared.answer.Done.TheVariants.{Refused}
+use Rattle.rc_answers.specs.declared.answer.Fault.{Fault}
+use Rattle.rc_answers.specs.declared.answer.Fault.TheVariants.{Memory}
+use Rattle.rc_outcomes.specs.Loading.{Loaded}
+use Rattle.rc_outcomes.specs.Outcome.{Compiles, OfText, accepts, stores}
+use Rattle.rc_outcomes.specs.Outside.{Outside, outside}
+use Rattle.rc_outcomes.specs.Performing.{Performs}
+use Rattle.rc_outcomes.proofs.Storing.{stored_bytes}
+use Rattle.rc_outcomes.proofs.Ways.{untouched}
+use Rattle.rc_requests.specs.Request.{Request}
+use Rattle.rc_text_files.proofs.TextFiles.{has_read, made_so, no_memory_then, only_made, refused_text, some_made}
+use Rattle.rc_programs.specs.Compiling.{CompiledText, CompilesOf, made, no_memory, refused}
+
+module _ (request : Option Request) (from to : List ℕ) (row : CompilesOf request from to) (before : Outside) (files1 : ShelfState) (text : List ℕ) (l : Loaded from before.files files1 (λ bytes. bytes ≡ text)) where
+  nothing_stored : (files' : ShelfState) (result : Result Done Fault) → files' ≡ files1 → Performs request before (outside files1 before.input before.out before.err before.heap) result → Performs request before (outside files' before.input before.out before.err before.heap) result
+  nothing_stored files' result same p = subst (λ (f : ShelfState). Performs request before (outside f before.input before.out before.err before.heap) result) (sym same) p
+
+  pub compiled : (files' : ShelfState) (result : Result Done Fault) → CompiledText text to files1 files' result → Performs request before (outside files' before.input before.out before.err before.heap) result
+  compiled files' result (made program answer only m) =
+      let bytes = spelling Two (image_of_program program) in
+      stored_bytes request before files1 files' to bytes answer (has_read request from (Compiles to) row.text before files1 (λ b. b ≡ text) l)
+      (record {
+        stores_to = row.stores;
+        may_write = row.may_write;
+        outcome = λ told. some_made request from (Compiles to) row.text before files1 (λ b. b ≡ text) l (stores to bytes) (λ b is. subst (λ (t : List ℕ). OfText (Compiles to before.input.rest) t (stores to bytes)) (sym is) (accepts program only.accepted refl)) told;
+        only = λ outcome comes. (
+            let found = only_made request from (Compiles to) row.text before files1 (λ b. b ≡ text) l outcome comes in
+            made_so (Compiles to before.input.rest) text outcome program only (subst (λ (t : List ℕ). OfText (Compiles to before.input.rest) t outcome) found.1 found.2));
+      }) m
+  compiled files' result (refused k only same) =
+      nothing_stored files' (Ok (Refused k)) same (refused_text request from (Compiles to) row.text before files1 (λ b. b ≡ text) l before.input before.out k (λ b is. subst (λ (t : List ℕ). IsOnlyRefusal t k) (sym is) only) (untouched before.input before.out))
+  compiled files' result (no_memory same) =
+      nothing_stored files' (Err Memory) same (no_memory_then request from (Compiles to) row.text before files1 (λ b. b ≡ text) l before.input before.out (untouched before.input before.out))

@@ -1,0 +1,74 @@
+-- What the words on the command line ask.
+use Rattle.std.specs.Prelude.{ℕ, List, [], ◌∷◌, ◌&&◌, nat_le, Option, Some, None, codes, if◌then◌else◌}
+use Rattle.std.specs.Option.{option_map}
+use Rattle.std.specs.Fmt.{decimal}
+use Rattle.std.specs.Str.{bytes_eq}
+use Rattle.std.specs.Str.Parse.{digits_value}
+use Rattle.rc_base.specs.declared.ends.Limits.{Limits}
+use Rattle.rc_base.specs.Limits.{most_turns, usual_turns, most_regions, most_blocks}
+
+pub data Request : Type 0 where
+  -- to run the program of this file within these limits
+  Run : (file : List ℕ) → Limits → Request
+  -- to run it node by node
+  Slow : (file : List ℕ) → Limits → Request
+  -- to store the image of the first file's program under the second name
+  Compile : (from to : List ℕ) → Request
+  -- to run the image of this file within these limits
+  Exec : (file : List ℕ) → Limits → Request
+  -- to list the image of this file
+  Listing : (file : List ℕ) → Request
+  -- to store the image of the first file under the second name, in the newest version of the format
+  Upgrade : (from to : List ℕ) → Request
+
+-- the number of a word of decimal digits without a leading zero, where it is no more than `most`
+abbrev pub number_within : (most : ℕ) → List ℕ → Option ℕ
+number_within most word = let n = digits_value 10 word in if bytes_eq (decimal n) word && nat_le n most then Some n else None
+
+-- the number of an option, and the words behind it
+pub record Chosen : Type 0 where
+  pub number : ℕ
+  pub rest : List (List ℕ)
+
+-- where the option stands first, its number is the next word; where it doesn't, the number is `default`, and no word is taken
+abbrev pub option : (name : List ℕ) → (most default : ℕ) → List (List ℕ) → Option Chosen
+option name most default (word ∷ number ∷ rest) =
+    if bytes_eq word name then option_map (λ n. record { number = n; rest = rest }) (number_within most number) else Some (record { number = default; rest = word ∷ number ∷ rest })
+option name most default words = Some (record { number = default; rest = words })
+
+abbrev pub choosing : Option Chosen → (ℕ → List (List ℕ) → Option Limits) → Option Limits
+choosing None next = None
+choosing (Some chosen) next = next chosen.number chosen.rest
+
+abbrev pub at_end : Limits → List (List ℕ) → Option Limits
+at_end limits [] = Some limits
+at_end limits (word ∷ words) = None
+
+-- the options in their order, each at most once
+abbrev pub limits_of : List (List ℕ) → Option Limits
+limits_of words =
+    choosing (option (codes "--turns") most_turns usual_turns words) (λ turns words.
+    choosing (option (codes "--regions") most_regions most_regions words) (λ regions words.
+    choosing (option (codes "--blocks") most_blocks most_blocks words) (λ blocks words.
+    at_end (record { turns = turns; regions = regions; blocks = blocks }) words)))
+
+-- nothing stands behind
+abbrev pub ending : Request → List (List ℕ) → Option Request
+ending request [] = Some request
+ending request (word ∷ words) = None
+
+-- one word more, which is a name
+abbrev pub ending_in_name : (List ℕ → Request) → List (List ℕ) → Option Request
+ending_in_name request (name ∷ []) = Some (request name)
+ending_in_name request words = None
+
+-- a verb, any word as the name of a file, and options or another name; none for every other list of words
+abbrev pub request_of : List (List ℕ) → Option Request
+request_of (verb ∷ file ∷ rest) =
+    if bytes_eq verb (codes "run") then option_map (Run file) (limits_of rest) else
+    if bytes_eq verb (codes "slow") then option_map (Slow file) (limits_of rest) else
+    if bytes_eq verb (codes "compile") then ending_in_name (Compile file) rest else
+    if bytes_eq verb (codes "exec") then option_map (Exec file) (limits_of rest) else
+    if bytes_eq verb (codes "list") then ending (Listing file) rest else
+    if bytes_eq verb (codes "upgrade") then ending_in_name (Upgrade file) rest else None
+request_of _ = None

@@ -1,0 +1,2 @@
+pub mod TextFiles
+pub mod RunTexts
