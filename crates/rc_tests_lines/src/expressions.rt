@@ -28,7 +28,11 @@ fn is_zero_test(line: &Line<'_>, made_for: u32) -> bool {
 }
 
 /// Whether these steps become `7` and a test of it, on lines 3 and 4.
-fn is_a_tested_number<'a>(alloc: Global, body: &Body<'a, '_>, sum: &'a [Step]) -> Result<bool, NoMemory>
+fn is_a_tested_number<'a>(
+    alloc: Global,
+    body: &Body<'a, '_>,
+    sum: &'a [Step],
+) -> Result<bool, NoMemory>
     requires { StepsListed body.now sum.now 1 }
 {
     let mut out = Vec::new(alloc);
