@@ -8,7 +8,7 @@ use Rattle.rc_deletes.specs.Scopes.{Context, Scope}
 use Rattle.rc_deletes.specs.Values.{Meant, Typed, spot_of}
 use Rattle.rc_deletes.specs.Expressions.{meant, value, strings_in}
 use Rattle.rc_deletes.specs.Statements.{simple, RightSide, right_side, assignment, update_of}
-use Rattle.rc_terms.proofs.Stops.{both_ruled, part_held}
+use Rattle.rc_defined.proofs.Stops.{both_ruled, part_held}
 
 module _ (context : Context) (names : Scope) (before before1 : List (List ℕ)) (at : Spot) (l r : t.Expr) (m : Meant) (left : meant context names before l ≡ Holds m) (grown : before1 ≡ before ++ strings_in l) where
   pub assign_is : (n : Meant) (w : RightSide) → meant context names before1 r ≡ Holds n → right_side (spot_of r) n ≡ Holds w → simple context names before (t.assign at l r) ≡ fitting at (assignment context at.line m w)

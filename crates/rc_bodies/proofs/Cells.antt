@@ -6,12 +6,12 @@ use Rattle.std.proofs.lemmas.Bool.Decides.{nat_tests}
 use Rattle.rc_core.specs.Types.{struct}
 use Rattle.rc_core.specs.Programs.{Struct}
 use Rattle.rc_core.specs.Layout.{Layout, layouts_of, size}
-use Rattle.rc_rules.specs.Sizes.{TellSmall}
-use Rattle.rc_terms.specs.declared.context.Context.{Context}
-use Rattle.rc_terms.specs.Contexts.{context_of}
-use Rattle.rc_terms.specs.Fields.{struct_in}
-use Rattle.rc_terms.specs.Sizes.{capped, HasSizes}
-use Rattle.rc_terms.proofs.Contexts.{structs_are}
+use Rattle.rc_item_rules.specs.Sizes.{TellSmall}
+use Rattle.rc_defined.specs.declared.context.Context.{Context}
+use Rattle.rc_defined.specs.Contexts.{context_of}
+use Rattle.rc_defined.specs.Fields.{struct_in}
+use Rattle.rc_defined.specs.Sizes.{capped, HasSizes}
+use Rattle.rc_defined.proofs.Contexts.{structs_are}
 
 cut_le : (n most k : ℕ) → k < most → nat_le (min n most) k ≡ nat_le n k
 cut_le n most k h = grind (arith, nat_tests)

@@ -10,7 +10,7 @@ use Rattle.rc_deletes.specs.Expressions.{base_rule}
 use Rattle.rc_deletes.specs.Statements.{Here, with_local, local, local_type, declared, behind_option, behind_local, new_name, value_option, declaration}
 use Rattle.rc_operators.specs.declared.stop.Stop.{Stop}
 use Rattle.rc_operators.specs.Stops.{StopsAt}
-use Rattle.rc_terms.proofs.Stops.{all_ruled, third_stops}
+use Rattle.rc_defined.proofs.Stops.{all_ruled, third_stops}
 
 module _ (context : Context) (here now : Here) (l : t.Local) (ty : Ty) (number : ℕ)
     (count : number ≡ length here.locals) (base : base_rule context l.type_name.base ≡ Holds tt) (is : ty ≡ written_type context.types l.type_name) (own : now ≡ with_local here ty l.name.text) where

@@ -11,7 +11,7 @@ use Rattle.rc_rules.specs.declared.meanings.Meaning.{Meaning}
 use Rattle.rc_rules.specs.Shapes.{meaning_of}
 use Rattle.rc_bodies.specs.declared.here.Here.{Here as CodeHere}
 use Rattle.rc_bodies.specs.declared.here.Outer.{Outer}
-use Rattle.rc_terms.specs.Contexts.{scope_of}
+use Rattle.rc_defined.specs.Contexts.{scope_of}
 use Rattle.rc_bodies.specs.Here.{here_of, outer_of}
 
 abbrev pub Grown : Scope → Scope → Type 0

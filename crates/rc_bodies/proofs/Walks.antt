@@ -13,8 +13,8 @@ use Rattle.rc_deletes.specs.Statements.{Here, stmt, stmts, local, locals, behind
 use Rattle.rc_operators.specs.declared.stop.Stop.{Stop}
 use Rattle.rc_operators.specs.declared.stop.Stop.TheVariants.{Rule, Memory}
 use Rattle.rc_operators.specs.Stops.{StopsAt}
-use Rattle.rc_terms.proofs.Stops.{left_stops}
-use Rattle.rc_terms.proofs.Walks.{front, none_left}
+use Rattle.rc_defined.proofs.Stops.{left_stops}
+use Rattle.rc_defined.proofs.Walks.{front, none_left}
 
 -- statements in front of others
 

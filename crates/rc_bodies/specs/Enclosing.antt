@@ -3,7 +3,7 @@ use Rattle.std.specs.Prelude.{Option, option_map}
 use Rattle.rc_core.specs.Shapes.{ty_of}
 use Rattle.rc_core.specs.Types.{Ty}
 use Rattle.rc_deletes.specs.Scopes.{Context}
-use Rattle.rc_terms.specs.Contexts.{context_of}
+use Rattle.rc_defined.specs.Contexts.{context_of}
 use Rattle.rc_bodies.specs.declared.enclosing.Enclosing.{Enclosing}
 
 abbrev pub context_at : Enclosing → Context

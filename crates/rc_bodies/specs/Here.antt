@@ -4,7 +4,7 @@ use Rattle.rc_core.specs.Shapes.{ty_of, bytes_of}
 use Rattle.rc_deletes.specs.Statements.{Here}
 use Rattle.rc_bodies.specs.declared.here.Here.{Here as CodeHere}
 use Rattle.rc_bodies.specs.declared.here.Outer.{Outer}
-use Rattle.rc_terms.specs.Contexts.{scope_of}
+use Rattle.rc_defined.specs.Contexts.{scope_of}
 
 abbrev pub here_of : CodeHere → Here
 here_of h = record { names = scope_of h.names; locals = map ty_of h.locals.items; first = h.first; strings = map bytes_of h.strings.items }

@@ -1,7 +1,7 @@
 // What encloses a statement.
 
 use rc_core::ty::Ty;
-use rc_terms::Context;
+use rc_defined::Context;
 use std::alloc::Global;
 
 /// What encloses a statement, and where the memory for its program comes from.

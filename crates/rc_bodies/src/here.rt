@@ -2,7 +2,7 @@
 ghost use Rattle.std.specs.Prelude.{◌≡◌, ◌++◌, length, IfOk, IfErr, OnOk};
 ghost use Rattle.rc_deletes.specs.Scopes.{Scope};
 ghost use Rattle.rc_deletes.specs.Statements as rule;
-ghost use Rattle.rc_terms.specs.Contexts.{scope_of};
+ghost use Rattle.rc_defined.specs.Contexts.{scope_of};
 ghost use Rattle.rc_bodies.specs.Here.{here_of, outer_of};
 
 use rc_core::ty::Ty;

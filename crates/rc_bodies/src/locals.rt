@@ -6,7 +6,7 @@ ghost use Rattle.rc_deletes.specs.Scopes.{a_local};
 ghost use Rattle.rc_deletes.specs.Statements as rule;
 ghost use Rattle.rc_operators.specs.Stops.{StopsAt};
 ghost use Rattle.rc_syntax.specs.Shape as written;
-ghost use Rattle.rc_terms.specs.Contexts.{context_of, scope_of};
+ghost use Rattle.rc_defined.specs.Contexts.{context_of, scope_of};
 ghost use Rattle.rc_bodies.specs.Here.{here_of};
 
 use crate::here::Here;
@@ -14,12 +14,13 @@ use crate::nodes::{block, empty_block};
 use crate::own::{own_simple, own_value};
 use rc_core::stmt::Stmt as Step;
 use rc_core::ty::Ty;
+use rc_defined::{Context, defined_type, meaning};
 use rc_deletes::Refusal;
+use rc_item_rules::{declaration, fitting, is_twice};
 use rc_operators::{Stop, add, copy_of, fails};
-use rc_rules::{Meaning, declaration, fitting, is_twice};
+use rc_rules::Meaning;
 use rc_scope::Scopes;
 use rc_syntax::tree::{ForStart, Local, Name};
-use rc_terms::{Context, defined_type, meaning};
 use std::alloc::Global;
 
 /// A declared name is new in its scope.
@@ -38,7 +39,7 @@ pub fn new_name(here: &Here, name: &Name) -> Result<(), Stop>
 }
 
 /// A name stands for a local.
-#[tactic(auto, using(rc_terms::proofs::Meanings::scope_more))]
+#[tactic(auto, using(rc_defined::proofs::Meanings::scope_more))]
 fn name_local(
     alloc: Global,
     names: &mut Scopes<Meaning>,
@@ -58,7 +59,7 @@ fn name_local(
 /// # Errors
 ///
 /// Out of memory.
-#[tactic(auto, using(rc_terms::proofs::Lists::map_push))]
+#[tactic(auto, using(rc_defined::proofs::Lists::map_push))]
 pub fn add_local(alloc: Global, locals: &mut Vec<Ty>, ty: &Ty) -> Result<(), Stop>
     ensures ok { OnOk result (map ty_of locals.new.items ≡ map ty_of locals.old.items ++ ty_of ty.now ∷ []) }
     ensures err { IfErr result (λ s. s ≡ Stop.Memory) }
@@ -84,7 +85,7 @@ pub fn named_local(alloc: Global, here: &mut Here, ty: &Ty, name: &Name) -> Resu
 }
 
 /// A declarator of a local.
-#[tactic(auto, using(rc_terms::proofs::Stops::left_stops, rc_terms::proofs::Stops::second_stops, rc_terms::proofs::Stops::third_stops, rc_terms::proofs::Stops::all_stop, rc_terms::proofs::Stops::all_ruled))]
+#[tactic(auto, using(rc_defined::proofs::Stops::left_stops, rc_defined::proofs::Stops::second_stops, rc_defined::proofs::Stops::third_stops, rc_defined::proofs::Stops::all_stop, rc_defined::proofs::Stops::all_ruled))]
 pub(crate) fn local(
     l: &Local,
     alloc: Global,
@@ -104,7 +105,7 @@ pub(crate) fn local(
 }
 
 /// The declarators of locals, in their order.
-#[tactic(auto, using(crate::proofs::Walks::after_steps_nil, crate::proofs::Walks::locals_step, crate::proofs::Walks::locals_end, crate::proofs::Walks::locals_stop, crate::proofs::Walks::locals_behind, crate::proofs::Walks::locals_behind_end, rc_terms::proofs::Lists::map_push))]
+#[tactic(auto, using(crate::proofs::Walks::after_steps_nil, crate::proofs::Walks::locals_step, crate::proofs::Walks::locals_end, crate::proofs::Walks::locals_stop, crate::proofs::Walks::locals_behind, crate::proofs::Walks::locals_behind_end, rc_defined::proofs::Lists::map_push))]
 pub(crate) fn locals_of(
     ls: &[Local],
     alloc: Global,
@@ -124,7 +125,7 @@ pub(crate) fn locals_of(
 }
 
 /// The first part of the head of a `for`.
-#[tactic(auto, using(rc_terms::proofs::Stops::part_stops, rc_terms::proofs::Stops::part_held))]
+#[tactic(auto, using(rc_defined::proofs::Stops::part_stops, rc_defined::proofs::Stops::part_held))]
 pub(crate) fn for_start(
     start: &ForStart,
     alloc: Global,

@@ -6,16 +6,16 @@ ghost use Rattle.rc_deletes.specs.Statements as rule;
 ghost use Rattle.rc_operators.specs.Shapes.{typed_of};
 ghost use Rattle.rc_operators.specs.Stops.{StopsAt};
 ghost use Rattle.rc_syntax.specs.Shape as written;
-ghost use Rattle.rc_terms.specs.Contexts.{context_of};
+ghost use Rattle.rc_defined.specs.Contexts.{context_of};
 ghost use Rattle.rc_bodies.specs.Here.{here_of};
 
 use crate::here::Here;
 use crate::steps::{condition, condition_option, simple, simple_option, value_option};
 use rc_core::expr::Expr as Value;
 use rc_core::stmt::Stmt as Step;
+use rc_defined::{Context, Environment};
 use rc_operators::{Stop, Typed};
 use rc_syntax::tree::{Expr, Simple};
-use rc_terms::{Context, Environment};
 use std::alloc::Global;
 
 #[tactic(auto, using(crate::proofs::Kept::more_strings))]

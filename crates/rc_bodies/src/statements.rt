@@ -18,8 +18,8 @@ use crate::nodes::{block, branch, do_loop, empty_block, for_loop, while_loop};
 use crate::own::{own_condition, own_condition_option, own_simple, own_simple_option, own_value};
 use rc_core::stmt::Stmt as Step;
 use rc_deletes::Refusal;
+use rc_item_rules::{fitting, returned};
 use rc_operators::{Stop, add, boxed, fails};
-use rc_rules::{fitting, returned};
 use rc_syntax::tree::{Expr, ForStart, Simple, Spot, Stmt};
 use std::alloc::Global;
 
@@ -36,7 +36,7 @@ fn in_loop(alloc: Global, looping: bool, at: Spot, step: Step) -> Result<Box<Ste
 
 /// `return`, with a value or without.
 #[inline(never)]
-#[tactic(auto, using(rc_terms::proofs::Stops::part_stops, rc_terms::proofs::Stops::part_ruled, rc_terms::proofs::Stops::part_held))]
+#[tactic(auto, using(rc_defined::proofs::Stops::part_stops, rc_defined::proofs::Stops::part_ruled, rc_defined::proofs::Stops::part_held))]
 fn type_return(
     at: Spot,
     e: &Option<Expr>,
@@ -70,7 +70,7 @@ fn type_block(body: &[Stmt], enclosing: &Enclosing<'_>, here: &mut Here) -> Resu
 /// `if` without `else`.
 #[inline(never)]
 #[cycle(statements)]
-#[tactic(auto, using(rc_terms::proofs::Stops::left_stops, rc_terms::proofs::Stops::right_stops, rc_terms::proofs::Stops::both_ruled))]
+#[tactic(auto, using(rc_defined::proofs::Stops::left_stops, rc_defined::proofs::Stops::right_stops, rc_defined::proofs::Stops::both_ruled))]
 fn type_if(
     at: Spot,
     c: &Expr,
@@ -91,7 +91,7 @@ fn type_if(
 /// `if` with `else`.
 #[inline(never)]
 #[cycle(statements)]
-#[tactic(auto, using(rc_terms::proofs::Stops::left_stops, rc_terms::proofs::Stops::second_stops, rc_terms::proofs::Stops::third_stops, rc_terms::proofs::Stops::all_ruled))]
+#[tactic(auto, using(rc_defined::proofs::Stops::left_stops, rc_defined::proofs::Stops::second_stops, rc_defined::proofs::Stops::third_stops, rc_defined::proofs::Stops::all_ruled))]
 fn type_if_else(
     at: Spot,
     c: &Expr,
@@ -113,7 +113,7 @@ fn type_if_else(
 /// `while`.
 #[inline(never)]
 #[cycle(statements)]
-#[tactic(auto, using(rc_terms::proofs::Stops::left_stops, rc_terms::proofs::Stops::right_stops, rc_terms::proofs::Stops::both_ruled))]
+#[tactic(auto, using(rc_defined::proofs::Stops::left_stops, rc_defined::proofs::Stops::right_stops, rc_defined::proofs::Stops::both_ruled))]
 fn type_while(
     at: Spot,
     c: &Expr,
@@ -133,7 +133,7 @@ fn type_while(
 /// `do`.
 #[inline(never)]
 #[cycle(statements)]
-#[tactic(auto, using(rc_terms::proofs::Stops::left_stops, rc_terms::proofs::Stops::right_stops, rc_terms::proofs::Stops::both_ruled))]
+#[tactic(auto, using(rc_defined::proofs::Stops::left_stops, rc_defined::proofs::Stops::right_stops, rc_defined::proofs::Stops::both_ruled))]
 fn type_do(
     at: Spot,
     a: &Stmt,
@@ -153,7 +153,7 @@ fn type_do(
 /// `for`, whose locals hold to its end.
 #[inline(never)]
 #[cycle(statements)]
-#[tactic(auto, using(rc_terms::proofs::Stops::left_stops, rc_terms::proofs::Stops::right_stops, rc_terms::proofs::Stops::both_ruled))]
+#[tactic(auto, using(rc_defined::proofs::Stops::left_stops, rc_defined::proofs::Stops::right_stops, rc_defined::proofs::Stops::both_ruled))]
 fn type_for(
     at: Spot,
     start: &ForStart,
@@ -213,7 +213,7 @@ pub(crate) fn stmt(s: &Stmt, enclosing: &Enclosing<'_>, here: &mut Here) -> Resu
 ///
 /// Where a rule on names, types, arities and sizes fails, at the first such node. Or out of memory.
 #[cycle(statements)]
-#[tactic(auto, using(crate::proofs::Walks::after_steps_nil, crate::proofs::Walks::stmts_step, crate::proofs::Walks::stmts_end, crate::proofs::Walks::stmts_stop, crate::proofs::Walks::behind_step, crate::proofs::Walks::behind_end, rc_terms::proofs::Lists::map_push))]
+#[tactic(auto, using(crate::proofs::Walks::after_steps_nil, crate::proofs::Walks::stmts_step, crate::proofs::Walks::stmts_end, crate::proofs::Walks::stmts_stop, crate::proofs::Walks::behind_step, crate::proofs::Walks::behind_end, rc_defined::proofs::Lists::map_push))]
 pub fn stmts(body: &[Stmt], enclosing: &Enclosing<'_>, here: &mut Here) -> Result<Vec<Step>, Stop>
     ensures ok { IfOk result (λ steps. rule.stmts (context_at enclosing.now) (gives_at enclosing.now) enclosing.now.looping (here_of here.old) (written.stmts_of body.now) ≡ Holds (stmts_of steps.items)) }
     ensures behind { OnOk result (here_of here.new ≡ rule.behind_stmts (context_at enclosing.now) (here_of here.old) (written.stmts_of body.now)) }

@@ -8,21 +8,20 @@ ghost use Rattle.rc_operators.specs.Shapes.{typed_of};
 ghost use Rattle.rc_operators.specs.Stops.{StopsAt};
 ghost use Rattle.rc_syntax.specs.Shape as written;
 ghost use Rattle.rc_syntax.specs.Tree.{call, assign, update, step_after};
-ghost use Rattle.rc_terms.specs.Contexts.{context_in, scope_in};
+ghost use Rattle.rc_defined.specs.Contexts.{context_in, scope_in};
 
 use crate::nodes::empty_block;
 use rc_core::expr::Expr as Value;
 use rc_core::stmt::Stmt as Step;
+use rc_defined::{Environment, meaning};
+use rc_item_rules::{alone_rule, assignment, fitting, one, right_side, step_operator, update_of};
 use rc_operators::{Stop, Typed, condition_rule};
-use rc_rules::{
-    alone_rule, assignment, call_statement, callee_rule, fitting, one, right_side, step_operator,
-    update_of,
-};
+use rc_rules::{call_statement, callee_rule};
 use rc_syntax::tree::{BinaryOp, Expr, Name, Simple, Spot, StepOp};
-use rc_terms::{Environment, arguments, meaning, meant, spot_of, value};
+use rc_terms::{arguments, meant, spot_of, value};
 
 /// A value that may be absent.
-#[tactic(auto, using(rc_terms::proofs::Stops::part_stops, rc_terms::proofs::Stops::part_held, rc_terms::proofs::Lists::no_strings))]
+#[tactic(auto, using(rc_defined::proofs::Stops::part_stops, rc_defined::proofs::Stops::part_held, rc_defined::proofs::Lists::no_strings))]
 pub(crate) fn value_option(
     e: &Option<Expr>,
     environment: &Environment<'_>,
@@ -42,7 +41,7 @@ pub(crate) fn value_option(
 }
 
 /// What a loop or a branch looks at.
-#[tactic(auto, using(rc_terms::proofs::Stops::part_stops, rc_terms::proofs::Stops::part_ruled, rc_terms::proofs::Stops::part_held))]
+#[tactic(auto, using(rc_defined::proofs::Stops::part_stops, rc_defined::proofs::Stops::part_ruled, rc_defined::proofs::Stops::part_held))]
 pub(crate) fn condition(
     e: &Expr,
     environment: &Environment<'_>,
@@ -57,7 +56,7 @@ pub(crate) fn condition(
 }
 
 /// A condition that may be absent.
-#[tactic(auto, using(rc_terms::proofs::Stops::part_stops, rc_terms::proofs::Stops::part_held, rc_terms::proofs::Lists::no_strings))]
+#[tactic(auto, using(rc_defined::proofs::Stops::part_stops, rc_defined::proofs::Stops::part_held, rc_defined::proofs::Lists::no_strings))]
 pub(crate) fn condition_option(
     e: &Option<Expr>,
     environment: &Environment<'_>,
@@ -77,7 +76,7 @@ pub(crate) fn condition_option(
 }
 
 /// A call as a statement.
-#[tactic(auto, using(rc_terms::proofs::Stops::left_stops, rc_terms::proofs::Stops::right_stops, rc_terms::proofs::Stops::both_stop, rc_terms::proofs::Stops::both_ruled))]
+#[tactic(auto, using(rc_defined::proofs::Stops::left_stops, rc_defined::proofs::Stops::right_stops, rc_defined::proofs::Stops::both_stop, rc_defined::proofs::Stops::both_ruled))]
 fn call_alone(
     name: &Name,
     given: &[Expr],
@@ -94,7 +93,7 @@ fn call_alone(
 }
 
 /// A value as a statement.
-#[tactic(auto, using(rc_terms::proofs::Stops::part_stops, rc_terms::proofs::Stops::part_ruled, rc_terms::proofs::Stops::part_held))]
+#[tactic(auto, using(rc_defined::proofs::Stops::part_stops, rc_defined::proofs::Stops::part_ruled, rc_defined::proofs::Stops::part_held))]
 fn value_alone(
     e: &Expr,
     environment: &Environment<'_>,
@@ -126,7 +125,7 @@ fn expression_alone(
 }
 
 /// An assignment: a struct is assigned whole where it is small enough.
-#[tactic(auto, using(rc_terms::proofs::Stops::left_stops, rc_terms::proofs::Stops::right_stops, rc_terms::proofs::Stops::part_stops, rc_terms::proofs::Stops::part_ruled, rc_terms::proofs::Stops::both_stop, rc_terms::proofs::Stops::both_ruled))]
+#[tactic(auto, using(rc_defined::proofs::Stops::left_stops, rc_defined::proofs::Stops::right_stops, rc_defined::proofs::Stops::part_stops, rc_defined::proofs::Stops::part_ruled, rc_defined::proofs::Stops::both_stop, rc_defined::proofs::Stops::both_ruled))]
 fn assigned(
     at: Spot,
     l: &Expr,
@@ -147,7 +146,7 @@ fn assigned(
 }
 
 /// `op=`.
-#[tactic(auto, using(rc_terms::proofs::Stops::left_stops, rc_terms::proofs::Stops::right_stops, rc_terms::proofs::Stops::both_stop, rc_terms::proofs::Stops::both_ruled))]
+#[tactic(auto, using(rc_defined::proofs::Stops::left_stops, rc_defined::proofs::Stops::right_stops, rc_defined::proofs::Stops::both_stop, rc_defined::proofs::Stops::both_ruled))]
 fn updated(
     at: Spot,
     op: BinaryOp,
@@ -167,7 +166,7 @@ fn updated(
 }
 
 /// `++` or `--`.
-#[tactic(auto, using(rc_terms::proofs::Stops::part_stops, rc_terms::proofs::Stops::part_ruled, rc_terms::proofs::Stops::part_held))]
+#[tactic(auto, using(rc_defined::proofs::Stops::part_stops, rc_defined::proofs::Stops::part_ruled, rc_defined::proofs::Stops::part_held))]
 fn stepped(
     at: Spot,
     op: StepOp,
@@ -206,7 +205,7 @@ pub(crate) fn simple(
 }
 
 /// A part of a `for`: where it is absent an empty block.
-#[tactic(auto, using(rc_terms::proofs::Lists::no_strings))]
+#[tactic(auto, using(rc_defined::proofs::Lists::no_strings))]
 pub(crate) fn simple_option(
     s: &Option<Simple>,
     environment: &Environment<'_>,

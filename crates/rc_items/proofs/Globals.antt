@@ -16,9 +16,9 @@ use Rattle.rc_operators.specs.declared.stop.Stop.{Stop}
 use Rattle.rc_operators.specs.Stops.{StopsAt}
 use Rattle.rc_rules.specs.declared.meanings.Meaning.{Meaning as CodeMeaning}
 use Rattle.rc_rules.specs.Shapes.{meaning_of}
-use Rattle.rc_terms.specs.Contexts.{scope_of}
-use Rattle.rc_terms.specs.Sizes.{SameUpTo}
-use Rattle.rc_terms.proofs.Stops.{both_ruled}
+use Rattle.rc_defined.specs.Contexts.{scope_of}
+use Rattle.rc_defined.specs.Sizes.{SameUpTo}
+use Rattle.rc_defined.proofs.Stops.{both_ruled}
 
 is_few : (at : Spot) (b e l : Bool) (a m : Made) → ruled at (failing b Mistyped ++ failing (e || l) TooBig) a ≡ Holds m → l ≡ false
 is_few at true e l a m h = absurd cc

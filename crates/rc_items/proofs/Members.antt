@@ -9,11 +9,11 @@ use Rattle.rc_deletes.specs.Scopes.{Context}
 use Rattle.rc_deletes.specs.Items.{field_rule, fields_rule, before_fields}
 use Rattle.rc_operators.specs.declared.stop.Stop.{Stop}
 use Rattle.rc_operators.specs.Stops.{StopsAt}
-use Rattle.rc_terms.specs.Groups.{shares_with_next}
+use Rattle.rc_defined.specs.Groups.{shares_with_next}
 use Rattle.rc_items.proofs.Ruled.{front_stop, unit_part}
-use Rattle.rc_terms.proofs.Stops.{left_stops}
-use Rattle.rc_terms.proofs.Fronts.{tail, split, nothing_left}
-use Rattle.rc_terms.proofs.Groups.{field_next}
+use Rattle.rc_defined.proofs.Stops.{left_stops}
+use Rattle.rc_defined.proofs.Fronts.{tail, split, nothing_left}
+use Rattle.rc_defined.proofs.Groups.{field_next}
 
 module _ (context : Context) (count : ℕ) (earlier : List (List ℕ)) (f : t.Field) (after : List t.Field) where
   pub group_stops : (s : Stop) → StopsAt (before_fields context count (f ∷ after)) s → StopsAt (fields_rule context count earlier (f ∷ after)) s

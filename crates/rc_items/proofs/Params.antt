@@ -22,12 +22,12 @@ use Rattle.rc_deletes.specs.Items.{param_name, param_rule, params_rule, with_par
 use Rattle.rc_operators.specs.declared.stop.Stop.{Stop}
 use Rattle.rc_operators.specs.declared.stop.Stop.TheVariants.{Rule}
 use Rattle.rc_operators.specs.Stops.{StopsAt}
-use Rattle.rc_terms.specs.declared.context.Context.{Context as CodeContext}
-use Rattle.rc_terms.specs.Contexts.{context_of}
+use Rattle.rc_defined.specs.declared.context.Context.{Context as CodeContext}
+use Rattle.rc_defined.specs.Contexts.{context_of}
 use Rattle.rc_items.proofs.Ruled.{ruled_broken, unit_part}
 use Rattle.rc_bodies.proofs.Kept.{Grown, grown_self, grown_on}
-use Rattle.rc_terms.proofs.Walks.{front, none_left}
-use Rattle.rc_terms.proofs.Stops.{left_stops, right_stops, both_stop}
+use Rattle.rc_defined.proofs.Walks.{front, none_left}
+use Rattle.rc_defined.proofs.Stops.{left_stops, right_stops, both_stop}
 
 abbrev pub takes : List (List ℕ) → List Param → List Ty
 takes types qs = map (λ q. written_type types q.type_name) (map written.param_of qs)

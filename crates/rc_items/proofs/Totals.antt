@@ -10,12 +10,12 @@ use Rattle.rc_core.specs.WellTyped.{elements}
 use Rattle.rc_deletes.specs.Kinds.{written_type}
 use Rattle.rc_deletes.specs.Scopes.{structs_in}
 use Rattle.rc_deletes.specs.Items.{cells_of_global}
-use Rattle.rc_terms.specs.declared.context.Context.{Context}
-use Rattle.rc_terms.specs.Contexts.{context_of}
-use Rattle.rc_terms.specs.Fields.{struct_in}
-use Rattle.rc_terms.specs.Sizes.{capped, SameUpTo}
-use Rattle.rc_terms.proofs.Contexts.{structs_are}
-use Rattle.rc_terms.proofs.Counted.{times}
+use Rattle.rc_defined.specs.declared.context.Context.{Context}
+use Rattle.rc_defined.specs.Contexts.{context_of}
+use Rattle.rc_defined.specs.Fields.{struct_in}
+use Rattle.rc_defined.specs.Sizes.{capped, SameUpTo}
+use Rattle.rc_defined.proofs.Contexts.{structs_are}
+use Rattle.rc_defined.proofs.Counted.{times}
 
 same_capped : (a b : ℕ) → capped a ≡ capped b → SameUpTo 1048576 a b
 same_capped a b h = (grind (arith, nat_tests), λ l. omega (arith, h, l))

@@ -12,11 +12,11 @@ use Rattle.rc_deletes.specs.Items.{Outside, Made, nothing_made, made_both, item,
 use Rattle.rc_operators.specs.declared.stop.Stop.{Stop}
 use Rattle.rc_operators.specs.declared.stop.Stop.TheVariants.{Rule, Memory}
 use Rattle.rc_operators.specs.Stops.{StopsAt}
-use Rattle.rc_terms.specs.Groups.{goes_on}
-use Rattle.rc_terms.proofs.Stops.{left_stops}
+use Rattle.rc_defined.specs.Groups.{goes_on}
+use Rattle.rc_defined.proofs.Stops.{left_stops}
 use Rattle.rc_items.proofs.Ruled.{front_stop}
-use Rattle.rc_terms.proofs.Fronts.{tail, split, nothing_left}
-use Rattle.rc_terms.proofs.Groups.{global_next}
+use Rattle.rc_defined.proofs.Fronts.{tail, split, nothing_left}
+use Rattle.rc_defined.proofs.Groups.{global_next}
 
 abbrev pub after_made : Made → Judged Made → Judged Made
 after_made m (Holds n) = Holds (made_both m n)

@@ -7,7 +7,7 @@ use Rattle.rc_deletes.specs.Items.{Outside, Made, nothing_made}
 use Rattle.rc_items.specs.declared.outside.Outside.{Outside as CodeOutside}
 use Rattle.rc_items.specs.declared.produced.Produced.{Produced}
 use Rattle.rc_items.specs.declared.produced.Produced.TheVariants.{Nothing, Global, Function}
-use Rattle.rc_terms.specs.Contexts.{scope_of}
+use Rattle.rc_defined.specs.Contexts.{scope_of}
 
 abbrev pub outside_of : CodeOutside → Outside
 outside_of o = record {

@@ -10,24 +10,25 @@ ghost use Rattle.rc_rules.specs.Shapes.{meaning_of};
 ghost use Rattle.rc_operators.specs.Stops.{StopsAt};
 ghost use Rattle.rc_syntax.specs.Shape as written;
 ghost use Rattle.rc_syntax.specs.Tree as t;
-ghost use Rattle.rc_terms.specs.Contexts.{context_of, scope_of};
+ghost use Rattle.rc_defined.specs.Contexts.{context_of, scope_of};
 ghost use Rattle.rc_items.specs.Outside.{outside_of};
 ghost use Rattle.rc_items.specs.Parts.{written_global};
-ghost use Rattle.rc_terms.specs.Sizes.{SameUpTo};
+ghost use Rattle.rc_defined.specs.Sizes.{SameUpTo};
 
 use crate::outside::Outside;
 use crate::parts::WrittenGlobal;
 use rc_base::MOST_STRUCT_CELLS;
 use rc_core::parts::Global as GlobalPart;
 use rc_core::ty::Ty;
-use rc_deletes::Refusal;
-use rc_operators::{Stop, copy_of, refuse_where};
-use rc_rules::{Meaning, global_rule, initial_of, is_defined_before, is_empty, once};
-use rc_scope::{Names, Scopes};
-use rc_syntax::tree::{Field, Name, Spot};
-use rc_terms::{
+use rc_defined::{
     Context, add_name, before_field, cell_type, cells_of, meaning, shares_with_next, size_by,
 };
+use rc_deletes::Refusal;
+use rc_item_rules::{global_rule, initial_of, is_defined_before, is_empty, once};
+use rc_operators::{Stop, copy_of, refuse_where};
+use rc_rules::Meaning;
+use rc_scope::{Names, Scopes};
+use rc_syntax::tree::{Field, Name, Spot};
 use std::alloc::Global;
 
 /// Whether a name is among others.
@@ -38,7 +39,7 @@ fn is_among(names: &Names, name: &Name) -> bool
 }
 
 /// A field of a struct, after the earlier ones.
-#[tactic(auto, using(rc_terms::proofs::Stops::left_stops, rc_terms::proofs::Stops::right_stops, rc_terms::proofs::Stops::both_stop, rc_terms::proofs::Stops::both_ruled, crate::proofs::Ruled::ruled_kept, crate::proofs::Ruled::ruled_broken))]
+#[tactic(auto, using(rc_defined::proofs::Stops::left_stops, rc_defined::proofs::Stops::right_stops, rc_defined::proofs::Stops::both_stop, rc_defined::proofs::Stops::both_ruled, crate::proofs::Ruled::ruled_kept, crate::proofs::Ruled::ruled_broken))]
 fn field(
     f: &Field,
     alloc: Global,

@@ -9,7 +9,7 @@ ghost use Rattle.rc_deletes.specs.Scopes.{meaning_in};
 ghost use Rattle.rc_rules.specs.Shapes.{signature_of};
 ghost use Rattle.rc_operators.specs.Stops.{StopsAt};
 ghost use Rattle.rc_syntax.specs.Shape as written;
-ghost use Rattle.rc_terms.specs.Contexts.{context_of, scope_of};
+ghost use Rattle.rc_defined.specs.Contexts.{context_of, scope_of};
 ghost use Rattle.rc_bodies.specs.Here.{here_of};
 ghost use Rattle.rc_items.specs.Outside.{outside_of};
 ghost use Rattle.rc_items.specs.Parts.{written_params, written_result, written_signature, with_function};
@@ -19,11 +19,12 @@ use crate::outside::Outside;
 use crate::parts::Head;
 use rc_bodies::{Here, add_local, named_local, new_name};
 use rc_core::ty::Ty;
+use rc_defined::{Context, defined_type, meaning, type_in};
 use rc_deletes::Refusal;
+use rc_item_rules::function_name;
 use rc_operators::{Stop, add, is_struct, refuse_where};
-use rc_rules::{Meaning, Signature, function_name};
+use rc_rules::{Meaning, Signature};
 use rc_syntax::tree::{Name, Param, TypeName};
-use rc_terms::{Context, defined_type, meaning, type_in};
 use std::alloc::Global;
 
 /// The types of parameters.
@@ -125,7 +126,7 @@ fn add_param(alloc: Global, here: &mut Here, ty: &Ty, q: &Param) -> Result<(), S
 }
 
 /// A parameter, which is a local from here on.
-#[tactic(auto, using(rc_terms::proofs::Stops::left_stops, rc_terms::proofs::Stops::right_stops, rc_terms::proofs::Stops::both_stop, rc_terms::proofs::Stops::both_ruled))]
+#[tactic(auto, using(rc_defined::proofs::Stops::left_stops, rc_defined::proofs::Stops::right_stops, rc_defined::proofs::Stops::both_stop, rc_defined::proofs::Stops::both_ruled))]
 fn param(
     q: &Param,
     alloc: Global,
@@ -182,7 +183,7 @@ fn declare_name(
 }
 
 /// The result and the name of a function, which is declared from here on.
-#[tactic(auto, using(rc_terms::proofs::Stops::left_stops, rc_terms::proofs::Stops::second_stops))]
+#[tactic(auto, using(rc_defined::proofs::Stops::left_stops, rc_defined::proofs::Stops::second_stops))]
 pub(crate) fn declare(
     head: &Head<'_>,
     has_body: bool,

@@ -9,7 +9,7 @@ ghost use Rattle.rc_deletes.specs.Statements as statements;
 ghost use Rattle.rc_operators.specs.Stops.{StopsAt};
 ghost use Rattle.rc_syntax.specs.Shape as written;
 ghost use Rattle.rc_syntax.specs.Tree as t;
-ghost use Rattle.rc_terms.specs.Contexts.{context_of, scope_of};
+ghost use Rattle.rc_defined.specs.Contexts.{context_of, scope_of};
 ghost use Rattle.rc_bodies.specs.Here.{here_of};
 ghost use Rattle.rc_items.specs.Outside.{outside_of, made_of, all_made};
 ghost use Rattle.rc_items.specs.Parts.{written_global, written_function};
@@ -23,12 +23,13 @@ use rc_bodies::{Enclosing, Here, stmts};
 use rc_core::parts::{Function, Global as GlobalPart};
 use rc_core::stmt::Stmt as Step;
 use rc_core::ty::Ty;
+use rc_defined::{Context, before_global, goes_on};
 use rc_deletes::{Builtin, Refusal};
+use rc_item_rules::is_struct_option;
 use rc_operators::{Stop, add, refuse_where};
-use rc_rules::{Meaning, is_struct_option};
+use rc_rules::Meaning;
 use rc_scope::Scopes;
 use rc_syntax::tree::{Field, Item, Name, Param, Spot, Stmt};
-use rc_terms::{Context, before_global, goes_on};
 use std::alloc::Global;
 
 /// A struct.
@@ -193,7 +194,7 @@ fn item(i: &Item, alloc: Global, context: &Context, outside: &mut Outside) -> Re
 }
 
 /// Puts what an item adds after what the items before it added.
-#[tactic(auto, using(rc_terms::proofs::Lists::map_push))]
+#[tactic(auto, using(rc_defined::proofs::Lists::map_push))]
 fn keep(
     p: Produced,
     globals: &mut Vec<GlobalPart>,

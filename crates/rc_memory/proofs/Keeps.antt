@@ -13,9 +13,10 @@ use Rattle.rc_core.specs.Runs.{Stop, Stale, Run, Go, Stopped, tested, touching, 
 use Rattle.rc_core.specs.Source.{World, with_heap, turn_from, byte_from, is_index, chosen_in_range, cell_of, Spot, values_from, notes_from, at_spot, unfit, fitting, overwritten, written, stored, made, allocated, has_child, values_of, values_outside, references, is_empty, killed, first_of, source}
 use Rattle.rc_memory.specs.declared.heap.Spot.{Spot as KeptSpot}
 use Rattle.rc_core.specs.Laid.{kind_of}
-use Rattle.rc_memory.specs.Outcomes.{Outcome, trapped, passing, after}
-use Rattle.rc_memory.proofs.Lists.{drop_mapped}
+use Rattle.rc_values.specs.Outcomes.{Outcome, trapped, passing, after}
+use Rattle.rc_values.proofs.Lists.{drop_mapped}
 use Rattle.rc_memory.specs.Change.{mapped, Agree}
+use Rattle.rc_values.specs.Cells as of_kind
 use Rattle.rc_memory.specs.Kept as k
 use Rattle.rc_memory.specs.Kept.{KeptObject, KeptHeap, kept_object, kept_region, kept_heap, count_in, size_in, kinds_in, values_in, in_bounds, object_names, is_named}
 use Rattle.rc_memory.specs.KeptWorld as kw
@@ -113,7 +114,7 @@ child_kept line (Handle r) w =
 
 -- new objects
 
-blank_cells_kept : (cells : Layout) → map blank_cell cells ≡ map k.blank_cell (map kind_of cells)
+blank_cells_kept : (cells : Layout) → map blank_cell cells ≡ map of_kind.blank_cell (map kind_of cells)
 blank_cells_kept [] = refl
 blank_cells_kept (int_cell ∷ cells) = ap (λ l. Number (pos 0) ∷ l) (blank_cells_kept cells)
 blank_cells_kept (unsigned_cell ∷ cells) = ap (λ l. Number (pos 0) ∷ l) (blank_cells_kept cells)
@@ -121,9 +122,9 @@ blank_cells_kept (char_cell ∷ cells) = ap (λ l. Number (pos 0) ∷ l) (blank_
 blank_cells_kept (region_cell ∷ cells) = ap (λ l. Null ∷ l) (blank_cells_kept cells)
 blank_cells_kept (pointer_cell note target ∷ cells) = ap (λ l. Null ∷ l) (blank_cells_kept cells)
 
-blank_values_kept : (layout : Layout) (n : ℕ) → flat_map (map blank_cell) (replicate n layout) ≡ flat_map (map k.blank_cell) (replicate n (map kind_of layout))
+blank_values_kept : (layout : Layout) (n : ℕ) → flat_map (map blank_cell) (replicate n layout) ≡ flat_map (map of_kind.blank_cell) (replicate n (map kind_of layout))
 blank_values_kept layout zero = refl
-blank_values_kept layout (suc n) = ap (λ l. l ++ flat_map (map blank_cell) (replicate n layout)) (blank_cells_kept layout) ∙ ap (λ l. map k.blank_cell (map kind_of layout) ++ l) (blank_values_kept layout n)
+blank_values_kept layout (suc n) = ap (λ l. l ++ flat_map (map blank_cell) (replicate n layout)) (blank_cells_kept layout) ∙ ap (λ l. map of_kind.blank_cell (map kind_of layout) ++ l) (blank_values_kept layout n)
 
 pub blank_kept : (layout : Layout) (n : ℕ) → kept_object (blank layout n) ≡ k.blank (map kind_of layout) n
 blank_kept layout n = ap (λ (vs : List Value). record { kinds = map kind_of layout; count = n; values = vs }) (blank_values_kept layout n)
@@ -240,7 +241,7 @@ load_all_kept line t size w =
 
 -- stores
 
-note_kept : (c : CellKind) → k.note_of (kind_of c) ≡ note_of c
+note_kept : (c : CellKind) → of_kind.note_of (kind_of c) ≡ note_of c
 note_kept int_cell = refl
 note_kept unsigned_cell = refl
 note_kept char_cell = refl

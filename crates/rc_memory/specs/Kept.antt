@@ -11,8 +11,9 @@ use Rattle.rc_core.specs.Source.{is_index, chosen_in_range, cell_of, unfit, over
 use Rattle.rc_core.specs.declared.layouts.Kind.{Kind}
 use Rattle.rc_core.specs.declared.layouts.Kind.TheVariants.{Number as NumberKind, Region as RegionKind, Pointer as PointerKind}
 use Rattle.rc_memory.specs.declared.heap.Spot.{Spot}
+use Rattle.rc_values.specs.Cells.{blank_cell, note_of}
 use Rattle.rc_core.specs.Laid.{kind_of}
-use Rattle.rc_memory.specs.Outcomes.{Outcome, trapped, passing, after}
+use Rattle.rc_values.specs.Outcomes.{Outcome, trapped, passing, after}
 
 pub record KeptObject : Type 0 where
   pub kinds : List Kind
@@ -75,16 +76,6 @@ objects heap r = objects_in (slice_get heap r)
 
 abbrev pub object_at : KeptHeap → (r o : ℕ) → Option KeptObject
 object_at heap r o = slice_get (objects heap r) o
-
-abbrev pub note_of : Kind → Note
-note_of NumberKind = Plain
-note_of RegionKind = Plain
-note_of (PointerKind note) = note
-
-abbrev pub blank_cell : Kind → Value
-blank_cell NumberKind = Number (pos 0)
-blank_cell RegionKind = Null
-blank_cell (PointerKind note) = Null
 
 abbrev pub blank : List Kind → (count : ℕ) → KeptObject
 blank kinds count = record { kinds = kinds; count = count; values = flat_map (map blank_cell) (replicate count kinds) }

@@ -6,7 +6,7 @@ use Rattle.rc_core.specs.Heap.{Value, Handle, Pointer}
 use Rattle.rc_core.specs.Runs.{Run, Go, Stopped, spent, Ops}
 use Rattle.rc_core.specs.Source.{World}
 use Rattle.rc_core.specs.Laid.{kind_of}
-use Rattle.rc_memory.specs.Outcomes.{Outcome, after}
+use Rattle.rc_values.specs.Outcomes.{Outcome, after}
 use Rattle.rc_memory.specs.Kept.{KeptHeap, kept_heap, live_region, made, allocated, objects, step, load, load_all, store, deleted}
 
 pub record KeptWorld : Type 0 where

@@ -2,8 +2,8 @@
 use Rattle.std.specs.Prelude.{◌≡◌, Result, Ok, Err}
 use Rattle.rc_base.specs.declared.ends.RunFault.TheVariants.{Memory}
 use Rattle.rc_core.specs.Runs.{Run, Go, Stopped, Ends, Stale}
-use Rattle.rc_memory.specs.declared.stop.Stop.{Stop as CodeStop}
-use Rattle.rc_memory.specs.declared.stop.Stop.TheVariants.{Ends as CodeEnds, Stale as CodeStale, Cut}
+use Rattle.rc_values.specs.declared.stop.Stop.{Stop as CodeStop}
+use Rattle.rc_values.specs.declared.stop.Stop.TheVariants.{Ends as CodeEnds, Stale as CodeStale, Cut}
 use Rattle.rc_memory.specs.Kept.{KeptHeap}
 use Rattle.rc_memory.specs.KeptWorld.{KeptWorld, with_heap}
 

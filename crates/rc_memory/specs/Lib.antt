@@ -1,5 +1,3 @@
-pub mod Values
-pub mod Outcomes
 pub mod Kept
 pub mod KeptWorld
 pub mod Leaving

@@ -13,22 +13,21 @@ ghost use Rattle.rc_core.specs.Source.{unfit};
 ghost use Rattle.rc_memory.specs.Kept.{allocated, count_in, object_names, killed, with_objects, deleted, fitting, has_child, is_named, kept_heap, kept_object, kinds_in, live, live_address, live_region, load, load_all, made, object_at, objects, parent, room, spot_of, step, store, written};
 ghost use Rattle.rc_memory.specs.KeptWorld.{KeptWorld, kept};
 ghost use Rattle.rc_memory.specs.Leaving.{Leaves};
-ghost use Rattle.rc_memory.specs.Outcomes.{Is, Does};
-ghost use Rattle.rc_memory.specs.Values.{address_of, value_of};
-ghost use Rattle.rc_memory.specs.declared.stop.Stop.TheVariants.{Cut};
+ghost use Rattle.rc_values.specs.Outcomes.{Is, Does};
+ghost use Rattle.rc_values.specs.Values.{address_of, value_of};
+ghost use Rattle.rc_values.specs.declared.stop.Stop.TheVariants.{Cut};
 
-use crate::cells::note_of;
 use crate::object::{Object, blank, literal, number_object};
 use crate::region::Region;
-use crate::stop::{Stop, trap};
-use crate::target::{Target, is_index, product_of_cells, sum_of_cells};
-use crate::value::{Address, Value};
-use crate::values::{Values, front_of};
 use rc_base::Trap;
 use rc_core::operators::Direction;
 use rc_core::parts::{Global as Variable, Parts};
 use rc_core::ty::{Note, Ty};
 use rc_core::{Kind, Layouts};
+use rc_values::{
+    Address, Stop, Target, Value, Values, front_of, is_index, note_of, product_of_cells,
+    sum_of_cells, trap,
+};
 use std::alloc::Global;
 use std::marker::Model;
 
@@ -142,7 +141,7 @@ fn unfit(note: Note) -> Trap
     }
 }
 
-#[tactic(auto, using(crate::proofs::Lists::update_set, crate::proofs::Lists::update_past))]
+#[tactic(auto, using(rc_values::proofs::Lists::update_set, rc_values::proofs::Lists::update_past))]
 fn write_region(regions: &mut Vec<Region>, spot: Spot, values: &[Value])
     ensures { regions.new.items ≡ written spot (map value_of values.now) regions.old.items }
 {
@@ -151,7 +150,7 @@ fn write_region(regions: &mut Vec<Region>, spot: Spot, values: &[Value])
     }
 }
 
-#[tactic(auto, using(crate::proofs::Lists::update_set, crate::proofs::Lists::update_past))]
+#[tactic(auto, using(rc_values::proofs::Lists::update_set, rc_values::proofs::Lists::update_past))]
 fn push_object<'p>(
     regions: &mut Vec<Region<'p>>,
     region: u32,
@@ -167,7 +166,7 @@ fn push_object<'p>(
     Ok(())
 }
 
-#[tactic(auto, using(crate::proofs::Lists::update_set, crate::proofs::Lists::update_past))]
+#[tactic(auto, using(rc_values::proofs::Lists::update_set, rc_values::proofs::Lists::update_past))]
 fn kill_region(alloc: Global, regions: &mut Vec<Region>, region: u32)
     ensures { regions.new.items ≡ killed regions.old.items region }
 {
@@ -447,7 +446,7 @@ impl<'p> Heap<'p> {
     }
 
     /// The cells from a cell of an element on.
-    #[tactic(auto, using(crate::proofs::Lists::drop_past))]
+    #[tactic(auto, using(rc_values::proofs::Lists::drop_past))]
     fn kinds_from(&self, spot: Spot) -> &[Kind]
         ensures { result.now ≡ drop spot.cell (kinds_in (object_at self.now spot.region spot.object)) }
     {
@@ -469,7 +468,7 @@ impl<'p> Heap<'p> {
     }
 
     /// Stores values in the cells from a place on, but none past the element.
-    #[tactic(auto, using(crate::proofs::Lists::take_mapped))]
+    #[tactic(auto, using(rc_values::proofs::Lists::take_mapped))]
     pub fn store(&mut self, line: u32, target: &Target, values: &[Value]) -> Result<(), Stop>
         ensures stored { Does result (store self.old line target.now (map value_of values.now)) self.new }
         ensures unchanged { OnErr result (self.new ≡ self.old) }

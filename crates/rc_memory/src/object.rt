@@ -5,14 +5,11 @@ ghost use Rattle.rc_base.specs.declared.ends.RunFault.TheVariants.{Memory};
 ghost use Rattle.rc_core.specs.Heap.{Number, literal};
 ghost use Rattle.rc_core.specs.Source.{overwritten};
 ghost use Rattle.rc_memory.specs.Kept.{blank, first_of, kept_object, object_names};
-ghost use Rattle.rc_memory.specs.Values.{value_of};
-ghost use Rattle.rc_memory.specs.declared.stop.Stop.TheVariants.{Cut};
+ghost use Rattle.rc_values.specs.Values.{value_of};
+ghost use Rattle.rc_values.specs.declared.stop.Stop.TheVariants.{Cut};
 
-use crate::cells::number_cells;
-use crate::stop::Stop;
-use crate::value::Value;
-use crate::values::Values;
 use rc_core::Kind;
+use rc_values::{Stop, Value, Values, number_cells};
 use std::alloc::Global;
 use std::marker::Model;
 
@@ -33,7 +30,7 @@ impl<'p> Model for Object<'p> {
 }
 
 /// Elements that are zero or null.
-#[tactic(auto, using(crate::proofs::Lists::blanks_more))]
+#[tactic(auto, using(rc_values::proofs::Lists::blanks_more))]
 pub(crate) fn blank<'p>(alloc: Global, kinds: &'p [Kind], count: u64) -> Result<Object<'p>, Stop>
     ensures object { IfOk result (λ o. o ≡ blank kinds.now count) }
     ensures memory { IfErr result (λ stop. stop ≡ Cut Memory) }

@@ -6,12 +6,11 @@ ghost use Rattle.rc_base.specs.declared.ends.RunFault.TheVariants.{Memory};
 ghost use Rattle.rc_core.specs.Heap.{update};
 ghost use Rattle.rc_core.specs.Source.{overwritten};
 ghost use Rattle.rc_memory.specs.Kept.{KeptObject, object_names};
-ghost use Rattle.rc_memory.specs.Values.{value_of};
-ghost use Rattle.rc_memory.specs.declared.stop.Stop.TheVariants.{Cut};
+ghost use Rattle.rc_values.specs.Values.{value_of};
+ghost use Rattle.rc_values.specs.declared.stop.Stop.TheVariants.{Cut};
 
 use crate::object::Object;
-use crate::stop::Stop;
-use crate::value::Value;
+use rc_values::{Stop, Value};
 use std::alloc::Global;
 use std::marker::Model;
 
@@ -43,7 +42,7 @@ fn any_names(region: u32, objects: &[Object]) -> bool
     false
 }
 
-#[tactic(auto, using(crate::proofs::Lists::update_set, crate::proofs::Lists::update_past))]
+#[tactic(auto, using(rc_values::proofs::Lists::update_set, rc_values::proofs::Lists::update_past))]
 fn write_object(objects: &mut Vec<Object>, number: usize, place: u64, values: &[Value])
     ensures { objects.new.items ≡ update objects.old.items number (λ (o : KeptObject). record o { values = overwritten place (map value_of values.now) o.values }) }
 {

@@ -1,4 +1,1 @@
-pub mod LiveParts
-pub mod LiveFrames
-pub mod Lives
 pub mod Results

@@ -7,13 +7,14 @@ use Rattle.rc_core.specs.Heap.{Value}
 use Rattle.rc_core.specs.Programs.{Stmts, Function, Program, block, done, then}
 use Rattle.rc_core.specs.Runs.{Run, Go, bind}
 use Rattle.rc_core.specs.Shapes.{stmt_of, stmts_of}
-use Rattle.rc_nodes.specs.declared.frames.Control.{Control as CodeControl}
-use Rattle.rc_memory.specs.declared.stop.Stop.{Stop as CodeStop}
-use Rattle.rc_memory.specs.declared.stop.Stop.TheVariants.{Ends, Stale, Cut}
-use Rattle.rc_nodes.specs.Codes.{control_of, behind_so_many}
+use Rattle.rc_nodes.specs.declared.control.Control.{Control as CodeControl}
+use Rattle.rc_values.specs.declared.stop.Stop.{Stop as CodeStop}
+use Rattle.rc_values.specs.declared.stop.Stop.TheVariants.{Ends, Stale, Cut}
+use Rattle.rc_frames.specs.Codes.{behind_so_many}
+use Rattle.rc_nodes.specs.Controls.{control_of}
 use Rattle.rc_nodes.specs.Coming.{Comes}
 use Rattle.rc_memory.specs.Leaving.{StopsRun}
-use Rattle.rc_nodes.specs.Frames.{Frame}
+use Rattle.rc_frames.specs.Frames.{Frame}
 use Rattle.rc_memory.specs.KeptWorld.{KeptWorld}
 use Rattle.rc_nodes.specs.Stepping.{Doing, doing, execute, within_step}
 

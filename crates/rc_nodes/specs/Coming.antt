@@ -3,14 +3,14 @@ use Rattle.std.specs.Prelude.{◌≡◌, ℕ, Bool, true, false, List, Result, O
 use Rattle.rc_core.specs.Programs.{Expr, new_subregion, allocate, putchar}
 use Rattle.rc_core.specs.Heap.{Value}
 use Rattle.rc_core.specs.Runs.{Run, Go}
-use Rattle.rc_memory.specs.declared.stop.Stop.{Stop as CodeStop}
-use Rattle.rc_nodes.specs.declared.frames.Control.{Control as CodeControl}
+use Rattle.rc_values.specs.declared.stop.Stop.{Stop as CodeStop}
+use Rattle.rc_nodes.specs.declared.control.Control.{Control as CodeControl}
 use Rattle.rc_memory.specs.Kept.{KeptHeap}
 use Rattle.rc_memory.specs.KeptWorld.{KeptWorld, with_heap}
 use Rattle.rc_memory.specs.Leaving.{StopsRun}
-use Rattle.rc_nodes.specs.Frames.{Frame}
+use Rattle.rc_frames.specs.Frames.{Frame}
 use Rattle.rc_nodes.specs.Stepping.{Doing, doing}
-use Rattle.rc_nodes.specs.Codes.{control_of}
+use Rattle.rc_nodes.specs.Controls.{control_of}
 
 -- with these frames, locals and this heap
 abbrev pub Comes : Result CodeControl CodeStop → List Frame → List Value → KeptHeap → KeptWorld → Run KeptWorld Doing → Type 0

@@ -1,7 +1,3 @@
-pub mod LiveAt
-pub mod LiveBehind
-pub mod Frames
 pub mod Stepping
-pub mod Codes
+pub mod Controls
 pub mod Coming
-pub mod Waiting

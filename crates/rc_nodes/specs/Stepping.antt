@@ -10,7 +10,7 @@ use Rattle.rc_core.specs.Runs.{Run, Go, bind, spent, branching, computed, Target
 use Rattle.rc_core.specs.Evaluation.{number_in, is_true, same_value, toward, static, aimed, further, region_named, give_number, as_wanted, local_at}
 use Rattle.rc_core.specs.Execution.{held, with_local, local_type, changed}
 use Rattle.rc_memory.specs.KeptWorld.{KeptWorld, kept}
-use Rattle.rc_nodes.specs.Frames.{Frame, first, second, pointer, index, element as element_frame, load, inside, Stage, placed, sourced, valued, stored, within, tested, bodied, headed, thirded, ways}
+use Rattle.rc_frames.specs.Frames.{Frame, first, second, pointer, index, element as element_frame, load, inside, Stage, placed, sourced, valued, stored, within, tested, bodied, headed, thirded, ways}
 
 -- it evaluates or executes, or something has come out
 pub data Control : Type 0 where

@@ -8,28 +8,30 @@ ghost use Rattle.rc_core.specs.Layout.{cells};
 ghost use Rattle.rc_core.specs.Programs.{Program, Expr as CleanExpr, Function as CleanFunction, new_region, new_subregion};
 ghost use Rattle.rc_core.specs.Runs.{Calls, Go, Run, bind, computed};
 ghost use Rattle.rc_core.specs.Shapes.{expr_of, program_of, ty_of};
-ghost use Rattle.rc_nodes.specs.Codes.{control_of, frames_of};
+ghost use Rattle.rc_frames.specs.Codes.{frames_of};
+ghost use Rattle.rc_nodes.specs.Controls.{control_of};
 ghost use Rattle.rc_nodes.specs.Coming.{Comes, stays_inside};
-ghost use Rattle.rc_nodes.specs.Frames.{Frame as MachineFrame, first, second};
+ghost use Rattle.rc_frames.specs.Frames.{Frame as MachineFrame, first, second};
 ghost use Rattle.rc_memory.specs.Kept.{KeptHeap};
 ghost use Rattle.rc_memory.specs.KeptWorld.{KeptWorld, kept};
 ghost use Rattle.rc_core.specs.Laid.{AreLaidOut};
 ghost use Rattle.rc_memory.specs.Leaving.{Leaves};
 ghost use Rattle.rc_nodes.specs.Stepping.{begin, doing, evaluating, first_step, giving_next, needs_no_world, second_step};
-ghost use Rattle.rc_memory.specs.Values.{value_of};
-ghost use Rattle.rc_memory.specs.declared.stop.Stop.TheVariants.{Cut};
+ghost use Rattle.rc_values.specs.Values.{value_of};
+ghost use Rattle.rc_values.specs.declared.stop.Stop.TheVariants.{Cut};
 
-use crate::frames::{Control, Frame};
+use crate::control::Control;
 use crate::places::begin_place;
 use crate::setting::Setting;
-use crate::waiting::Waiting;
 use rc_base::Trap;
 use rc_core::expr::Expr;
 use rc_core::operators::Direction;
 use rc_core::ty::Ty;
 use rc_core::{calculate, calculate_one, converted};
-use rc_memory::{
-    Heap, Stop, Target, Value, Values, as_wanted, is_same, is_true, number_in, static_pointer, trap,
+use rc_frames::{Frame, Waiting};
+use rc_memory::Heap;
+use rc_values::{
+    Stop, Target, Value, Values, as_wanted, is_same, is_true, number_in, static_pointer, trap,
 };
 
 /// A number that was computed, or a trap.

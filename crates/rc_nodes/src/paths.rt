@@ -5,16 +5,17 @@ ghost use Rattle.rc_base.specs.declared.ends.RunFault.TheVariants.{Memory};
 ghost use Rattle.rc_core.specs.Heap.{Value as HeapValue};
 ghost use Rattle.rc_core.specs.Programs.{Program};
 ghost use Rattle.rc_core.specs.Shapes.{path_of};
-ghost use Rattle.rc_nodes.specs.Codes.{control_of, frames_of};
+ghost use Rattle.rc_frames.specs.Codes.{frames_of};
+ghost use Rattle.rc_nodes.specs.Controls.{control_of};
 ghost use Rattle.rc_core.specs.Laid.{AreLaidOut};
 ghost use Rattle.rc_nodes.specs.Stepping.{along_step, doing};
-ghost use Rattle.rc_memory.specs.declared.stop.Stop.TheVariants.{Cut};
+ghost use Rattle.rc_values.specs.declared.stop.Stop.TheVariants.{Cut};
 
-use crate::frames::{Control, Frame};
-use crate::waiting::Waiting;
+use crate::control::Control;
 use rc_core::Layouts;
 use rc_core::expr::PathStep;
-use rc_memory::{Stop, Target};
+use rc_frames::{Frame, Waiting};
+use rc_values::{Stop, Target};
 
 /// One step inward: to a field, or to the index of an array field. At the end of the way the place
 /// comes out.

@@ -6,16 +6,17 @@ ghost use Rattle.rc_core.specs.Programs.{Program};
 ghost use Rattle.rc_core.specs.Heap.{Value as HeapValue};
 ghost use Rattle.rc_core.specs.Shapes.{path_of, place_of};
 ghost use Rattle.rc_core.specs.Evaluation.{choosing, number_in};
-ghost use Rattle.rc_nodes.specs.Codes.{control_of, frames_of};
-ghost use Rattle.rc_nodes.specs.Frames.{Frame as MachineFrame};
+ghost use Rattle.rc_frames.specs.Codes.{frames_of};
+ghost use Rattle.rc_nodes.specs.Controls.{control_of};
+ghost use Rattle.rc_frames.specs.Frames.{Frame as MachineFrame};
 ghost use Rattle.rc_nodes.specs.Stepping.{doing, going_along, index_step, pointer_step, start};
-ghost use Rattle.rc_memory.specs.Values.{value_of};
-ghost use Rattle.rc_memory.specs.declared.stop.Stop.TheVariants.{Cut};
+ghost use Rattle.rc_values.specs.Values.{value_of};
+ghost use Rattle.rc_values.specs.declared.stop.Stop.TheVariants.{Cut};
 
-use crate::frames::{Control, Frame};
-use crate::waiting::Waiting;
+use crate::control::Control;
 use rc_core::expr::{PathStep, Place};
-use rc_memory::{Chosen, Stop, Target, Value, aimed, number_in, static_pointer};
+use rc_frames::{Frame, Waiting};
+use rc_values::{Chosen, Stop, Target, Value, aimed, number_in, static_pointer};
 use std::alloc::Global;
 
 #[tactic(auto, using(rc_core::proofs::ShapeRows::global_is))]

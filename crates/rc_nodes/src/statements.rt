@@ -6,22 +6,23 @@ ghost use Rattle.rc_core.specs.Execution.{local_type};
 ghost use Rattle.rc_core.specs.Heap.{Value as HeapValue, zero_of};
 ghost use Rattle.rc_core.specs.Programs.{Program, Function as CleanFunction, declare, return};
 ghost use Rattle.rc_core.specs.Shapes.{expr_of, function_of, place_of, stmt_of};
-ghost use Rattle.rc_nodes.specs.Codes.{control_of, frames_of, rest_behind, stage_of};
+ghost use Rattle.rc_frames.specs.Codes.{frames_of, rest_behind, stage_of};
+ghost use Rattle.rc_nodes.specs.Controls.{control_of};
 ghost use Rattle.rc_nodes.specs.Coming.{Comes, Turned, with_turns};
-ghost use Rattle.rc_nodes.specs.Frames.{Frame as MachineFrame, inside};
+ghost use Rattle.rc_frames.specs.Frames.{Frame as MachineFrame, inside};
 ghost use Rattle.rc_memory.specs.KeptWorld.{KeptWorld};
 ghost use Rattle.rc_nodes.specs.Stepping.{Doing, body_step, break_step, broken, continue_step, doing, evaluating, execute, executing, go_step, head_step, headed_step, start, test_step, third_step, turning_to, within_step};
-ghost use Rattle.rc_memory.specs.Values.{value_of};
-ghost use Rattle.rc_memory.specs.declared.stop.Stop.TheVariants.{Cut};
+ghost use Rattle.rc_values.specs.Values.{value_of};
+ghost use Rattle.rc_values.specs.declared.stop.Stop.TheVariants.{Cut};
 
-use crate::frames::{Control, Frame, Stage};
+use crate::control::Control;
 use crate::places::begin_place;
-use crate::waiting::Waiting;
 use rc_base::End;
 use rc_core::expr::{Expr, Place};
 use rc_core::parts::Function;
 use rc_core::stmt::Stmt;
-use rc_memory::{Stop, Value, Values, is_true, zero_of};
+use rc_frames::{Frame, Stage, Waiting};
+use rc_values::{Stop, Value, Values, is_true, zero_of};
 use std::alloc::Global;
 
 /// The statement waits for the value of an expression.

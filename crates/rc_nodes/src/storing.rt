@@ -8,27 +8,28 @@ ghost use Rattle.rc_core.specs.Heap.{Value as HeapValue, Number};
 ghost use Rattle.rc_core.specs.Programs.{Program};
 ghost use Rattle.rc_core.specs.Runs.{Go, bind, computed};
 ghost use Rattle.rc_core.specs.Shapes.{stmt_of};
-ghost use Rattle.rc_nodes.specs.Codes.{control_of, frames_of, stage_of};
+ghost use Rattle.rc_frames.specs.Codes.{frames_of, stage_of};
+ghost use Rattle.rc_nodes.specs.Controls.{control_of};
 ghost use Rattle.rc_nodes.specs.Coming.{Comes, with_turns};
-ghost use Rattle.rc_nodes.specs.Frames.{Frame as MachineFrame, ways};
+ghost use Rattle.rc_frames.specs.Frames.{Frame as MachineFrame, ways};
 ghost use Rattle.rc_memory.specs.KeptWorld.{KeptWorld, kept};
 ghost use Rattle.rc_core.specs.Laid.{AreLaidOut};
 ghost use Rattle.rc_memory.specs.Leaving.{Leaves};
-ghost use Rattle.rc_nodes.specs.Waiting.{waiting_of};
+ghost use Rattle.rc_frames.specs.Waiting.{waiting_of};
 ghost use Rattle.rc_nodes.specs.Stepping.{aimed_step, copy_step, doing, given_step, going_next, place_step, source_step, stored_step, value_step};
-ghost use Rattle.rc_memory.specs.Values.{value_of};
-ghost use Rattle.rc_memory.specs.declared.stop.Stop.TheVariants.{Cut};
+ghost use Rattle.rc_values.specs.Values.{value_of};
+ghost use Rattle.rc_values.specs.declared.stop.Stop.TheVariants.{Cut};
 
-use crate::calls::{Callers, held_values};
-use crate::frames::{Control, Stage};
+use crate::control::Control;
 use crate::setting::Setting;
 use crate::statements::{value_to_condition, wait_for_place, wait_for_value};
-use crate::waiting::Waiting;
 use rc_base::Trap;
 use rc_core::stmt::{Change, Stmt};
 use rc_core::ty::NumberType;
 use rc_core::{calculate, converted, type_of};
-use rc_memory::{Heap, Stop, Target, Value, Values, is_true, number_in, trap};
+use rc_frames::{Callers, Stage, Waiting, held_values};
+use rc_memory::Heap;
+use rc_values::{Stop, Target, Value, Values, is_true, number_in, trap};
 use std::alloc::Global;
 
 /// Deletes a region, which neither live locals nor what waits in callers may name.

@@ -4,19 +4,15 @@ use Rattle.std.specs.declared.boxed.Box.{Box}
 use Rattle.std.specs.declared.alloc.Global.{Global as Alloc}
 use Rattle.rc_core.specs.declared.expr.Expr.{Expr as CodeExpr}
 use Rattle.rc_core.specs.Programs.{Expr, Field}
-use Rattle.rc_core.specs.Shapes.{ty_of, expr_of, place_of, field_of}
+use Rattle.rc_core.specs.Shapes.{ty_of, expr_of, field_of}
 use Rattle.rc_rules.specs.declared.meanings.Signature.{Signature as CodeSignature}
 use Rattle.rc_rules.specs.declared.meanings.Meaning.{Meaning as CodeMeaning}
 use Rattle.rc_rules.specs.declared.meanings.Meaning.TheVariants as meaning
 use Rattle.rc_rules.specs.declared.meanings.Callee.{Callee as CodeCallee}
 use Rattle.rc_rules.specs.declared.meanings.Callee.TheVariants as callee
 use Rattle.rc_rules.specs.declared.meanings.Found.{Found}
-use Rattle.rc_rules.specs.declared.meanings.RightSide.{RightSide as CodeSide}
-use Rattle.rc_rules.specs.declared.meanings.RightSide.TheVariants as side
-use Rattle.rc_operators.specs.Shapes.{typed_of}
 use Rattle.rc_deletes.specs.Scopes.{Signature, Meaning, a_local, a_global, a_function, a_builtin}
 use Rattle.rc_deletes.specs.Calls.{Callee, the_function, the_builtin, no_function}
-use Rattle.rc_deletes.specs.Statements.{RightSide, one_value, whole_struct}
 
 abbrev pub code_of : Box CodeExpr Alloc → Expr
 code_of b = expr_of b.value
@@ -37,7 +33,3 @@ callee_of callee.NoFunction = no_function
 
 abbrev pub found_of : Found → ℕ × Field
 found_of f = (f.number, field_of f.field.now)
-
-abbrev pub right_of : CodeSide → RightSide
-right_of (side.Value v) = one_value (typed_of v)
-right_of (side.Struct place s) = whole_struct (place_of place.value) s

@@ -1,10 +1,8 @@
 // What names and parts of expressions are found to be.
 
-use rc_core::expr::Place;
 use rc_core::parts::Field;
 use rc_core::ty::Ty;
 use rc_deletes::Builtin;
-use rc_operators::Typed;
 
 /// What declarations of a function agree in: its parameters, its result (none for `void`), and
 /// whether it `deletes`.
@@ -41,11 +39,4 @@ pub enum Callee<'a> {
 pub struct Found<'a> {
     pub number: u32,
     pub field: &'a Field,
-}
-
-/// The right side of `=`: a value, or a place whose type is the struct of this number.
-#[derive(Drop)]
-pub enum RightSide {
-    Value(Typed),
-    Struct(Box<Place>, u32),
 }

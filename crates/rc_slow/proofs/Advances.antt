@@ -7,18 +7,19 @@ use Rattle.rc_base.specs.declared.ends.End.TheVariants.{Spent}
 use Rattle.rc_core.specs.Execution.{first_locals, held}
 use Rattle.rc_core.specs.Programs.{Expr, constant, null, string, local, read, address, step, step_from, unary, binary, convert, not_zero, and, or, choose, is_null, same, call, none, more, new_region, new_subregion, region_of, allocate, allocate_array, putchar, getchar, Program, Function}
 use Rattle.rc_core.specs.Runs.{Run, Go, Target, bind}
-use Rattle.rc_nodes.specs.declared.frames.Control.{Control as CodeControl}
+use Rattle.rc_nodes.specs.declared.control.Control.{Control as CodeControl}
 use Rattle.rc_slow.specs.declared.machine.Machine.{Machine as CodeMachine}
-use Rattle.rc_memory.specs.declared.stop.Stop.{Stop as CodeStop}
-use Rattle.rc_memory.specs.declared.stop.Stop.TheVariants.{Ends, Stale, Cut}
+use Rattle.rc_values.specs.declared.stop.Stop.{Stop as CodeStop}
+use Rattle.rc_values.specs.declared.stop.Stop.TheVariants.{Ends, Stale, Cut}
 use Rattle.rc_slow.specs.Advancing.{begins_alone, state_at, standing, Quiet, HaltsAs, Leads}
-use Rattle.rc_nodes.specs.Codes.{control_of, frames_of}
+use Rattle.rc_frames.specs.Codes.{frames_of}
+use Rattle.rc_nodes.specs.Controls.{control_of}
 use Rattle.rc_nodes.specs.Coming.{Comes}
 use Rattle.rc_memory.specs.Leaving.{StopsRun}
-use Rattle.rc_nodes.specs.Frames.{Frame, first, second, argument, pointer, index, element, load, inside, ways}
+use Rattle.rc_frames.specs.Frames.{Frame, first, second, argument, pointer, index, element, load, inside, ways}
 use Rattle.rc_memory.specs.KeptWorld.{KeptWorld, with_heap, turn_from}
 use Rattle.rc_slow.specs.Standing.{activation_of, callers_of}
-use Rattle.rc_nodes.specs.Waiting.{CodeActivations, held_by, held_over, waiting_of}
+use Rattle.rc_frames.specs.Waiting.{CodeActivations, held_by, held_over, waiting_of}
 use Rattle.rc_nodes.specs.Stepping.{Control, Doing, executing, begin, needs_no_world}
 use Rattle.rc_slow.specs.Whole.{Activation, State, Progress, onward, staying, entered, call_from, called, with_calls, goes_step, breaks_step, continues_step, aim_step, give_step, evaluate_step}
 

@@ -12,16 +12,16 @@ use Rattle.rc_core.specs.Heap.{Value, Null, first_heap}
 use Rattle.rc_core.specs.Programs.{Function, Program}
 use Rattle.rc_core.specs.Runs.{Ends as EndsStop, Run, Stopped, bind}
 use Rattle.rc_slow.specs.declared.machine.Machine.{Machine as CodeMachine}
-use Rattle.rc_memory.specs.declared.stop.Stop.{Stop as CodeStop}
-use Rattle.rc_memory.specs.declared.stop.Stop.TheVariants.{Cut}
-use Rattle.rc_memory.specs.declared.value.Value.{Value as CodeValue}
+use Rattle.rc_values.specs.declared.stop.Stop.{Stop as CodeStop}
+use Rattle.rc_values.specs.declared.stop.Stop.TheVariants.{Cut}
+use Rattle.rc_values.specs.declared.value.Value.{Value as CodeValue}
 use Rattle.rc_slow.specs.Beginning.{Begins, beginning, from_beginning}
 use Rattle.rc_slow.specs.Going.{Arrives, Came, CutOff, Finished, Going, Halted, StopsAt, Way, way_from}
 use Rattle.rc_memory.specs.Kept.{KeptHeap, kept_heap}
 use Rattle.rc_memory.specs.KeptWorld.{KeptWorld}
 use Rattle.rc_slow.specs.Outside.{later}
 use Rattle.rc_slow.specs.Standing.{activation_of, callers_of}
-use Rattle.rc_nodes.specs.Waiting.{CodeActivations, waiting_of}
+use Rattle.rc_frames.specs.Waiting.{CodeActivations, waiting_of}
 use Rattle.rc_nodes.specs.Stepping.{executing}
 use Rattle.rc_slow.specs.Whole.{Activation, State, finally, first_state, started, whole}
 use Rattle.rc_slow.proofs.Whole.{started_right}

@@ -21,9 +21,9 @@ use Rattle.rc_core.specs.Programs.{Program}
 use Rattle.rc_core.specs.Runs.{Stop, Ends as EndsStop, Stale as StaleStop, Run, Go, Stopped, bind}
 use Rattle.rc_core.specs.Source.{World, source}
 use Rattle.rc_safety.proofs.Never.{never_touches_deleted}
-use Rattle.rc_memory.specs.declared.stop.Stop.{Stop as CodeStop}
-use Rattle.rc_memory.specs.declared.stop.Stop.TheVariants.{Ends, Stale, Cut}
-use Rattle.rc_memory.specs.declared.value.Value.{Value as CodeValue}
+use Rattle.rc_values.specs.declared.stop.Stop.{Stop as CodeStop}
+use Rattle.rc_values.specs.declared.stop.Stop.TheVariants.{Ends, Stale, Cut}
+use Rattle.rc_values.specs.declared.value.Value.{Value as CodeValue}
 use Rattle.rc_slow.specs.Advancing.{Finishes}
 use Rattle.rc_slow.specs.Beginning.{from_beginning}
 use Rattle.rc_memory.specs.Change.{mapped}
@@ -33,7 +33,7 @@ use Rattle.rc_memory.specs.KeptWorld.{KeptWorld, byte_from, doing, kept, kept_wo
 use Rattle.rc_slow.specs.Outside.{later}
 use Rattle.rc_slow.specs.Performing.{LeavesOutside}
 use Rattle.rc_slow.specs.Prefix.{behind_acts}
-use Rattle.rc_memory.specs.Values.{value_of}
+use Rattle.rc_values.specs.Values.{value_of}
 use Rattle.rc_slow.specs.Whole.{Activation, State, whole}
 use Rattle.rc_memory.proofs.Keeps.{kept_agrees}
 use Rattle.rc_slow.proofs.Prefixes.{acts_agree}

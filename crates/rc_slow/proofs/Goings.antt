@@ -17,11 +17,11 @@ use Rattle.rc_slow.specs.declared.machine.Progress.{Progress as CodeProgress}
 use Rattle.rc_slow.specs.declared.machine.Progress.TheVariants.{Onward as OnwardProgress, Ended as EndedProgress, Asks, Writes}
 use Rattle.rc_slow.specs.declared.outside.Next.{Next as CodeNext}
 use Rattle.rc_slow.specs.declared.outside.Next.TheVariants.{Onward, Ended}
-use Rattle.rc_memory.specs.declared.stop.Stop.{Stop as CodeStop}
-use Rattle.rc_memory.specs.declared.stop.Stop.TheVariants.{Ends, Stale, Cut}
+use Rattle.rc_values.specs.declared.stop.Stop.{Stop as CodeStop}
+use Rattle.rc_values.specs.declared.stop.Stop.TheVariants.{Ends, Stale, Cut}
 use Rattle.rc_slow.specs.Advancing.{Finishes, Halts, HaltsAs, standing, state_at}
-use Rattle.rc_nodes.specs.Codes.{control_of}
-use Rattle.rc_memory.specs.Values.{value_of}
+use Rattle.rc_nodes.specs.Controls.{control_of}
+use Rattle.rc_values.specs.Values.{value_of}
 use Rattle.rc_slow.specs.Going.{Way, at, Fits, Came, Going, GoesOn, Halted, Left, CutOff, StopsAt, Comes}
 use Rattle.rc_memory.specs.KeptWorld.{KeptWorld, kept}
 use Rattle.rc_slow.specs.Outside.{HasStopCause, later}

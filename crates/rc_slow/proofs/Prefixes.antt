@@ -3,7 +3,7 @@ use Rattle.std.proofs.Common.{◌≡◌, ℕ, zero, suc, ℤ, pos, negsuc, List,
 use Rattle.rc_base.specs.Acts.{Act, Write, Getchar}
 use Rattle.rc_core.specs.Layout.{Layout}
 use Rattle.rc_core.specs.Runs.{Go}
-use Rattle.rc_memory.specs.Outcomes.{Outcome}
+use Rattle.rc_values.specs.Outcomes.{Outcome}
 use Rattle.rc_memory.specs.Change.{mapped, Agree}
 use Rattle.rc_memory.specs.Kept.{KeptHeap, live_region, load, load_all, step}
 use Rattle.rc_memory.specs.KeptWorld.{KeptWorld, kept, giving, leaving, turn_from, byte_from, doing, in_region}

@@ -12,10 +12,10 @@ use Rattle.rc_core.specs.Heap.{Value, Number, Null, Handle, Pointer}
 use Rattle.rc_core.specs.Runs.{Run, Go, Stopped, bind, branching, computed, Target, Calls}
 use Rattle.rc_core.specs.Evaluation.{number_in, is_true, toward, region_named, give_number}
 use Rattle.rc_core.specs.Execution.{held, function_deletes, zero_result, calls_within, changed}
-use Rattle.rc_memory.specs.Outcomes.{Outcome}
+use Rattle.rc_values.specs.Outcomes.{Outcome}
 use Rattle.rc_memory.specs.Kept.{KeptHeap, live_region, load, load_all, store as stored_values, step as step_on}
 use Rattle.rc_memory.specs.KeptWorld.{KeptWorld, kept, giving, leaving, in_region, turn_from, byte_from}
-use Rattle.rc_nodes.specs.Frames.{Frame, first, second, argument, pointer, index, element as element_frame, load as load_frame, inside, Stage, placed, sourced, valued, stored, within, tested, bodied, headed, thirded, ways}
+use Rattle.rc_frames.specs.Frames.{Frame, first, second, argument, pointer, index, element as element_frame, load as load_frame, inside, Stage, placed, sourced, valued, stored, within, tested, bodied, headed, thirded, ways}
 use Rattle.rc_nodes.specs.Stepping.{Control, after_second, evaluating, executing, going_along, gives, aims, goes, breaks, continues, returns, Doing, start, begin, giving_next, first_step, second_step, pointer_step, index_step, along_step, execute, going_next, value_step, stored_step, one_fewer, turning_to, test_step, given_step, place_step, source_step, aimed_step, head_step, body_step, within_step, headed_step, third_step, go_step, continue_step, break_step}
 use Rattle.rc_slow.specs.Whole.{Activation, State, onward, left, staying, called, with_calls, call_from, entered, call_step, evaluate_step, argument_step, leave_step, give_step, aim_step, goes_step, breaks_step, continues_step, returns_step, control_step}
 use Rattle.rc_slow.specs.Size.{size_of_expr, size_of_arguments, size_of_place, size_of_path, size_of_part, size_of_stmt, size_of_stmts, left_of_expr, left_of_pointer, left_of_index, left_of_place, left_of_value, left_of_test, left_of_body, left_of_head, left_inside, size_of_frames, size_of_control, size_of_doing, size_of_calls, LeadsBelow, Falls, size_of}

@@ -9,7 +9,7 @@ use Rattle.rc_core.specs.Runs.{Run, Go, Stopped, bind, spent, branching, Target,
 use Rattle.rc_core.specs.Evaluation.{is_true, target}
 use Rattle.rc_core.specs.Execution.{Flow, Next, Broke, Continued, Returned, held, changed}
 use Rattle.rc_memory.specs.KeptWorld.{KeptWorld, kept}
-use Rattle.rc_nodes.specs.Frames.{Frame, first, second, argument, pointer, index, element as element_frame, load, inside, Stage, placed, sourced, valued, stored, within, tested, bodied, headed, thirded, ways}
+use Rattle.rc_frames.specs.Frames.{Frame, first, second, argument, pointer, index, element as element_frame, load, inside, Stage, placed, sourced, valued, stored, within, tested, bodied, headed, thirded, ways}
 use Rattle.rc_slow.specs.Machine.{calls_at, give_on, aim_on, flow_on, value_given, stored_given, test_given, place_given, source_given, body_done, third_done, head_done, while_rounds, repeat_rounds, for_rounds, going_on}
 use Rattle.rc_nodes.specs.Stepping.{Doing, doing, evaluating, executing, going_along, gives, aims, goes, breaks, continues, returns, start, begin, giving_next, first_step, second_step, pointer_step, index_step, along_step, execute, going_next, value_step, stored_step, turning_to, test_step, given_step, place_step, source_step, aimed_step, head_step, body_step, within_step, headed_step, third_step, go_step, continue_step, broken, break_step}
 

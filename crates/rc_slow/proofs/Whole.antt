@@ -7,7 +7,7 @@ use Rattle.rc_core.specs.Runs.{Run, Go, Stopped, bind, spent, branching, Target,
 use Rattle.rc_core.specs.Evaluation.{eval, eval_all, number_in, choosing}
 use Rattle.rc_core.specs.Execution.{held, function_deletes, zero_result, run_function, calls_within, run_main}
 use Rattle.rc_memory.specs.KeptWorld.{KeptWorld, kept}
-use Rattle.rc_nodes.specs.Frames.{Frame, first, second, argument, pointer, index, element, load, inside, ways}
+use Rattle.rc_frames.specs.Frames.{Frame, first, second, argument, pointer, index, element, load, inside, ways}
 use Rattle.rc_slow.specs.Machine.{calls_at, give_on, going_on, control_on}
 use Rattle.rc_nodes.specs.Stepping.{Control, evaluating, executing, going_along, gives, aims, goes, breaks, continues, returns, Doing, doing, begin, giving_next, first_step, second_step, pointer_step, index_step, along_step, execute, given_step, aimed_step, go_step, continue_step, break_step}
 use Rattle.rc_slow.specs.Whole.{Activation, State, Progress, onward, ended, resume, whole, finally, staying, called, with_calls, call_from, entered, call_step, evaluate_step, leave_step, give_step, aim_step, goes_step, breaks_step, continues_step, returns_step, control_step, first_state, started, steps}

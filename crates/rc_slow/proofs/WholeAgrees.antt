@@ -12,7 +12,7 @@ use Rattle.rc_core.specs.Evaluation.{eval, number_in, is_true, toward, aimed}
 use Rattle.rc_core.specs.Execution.{Flow, Next, Broke, Continued, Returned, held, calls_within}
 use Rattle.rc_memory.specs.Change.{mapped, Agree}
 use Rattle.rc_memory.specs.KeptWorld.{KeptWorld, kept}
-use Rattle.rc_nodes.specs.Frames.{Frame, first, second, argument, pointer, index, element as element_frame, load, inside, Stage, placed, sourced, valued, stored, within, tested, bodied, headed, thirded, ways}
+use Rattle.rc_frames.specs.Frames.{Frame, first, second, argument, pointer, index, element as element_frame, load, inside, Stage, placed, sourced, valued, stored, within, tested, bodied, headed, thirded, ways}
 use Rattle.rc_slow.specs.Machine.{after_first, after_pointer, after_index, while_rounds, repeat_rounds, for_rounds, turning, value_given, stored_given, test_given, given, copied, place_given, source_given, aimed_at, body_done, third_done, head_done, finished, calls_at, flow_on, give_on, aim_on, control_on}
 use Rattle.rc_nodes.specs.Stepping.{Control, after_second, evaluating, executing, going_along, gives, aims, goes, breaks, continues, returns}
 use Rattle.rc_slow.specs.Whole.{Activation, State, left, resume, whole}

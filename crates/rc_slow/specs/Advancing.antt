@@ -6,18 +6,18 @@ use Rattle.rc_base.specs.declared.ends.RunFault.TheVariants.{Memory}
 use Rattle.rc_core.specs.Heap.{Number}
 use Rattle.rc_core.specs.Programs.{Expr, call, new_region, getchar}
 use Rattle.rc_core.specs.Runs.{Stop, Ends, Stale, Run, Go, Stopped, bind}
-use Rattle.rc_nodes.specs.declared.frames.Control.{Control as CodeControl}
+use Rattle.rc_nodes.specs.declared.control.Control.{Control as CodeControl}
 use Rattle.rc_slow.specs.declared.machine.Machine.{Machine as CodeMachine}
 use Rattle.rc_slow.specs.declared.machine.Progress.{Progress as CodeProgress}
 use Rattle.rc_slow.specs.declared.machine.Progress.TheVariants.{Onward, Ended, Asks, Writes}
-use Rattle.rc_memory.specs.declared.stop.Stop.{Stop as CodeStop}
-use Rattle.rc_memory.specs.declared.stop.Stop.TheVariants.{Ends as CodeEnds, Stale as CodeStale, Cut}
-use Rattle.rc_nodes.specs.Codes.{control_of}
+use Rattle.rc_values.specs.declared.stop.Stop.{Stop as CodeStop}
+use Rattle.rc_values.specs.declared.stop.Stop.TheVariants.{Ends as CodeEnds, Stale as CodeStale, Cut}
+use Rattle.rc_nodes.specs.Controls.{control_of}
 use Rattle.rc_memory.specs.KeptWorld.{KeptWorld, kept, doing}
 use Rattle.rc_slow.specs.Standing.{activation_of, callers_of}
-use Rattle.rc_nodes.specs.Waiting.{waiting_of}
+use Rattle.rc_frames.specs.Waiting.{waiting_of}
 use Rattle.rc_nodes.specs.Stepping.{Control, gives}
-use Rattle.rc_memory.specs.Values.{value_of}
+use Rattle.rc_values.specs.Values.{value_of}
 use Rattle.rc_slow.specs.Whole.{State, Progress, onward, ended}
 
 -- the machine with this to do, and the world as it keeps it; what it doesn't keep is that of w

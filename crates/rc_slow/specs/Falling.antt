@@ -4,7 +4,7 @@ use Rattle.rc_slow.specs.declared.machine.Machine.{Machine as CodeMachine}
 use Rattle.rc_slow.specs.declared.outside.Next.{Next as CodeNext}
 use Rattle.rc_slow.specs.declared.outside.Next.TheVariants.{Onward, Ended}
 use Rattle.rc_slow.specs.Advancing.{state_at}
-use Rattle.rc_nodes.specs.Codes.{control_of}
+use Rattle.rc_nodes.specs.Controls.{control_of}
 use Rattle.rc_slow.specs.Size.{size_of}
 use Rattle.rc_nodes.specs.Stepping.{Control}
 

@@ -12,15 +12,15 @@ use Rattle.rc_core.specs.Runs.{Stop, Ends as EndsStop, Stale as StaleStop, Run, 
 use Rattle.rc_slow.specs.declared.machine.Machine.{Machine as CodeMachine}
 use Rattle.rc_slow.specs.declared.outside.Next.{Next as CodeNext}
 use Rattle.rc_slow.specs.declared.outside.Next.TheVariants.{Onward, Ended}
-use Rattle.rc_memory.specs.declared.stop.Stop.{Stop as CodeStop}
-use Rattle.rc_memory.specs.declared.stop.Stop.TheVariants.{Ends, Stale, Cut}
-use Rattle.rc_memory.specs.declared.value.Value.{Value as CodeValue}
+use Rattle.rc_values.specs.declared.stop.Stop.{Stop as CodeStop}
+use Rattle.rc_values.specs.declared.stop.Stop.TheVariants.{Ends, Stale, Cut}
+use Rattle.rc_values.specs.declared.value.Value.{Value as CodeValue}
 use Rattle.rc_slow.specs.Advancing.{Finishes, Halts, standing, state_at}
-use Rattle.rc_nodes.specs.Codes.{control_of}
+use Rattle.rc_nodes.specs.Controls.{control_of}
 use Rattle.rc_memory.specs.KeptWorld.{KeptWorld, kept, doing}
 use Rattle.rc_slow.specs.Outside.{later}
 use Rattle.rc_nodes.specs.Stepping.{Control}
-use Rattle.rc_memory.specs.Values.{value_of}
+use Rattle.rc_values.specs.Values.{value_of}
 use Rattle.rc_slow.specs.Whole.{State, whole}
 
 -- a run from any world, and the outside at its start and now

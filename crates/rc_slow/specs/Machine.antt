@@ -11,7 +11,7 @@ use Rattle.rc_core.specs.Runs.{Run, Go, bind, branching, computed, Target, Calls
 use Rattle.rc_core.specs.Evaluation.{number_in, is_true, toward, aimed, choosing, region_named, give_number, as_wanted, same_value, eval, eval_all, target, along}
 use Rattle.rc_core.specs.Execution.{Flow, Next, Broke, Continued, Returned, held, with_local, zero_result, result_of, behind, behind_body as behind_round, calling, value_of, changed, rounds, rounds_first, test_of, exec, exec_all}
 use Rattle.rc_memory.specs.KeptWorld.{KeptWorld, kept}
-use Rattle.rc_nodes.specs.Frames.{Frame, first, second, argument, pointer, index, element as element_frame, load, inside, Stage, placed, sourced, valued, stored, within, tested, bodied, headed, thirded, ways}
+use Rattle.rc_frames.specs.Frames.{Frame, first, second, argument, pointer, index, element as element_frame, load, inside, Stage, placed, sourced, valued, stored, within, tested, bodied, headed, thirded, ways}
 use Rattle.rc_nodes.specs.Stepping.{Control, evaluating, executing, going_along, gives, aims, goes, breaks, continues, returns, Doing, after_second}
 
 module _ (program : Program) (f : Function) (calls : Calls KeptWorld) where

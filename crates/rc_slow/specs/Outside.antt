@@ -2,7 +2,7 @@
 use Rattle.std.specs.Prelude.{◌≡◌, ◌≤◌, ℕ, List, ◌++◌, drop, Result, IsOk, IsErr}
 use Rattle.rc_base.specs.Acts.{Act, getchars}
 use Rattle.rc_base.specs.Causes.{Rose}
-use Rattle.rc_memory.specs.declared.stop.Stop.{Stop as CodeStop}
+use Rattle.rc_values.specs.declared.stop.Stop.{Stop as CodeStop}
 use Rattle.rc_memory.specs.KeptWorld.{KeptWorld}
 
 -- the world after these acts

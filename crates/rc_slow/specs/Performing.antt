@@ -9,21 +9,21 @@ use Rattle.rc_base.specs.declared.ends.RunFault.{RunFault}
 use Rattle.rc_base.specs.declared.ends.RunFault.TheVariants.{ReadFault, WriteFault, Memory}
 use Rattle.rc_core.specs.Heap.{Number}
 use Rattle.rc_core.specs.Runs.{Run, Go, bind}
-use Rattle.rc_nodes.specs.declared.frames.Control.TheVariants.{Gives}
+use Rattle.rc_nodes.specs.declared.control.Control.TheVariants.{Gives}
 use Rattle.rc_slow.specs.declared.machine.Machine.{Machine as CodeMachine}
 use Rattle.rc_slow.specs.declared.machine.Progress.{Progress as CodeProgress}
 use Rattle.rc_slow.specs.declared.machine.Progress.TheVariants.{Onward, Ended, Asks, Writes}
 use Rattle.rc_slow.specs.declared.outside.Next.{Next as CodeNext}
 use Rattle.rc_slow.specs.declared.outside.Next.TheVariants.{Onward as NextOnward, Ended as NextEnded}
-use Rattle.rc_memory.specs.declared.stop.Stop.{Stop as CodeStop}
-use Rattle.rc_memory.specs.declared.stop.Stop.TheVariants.{Ends, Stale, Cut}
-use Rattle.rc_memory.specs.declared.value.Value.TheVariants.{Number as CodeNumber}
+use Rattle.rc_values.specs.declared.stop.Stop.{Stop as CodeStop}
+use Rattle.rc_values.specs.declared.stop.Stop.TheVariants.{Ends, Stale, Cut}
+use Rattle.rc_values.specs.declared.value.Value.TheVariants.{Number as CodeNumber}
 use Rattle.rc_slow.specs.Advancing.{Finishes, standing, state_at}
-use Rattle.rc_nodes.specs.Codes.{control_of}
+use Rattle.rc_nodes.specs.Controls.{control_of}
 use Rattle.rc_memory.specs.KeptWorld.{KeptWorld, kept, doing}
 use Rattle.rc_slow.specs.Outside.{later}
 use Rattle.rc_nodes.specs.Stepping.{gives}
-use Rattle.rc_memory.specs.Values.{value_of}
+use Rattle.rc_values.specs.Values.{value_of}
 use Rattle.rc_slow.specs.Whole.{Progress, onward, ended}
 
 abbrev pub acts_of : CodeProgress → List Act

@@ -1,9 +1,9 @@
 -- What the evaluator's calls stand for: the one that runs, and those that wait, the innermost first.
 use Rattle.std.specs.Prelude.{false, List, [], ◌∷◌, is_some}
 use Rattle.rc_core.specs.Shapes.{function_of}
-use Rattle.rc_nodes.specs.declared.calls.Activation.{Activation as CodeActivation}
-use Rattle.rc_nodes.specs.Codes.{frames_of}
-use Rattle.rc_nodes.specs.Waiting.{waiting_of}
+use Rattle.rc_frames.specs.declared.calls.Activation.{Activation as CodeActivation}
+use Rattle.rc_frames.specs.Codes.{frames_of}
+use Rattle.rc_frames.specs.Waiting.{waiting_of}
 use Rattle.rc_slow.specs.Whole.{Activation}
 
 abbrev pub activation_of : CodeActivation → Activation

@@ -6,7 +6,7 @@ use Rattle.rc_core.specs.Runs.{Run, Go, bind, spent, Target}
 use Rattle.rc_core.specs.Evaluation.{number_in, choosing}
 use Rattle.rc_core.specs.Execution.{held, first_locals, function_deletes, zero_result, calls_within}
 use Rattle.rc_memory.specs.KeptWorld.{KeptWorld, kept}
-use Rattle.rc_nodes.specs.Frames.{Frame, first, second, argument, pointer, index, element, load, inside, ways}
+use Rattle.rc_frames.specs.Frames.{Frame, first, second, argument, pointer, index, element, load, inside, ways}
 use Rattle.rc_slow.specs.Machine.{give_on, control_on}
 use Rattle.rc_nodes.specs.Stepping.{Control, evaluating, executing, going_along, gives, aims, goes, breaks, continues, returns, Doing, doing, begin, giving_next, first_step, second_step, pointer_step, index_step, along_step, execute, given_step, aimed_step, go_step, continue_step, break_step}
 

@@ -11,8 +11,8 @@ ghost use Rattle.rc_slow.specs.Evaluates.{Evaluates};
 ghost use Rattle.rc_slow.specs.Going.{Arrives, way_from};
 ghost use Rattle.rc_core.specs.Laid.{AreLaidOut};
 ghost use Rattle.rc_slow.specs.Performing.{LeavesOutside};
-ghost use Rattle.rc_memory.specs.Values.{value_of};
-ghost use Rattle.rc_memory.specs.declared.stop.Stop.TheVariants.{Cut};
+ghost use Rattle.rc_values.specs.Values.{value_of};
+ghost use Rattle.rc_values.specs.declared.stop.Stop.TheVariants.{Cut};
 
 use crate::machine::Machine;
 use crate::run::run_to_end;
@@ -20,8 +20,10 @@ use rc_base::{End, Limits, RunFault, Sink, Source};
 use rc_core::parts::{Function, Parts};
 use rc_core::program::Program;
 use rc_core::{Layouts, as_int};
-use rc_memory::{Heap, Stop, Value, Values, number_in};
-use rc_nodes::{Activation, Callers, Control, Setting, Waiting, first_locals};
+use rc_frames::{Activation, Callers, Waiting, first_locals};
+use rc_memory::Heap;
+use rc_nodes::{Control, Setting};
+use rc_values::{Stop, Value, Values, number_in};
 use std::alloc::Global;
 
 /// The function of that number, where there is one.

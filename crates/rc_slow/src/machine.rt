@@ -7,13 +7,14 @@ ghost use Rattle.rc_core.specs.Programs.{Program, call};
 ghost use Rattle.rc_core.specs.Runs.{Go, Run};
 ghost use Rattle.rc_core.specs.Shapes.{arguments_of, expr_of, function_of, program_of, stmt_of};
 ghost use Rattle.rc_slow.specs.Advancing.{Advances, Leads, LeadsTo, standing, state_at};
-ghost use Rattle.rc_nodes.specs.Codes.{control_of, frame_of, frames_of, stage_of};
-ghost use Rattle.rc_nodes.specs.Frames.{Frame as MachineFrame};
+ghost use Rattle.rc_frames.specs.Codes.{frame_of, frames_of, stage_of};
+ghost use Rattle.rc_nodes.specs.Controls.{control_of};
+ghost use Rattle.rc_frames.specs.Frames.{Frame as MachineFrame};
 ghost use Rattle.rc_memory.specs.KeptWorld.{KeptWorld};
 ghost use Rattle.rc_core.specs.Laid.{AreLaidOut};
-ghost use Rattle.rc_nodes.specs.Waiting.{waiting_of};
+ghost use Rattle.rc_frames.specs.Waiting.{waiting_of};
 ghost use Rattle.rc_nodes.specs.Stepping.{Control as MachineControl, doing, first_step, given_step};
-ghost use Rattle.rc_memory.specs.Values.{value_of};
+ghost use Rattle.rc_values.specs.Values.{value_of};
 ghost use Rattle.rc_slow.specs.declared.machine.Machine.{Machine as CodeMachine};
 ghost use Rattle.rc_slow.specs.Whole.{Progress as MachineProgress, State, aim_step, argument_step, breaks_step, call_from, call_step, continues_step, control_step, entered, evaluate_step, give_step, goes_step, leave_step, returns_step, staying};
 
@@ -22,14 +23,15 @@ use rc_core::byte_of;
 use rc_core::expr::Expr;
 use rc_core::parts::Function;
 use rc_core::stmt::Stmt;
-use rc_memory::{Heap, Stop, Target, Value, Values, number_in, zero_of};
+use rc_frames::{Activation, Callers, Frame, Stage, Waiting, first_locals, held_for};
+use rc_memory::Heap;
 use rc_nodes::{
-    Activation, Callers, Control, Frame, Setting, Stage, Waiting, allocate, begin_expression,
-    begin_statement, broke_to_statement, continued_to_statement, done_to_statement, first_locals,
-    first_value_to_inner_expression, held_for, index_to_path, index_to_place, load, make_region,
-    make_subregion, place_to_statement, pointer_to_place, second_value_to_expression, step_inward,
-    value_to_statement,
+    Control, Setting, allocate, begin_expression, begin_statement, broke_to_statement,
+    continued_to_statement, done_to_statement, first_value_to_inner_expression, index_to_path,
+    index_to_place, load, make_region, make_subregion, place_to_statement, pointer_to_place,
+    second_value_to_expression, step_inward, value_to_statement,
 };
+use rc_values::{Stop, Target, Value, Values, number_in, zero_of};
 use std::alloc::Global;
 use std::mem;
 

@@ -12,13 +12,13 @@ ghost use Rattle.rc_slow.specs.Outside.{HasStopCause, later};
 ghost use Rattle.rc_slow.specs.Performing.{Follows, LeavesOutside, Performs, acts_of};
 ghost use Rattle.rc_slow.specs.declared.machine.Machine.{Machine as CodeMachine};
 ghost use Rattle.rc_slow.specs.declared.machine.Progress.TheVariants.{Asks, Writes};
-ghost use Rattle.rc_memory.specs.declared.stop.Stop.TheVariants.{Cut};
+ghost use Rattle.rc_values.specs.declared.stop.Stop.TheVariants.{Cut};
 ghost use Rattle.rc_slow.specs.Whole.{Progress as MachineProgress};
 
 use crate::machine::Progress;
 use rc_base::{RunFault, Sink, Source};
-use rc_memory::{Stop, Value};
 use rc_nodes::Control;
+use rc_values::{Stop, Value};
 
 /// The value of `getchar`: the next byte, or -1 where there is no more.
 #[tactic(auto, using(crate::proofs::Asked::asked_none, crate::proofs::Asked::asked_some))]

@@ -2,7 +2,7 @@
 
 ghost use Rattle.std.specs.Prelude.{IfOk};
 ghost use Rattle.rc_core.specs.Shapes.{program_of};
-ghost use Rattle.rc_nodes.specs.Codes.{control_of};
+ghost use Rattle.rc_nodes.specs.Controls.{control_of};
 ghost use Rattle.rc_slow.specs.Falling.{Lessens, TakesTurn};
 ghost use Rattle.rc_slow.specs.Going.{Arrives, Comes, GoesOn};
 ghost use Rattle.rc_core.specs.Laid.{AreLaidOut};
@@ -11,8 +11,8 @@ ghost use Rattle.rc_slow.specs.Performing.{LeavesOutside};
 use crate::machine::{Machine, step};
 use crate::outside::{Next, perform};
 use rc_base::{Sink, Source};
-use rc_memory::{Stop, Value};
 use rc_nodes::{Control, Setting};
+use rc_values::{Stop, Value};
 
 /// One step, and what is done outside after it.
 fn advance<'p, S: Source, O: Sink>(

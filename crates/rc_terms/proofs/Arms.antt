@@ -14,7 +14,7 @@ use Rattle.rc_deletes.specs.Values.{Typed, fitted}
 use Rattle.rc_deletes.specs.Operators.{meaning_of_value, conditional_rule}
 use Rattle.rc_deletes.specs.Calls.{allocation, array_allocation}
 use Rattle.rc_deletes.specs.Expressions.{meant, value, strings_in, type_rule}
-use Rattle.rc_terms.proofs.Stops.{all_ruled}
+use Rattle.rc_defined.proofs.Stops.{all_ruled}
 
 -- a node with three parts, of which two are judged
 two_held : {A B C D : Type 0} (x : Judged A) (y : Judged B) (z : Judged C) (rule : A → B × C → Judged D) (a : A) (b : B) → x ≡ Holds a → y ≡ Holds b → with_parts x (both y z) rule ≡ with_part z (λ c. rule a (b, c))

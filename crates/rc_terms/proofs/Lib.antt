@@ -1,14 +1,2 @@
-pub mod Lists
-pub mod Firsts
-pub mod Fronts
-pub mod Stops
-pub mod Meanings
-pub mod Contexts
-pub mod Walks
-pub mod Gathered
-pub mod Counted
-pub mod Sized
 pub mod Arms
 pub mod Reached
-pub mod ByValue
-pub mod Groups

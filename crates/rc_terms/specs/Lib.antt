@@ -1,7 +1,1 @@
-pub mod Building
-pub mod Contexts
-pub mod Fields
-pub mod Firsts
-pub mod Groups
 pub mod Pointed
-pub mod Sizes

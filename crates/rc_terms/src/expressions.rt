@@ -9,15 +9,14 @@ ghost use Rattle.rc_operators.specs.Shapes.{typed_of, meant_of};
 ghost use Rattle.rc_operators.specs.Stops.{StopsAt};
 ghost use Rattle.rc_syntax.specs.Shape as written;
 ghost use Rattle.rc_syntax.specs.Tree as t;
-ghost use Rattle.rc_terms.specs.Contexts.{context_in, scope_in};
+ghost use Rattle.rc_defined.specs.Contexts.{context_in, scope_in};
 
-use crate::environment::Environment;
 use crate::members::{arrow, member};
-use crate::names::meaning;
 use crate::nodes::{
     allocate, allocate_array, call, cast, choose, compute, eof, null, number, string,
 };
 use rc_core::ty::Signedness;
+use rc_defined::{Environment, meaning};
 use rc_operators::{Meant, Stop, Typed, add, as_value, cast_type};
 use rc_rules::{callee_rule, index_rule, indexed_part, name_rule, signedness, unary_meant};
 use rc_syntax::tree::{BinaryOp, CastType, Expr, Name, Spot, TypeName, UnaryOp};
@@ -53,7 +52,7 @@ pub fn spot_of(e: &Expr) -> Spot
 /// As those of [`meant`], or it is no value.
 #[inline(never)]
 #[cycle(expressions)]
-#[tactic(auto, using(crate::proofs::Stops::part_stops, crate::proofs::Stops::part_ruled))]
+#[tactic(auto, using(rc_defined::proofs::Stops::part_stops, rc_defined::proofs::Stops::part_ruled))]
 pub fn value(
     e: &Expr,
     environment: &Environment<'_>,
@@ -73,7 +72,7 @@ pub fn value(
 ///
 /// As those of [`value`].
 #[cycle(expressions)]
-#[tactic(auto, using(crate::proofs::Walks::after_nil, crate::proofs::Walks::values_step, crate::proofs::Walks::values_end, crate::proofs::Walks::values_stop, crate::proofs::Walks::strings_step, crate::proofs::Walks::strings_end))]
+#[tactic(auto, using(rc_defined::proofs::Walks::after_nil, rc_defined::proofs::Walks::values_step, rc_defined::proofs::Walks::values_end, rc_defined::proofs::Walks::values_stop, rc_defined::proofs::Walks::strings_step, rc_defined::proofs::Walks::strings_end))]
 pub fn arguments(
     es: &[Expr],
     environment: &Environment<'_>,
@@ -93,7 +92,7 @@ pub fn arguments(
 
 #[inline(never)]
 #[cycle(expressions)]
-#[tactic(auto, using(crate::proofs::Stops::left_stops, crate::proofs::Stops::right_stops, crate::proofs::Stops::both_stop, crate::proofs::Stops::both_ruled))]
+#[tactic(auto, using(rc_defined::proofs::Stops::left_stops, rc_defined::proofs::Stops::right_stops, rc_defined::proofs::Stops::both_stop, rc_defined::proofs::Stops::both_ruled))]
 fn type_call(
     name: &Name,
     given: &[Expr],
@@ -111,7 +110,7 @@ fn type_call(
 
 #[inline(never)]
 #[cycle(expressions)]
-#[tactic(auto, using(crate::proofs::Stops::left_stops, crate::proofs::Arms::alloc_is))]
+#[tactic(auto, using(rc_defined::proofs::Stops::left_stops, crate::proofs::Arms::alloc_is))]
 fn type_ralloc(
     at: Spot,
     r: &Expr,
@@ -129,7 +128,7 @@ fn type_ralloc(
 
 #[inline(never)]
 #[cycle(expressions)]
-#[tactic(auto, using(crate::proofs::Stops::left_stops, crate::proofs::Stops::second_stops))]
+#[tactic(auto, using(rc_defined::proofs::Stops::left_stops, rc_defined::proofs::Stops::second_stops))]
 fn type_rarrayalloc(
     at: Spot,
     r: &Expr,
@@ -150,7 +149,7 @@ fn type_rarrayalloc(
 
 #[inline(never)]
 #[cycle(expressions)]
-#[tactic(auto, using(crate::proofs::Stops::part_stops, crate::proofs::Stops::part_ruled, crate::proofs::Stops::part_held, crate::proofs::Stops::left_stops, crate::proofs::Stops::right_stops, crate::proofs::Stops::both_stop, crate::proofs::Stops::both_ruled))]
+#[tactic(auto, using(rc_defined::proofs::Stops::part_stops, rc_defined::proofs::Stops::part_ruled, rc_defined::proofs::Stops::part_held, rc_defined::proofs::Stops::left_stops, rc_defined::proofs::Stops::right_stops, rc_defined::proofs::Stops::both_stop, rc_defined::proofs::Stops::both_ruled))]
 fn type_index(
     at: Spot,
     a: &Expr,
@@ -170,7 +169,7 @@ fn type_index(
 
 #[inline(never)]
 #[cycle(expressions)]
-#[tactic(auto, using(crate::proofs::Stops::part_stops, crate::proofs::Stops::part_ruled, crate::proofs::Stops::part_held))]
+#[tactic(auto, using(rc_defined::proofs::Stops::part_stops, rc_defined::proofs::Stops::part_ruled, rc_defined::proofs::Stops::part_held))]
 fn type_member(
     at: Spot,
     a: &Expr,
@@ -188,7 +187,7 @@ fn type_member(
 
 #[inline(never)]
 #[cycle(expressions)]
-#[tactic(auto, using(crate::proofs::Stops::part_stops, crate::proofs::Stops::part_ruled, crate::proofs::Stops::part_held))]
+#[tactic(auto, using(rc_defined::proofs::Stops::part_stops, rc_defined::proofs::Stops::part_ruled, rc_defined::proofs::Stops::part_held))]
 fn type_arrow(
     at: Spot,
     a: &Expr,
@@ -206,7 +205,7 @@ fn type_arrow(
 
 #[inline(never)]
 #[cycle(expressions)]
-#[tactic(auto, using(crate::proofs::Stops::part_stops, crate::proofs::Stops::part_ruled, crate::proofs::Stops::part_held))]
+#[tactic(auto, using(rc_defined::proofs::Stops::part_stops, rc_defined::proofs::Stops::part_ruled, rc_defined::proofs::Stops::part_held))]
 fn type_unary(
     at: Spot,
     op: UnaryOp,
@@ -224,7 +223,7 @@ fn type_unary(
 
 #[inline(never)]
 #[cycle(expressions)]
-#[tactic(auto, using(crate::proofs::Stops::part_stops, crate::proofs::Stops::part_ruled, crate::proofs::Stops::part_held))]
+#[tactic(auto, using(rc_defined::proofs::Stops::part_stops, rc_defined::proofs::Stops::part_ruled, rc_defined::proofs::Stops::part_held))]
 fn type_cast(
     at: Spot,
     to: CastType,
@@ -242,7 +241,7 @@ fn type_cast(
 
 #[inline(never)]
 #[cycle(expressions)]
-#[tactic(auto, using(crate::proofs::Stops::left_stops, crate::proofs::Stops::right_stops, crate::proofs::Stops::both_stop, crate::proofs::Stops::both_ruled))]
+#[tactic(auto, using(rc_defined::proofs::Stops::left_stops, rc_defined::proofs::Stops::right_stops, rc_defined::proofs::Stops::both_stop, rc_defined::proofs::Stops::both_ruled))]
 fn type_binary(
     at: Spot,
     op: BinaryOp,
@@ -262,7 +261,7 @@ fn type_binary(
 
 #[inline(never)]
 #[cycle(expressions)]
-#[tactic(auto, using(crate::proofs::Stops::left_stops, crate::proofs::Stops::second_stops))]
+#[tactic(auto, using(rc_defined::proofs::Stops::left_stops, rc_defined::proofs::Stops::second_stops))]
 fn type_conditional(
     at: Spot,
     c: &Expr,

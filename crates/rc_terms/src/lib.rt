@@ -1,25 +1,8 @@
-//! What a text defines, and the types of its types and expressions.
+//! The types of expressions, and what they mean.
 #![tactic(auto)]
 
-mod building;
-mod by_value;
-mod context;
-mod defined;
-mod environment;
 mod expressions;
-mod fields;
 mod members;
-mod names;
 mod nodes;
-mod places;
-mod sizes;
 
-pub use building::{gather, type_in};
-pub use by_value::{before_field, before_global, cell_type, goes_on, shares_with_next};
-pub use context::Context;
-pub use defined::defined_type;
-pub use environment::Environment;
 pub use expressions::{arguments, meant, spot_of, value};
-pub use fields::{Fields, NamedField};
-pub use names::{add_name, meaning};
-pub use sizes::{cells_of, size_by};

@@ -6,12 +6,12 @@ ghost use Rattle.rc_deletes.specs.Judged.{Holds};
 ghost use Rattle.rc_deletes.specs.Values.{a_place};
 ghost use Rattle.rc_operators.specs.Shapes.{typed_of, meant_of};
 ghost use Rattle.rc_operators.specs.Stops.{StopsAt};
-ghost use Rattle.rc_terms.specs.Contexts.{context_of};
+ghost use Rattle.rc_defined.specs.Contexts.{context_of};
 ghost use Rattle.rc_terms.specs.Pointed.{struct_of, struct_behind};
 
-use crate::context::Context;
 use rc_core::expr::Place;
 use rc_core::ty::Ty;
+use rc_defined::Context;
 use rc_deletes::Refusal;
 use rc_operators::{Meant, Stop, Typed, fails, pointed};
 use rc_rules::field_rule;

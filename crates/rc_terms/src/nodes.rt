@@ -15,11 +15,10 @@ ghost use Rattle.rc_operators.specs.Shapes.{typed_of, meant_of};
 ghost use Rattle.rc_operators.specs.Stops.{StopsAt};
 ghost use Rattle.rc_rules.specs.Shapes.{callee_of};
 ghost use Rattle.rc_syntax.specs.Shape as written;
-ghost use Rattle.rc_terms.specs.Contexts.{context_of};
+ghost use Rattle.rc_defined.specs.Contexts.{context_of};
 
-use crate::context::Context;
-use crate::defined::defined_type;
 use rc_core::ty::{NumberType, Signedness, Ty};
+use rc_defined::{Context, defined_type};
 use rc_operators::{Meant, Stop, Typed, add, binary_rule, cast_rule, conditional_rule};
 use rc_rules::{
     Callee, allocation, array_allocation, call_value, eof_value, null_value, number_value,
@@ -73,7 +72,7 @@ fn next_string(strings: &[Vec<u8>]) -> Result<u32, Stop>
 }
 
 /// Puts the bytes of a string literal after those before it.
-#[tactic(auto, using(crate::proofs::Lists::map_push))]
+#[tactic(auto, using(rc_defined::proofs::Lists::map_push))]
 fn keep_string(alloc: Global, strings: &mut Vec<Vec<u8>>, text: &Text) -> Result<(), Stop>
     ensures ok { OnOk result (map bytes_of strings.new.items ≡ map bytes_of strings.old.items ++ text.now ∷ []) }
     ensures err { IfErr result (λ s. s ≡ Stop.Memory) }
@@ -100,7 +99,7 @@ pub(crate) fn string(
 
 /// A call that gives a value.
 #[inline(never)]
-#[tactic(auto, using(crate::proofs::Stops::part_stops))]
+#[tactic(auto, using(rc_defined::proofs::Stops::part_stops))]
 pub(crate) fn call(
     alloc: Global,
     at: Spot,
@@ -113,7 +112,7 @@ pub(crate) fn call(
     Ok(Meant::Value(call_value(alloc, at, callee, given)?))
 }
 
-#[tactic(auto, using(crate::proofs::Stops::part_stops))]
+#[tactic(auto, using(rc_defined::proofs::Stops::part_stops))]
 fn allocate_typed(alloc: Global, at: Spot, ty: Ty, region: Typed) -> Result<Meant, Stop>
     ensures ok { IfOk result (λ m. meaning_of_value (calls.allocation at (ty_of ty) (values.fitted region_type (typed_of region))) ≡ Holds (meant_of m)) }
     ensures err { IfErr result (StopsAt (meaning_of_value (calls.allocation at (ty_of ty) (values.fitted region_type (typed_of region))))) }
@@ -137,7 +136,7 @@ pub(crate) fn allocate(
     allocate_typed(alloc, at, ty, region)
 }
 
-#[tactic(auto, using(crate::proofs::Stops::part_stops))]
+#[tactic(auto, using(rc_defined::proofs::Stops::part_stops))]
 fn allocate_typed_array(
     alloc: Global,
     at: Spot,
@@ -170,7 +169,7 @@ pub(crate) fn allocate_array(
 
 /// A cast.
 #[inline(never)]
-#[tactic(auto, using(crate::proofs::Stops::part_stops))]
+#[tactic(auto, using(rc_defined::proofs::Stops::part_stops))]
 pub(crate) fn cast(alloc: Global, at: Spot, to: NumberType, v: Typed) -> Result<Meant, Stop>
     ensures ok { IfOk result (λ m. meaning_of_value (operators.cast_rule at to (sort_of (typed_of v).ty) (typed_of v)) ≡ Holds (meant_of m)) }
     ensures err { IfErr result (StopsAt (meaning_of_value (operators.cast_rule at to (sort_of (typed_of v).ty) (typed_of v)))) }
@@ -180,7 +179,7 @@ pub(crate) fn cast(alloc: Global, at: Spot, to: NumberType, v: Typed) -> Result<
 
 /// An operator between two values.
 #[inline(never)]
-#[tactic(auto, using(crate::proofs::Stops::part_stops))]
+#[tactic(auto, using(rc_defined::proofs::Stops::part_stops))]
 pub(crate) fn compute(
     alloc: Global,
     at: Spot,
@@ -196,7 +195,7 @@ pub(crate) fn compute(
 
 /// `?:`.
 #[inline(never)]
-#[tactic(auto, using(crate::proofs::Stops::part_stops))]
+#[tactic(auto, using(rc_defined::proofs::Stops::part_stops))]
 pub(crate) fn choose(
     alloc: Global,
     at: Spot,

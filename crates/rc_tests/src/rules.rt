@@ -5,17 +5,20 @@ use rc_core::parts::Field;
 use rc_core::stmt::Change;
 use rc_core::ty::{NumberType, Signedness, Ty};
 use rc_deletes::{Builtin, Refusal};
+use rc_item_rules::{
+    RightSide, alone_rule, assignment, declaration, function_name, gives_int, global_rule,
+    initial_of, is_struct_option, is_twice, main_shape, once, one, returned, right_side,
+    step_operator, takes_nothing, update_of,
+};
 use rc_operators::{
     Meant, Stop, Typed, add, as_value, binary_rule, boxed, cast_rule, cast_type, change_of,
     changed, condition_rule, conditional_rule, copy_of, fitted, refuse_where, same_type, starred,
     unary_rule,
 };
 use rc_rules::{
-    Callee, Found, Meaning, RightSide, Signature, allocation, alone_rule, array_allocation,
-    assignment, call_statement, call_value, callee_rule, declaration, eof_value, field_rule,
-    function_name, gives_int, global_rule, index_rule, indexed_part, initial_of, is_struct_option,
-    is_twice, main_shape, name_rule, null_value, number_value, once, one, returned, right_side,
-    signedness, step_operator, string_value, takes_nothing, unary_meant, update_of,
+    Callee, Found, Meaning, Signature, allocation, array_allocation, call_statement, call_value,
+    callee_rule, eof_value, field_rule, index_rule, indexed_part, name_rule, null_value,
+    number_value, signedness, string_value, unary_meant,
 };
 use rc_syntax::tree::{
     BinaryOp, CastType, Constant, Name, Note as WrittenNote, Spot, StepOp, UnaryOp,

@@ -8,7 +8,8 @@ use rc_base::{End, Trap};
 use rc_core::parts::{Field, Global as Variable, Parts, Struct};
 use rc_core::ty::{Note, Ty};
 use rc_core::{FieldPlace, Kind, Layouts};
-use rc_memory::{Chosen, Heap, Stop, Target, Value, aimed, is_same, static_pointer};
+use rc_memory::Heap;
+use rc_values::{Chosen, Stop, Target, Value, aimed, is_same, static_pointer};
 use std::alloc::{AllocError, Global};
 
 /// `struct pair { int a; char b[3]; region r; };` and

@@ -13,7 +13,7 @@ use Rattle.rc_syntax.specs.Tree as t
 use Rattle.rc_core.specs.Numbers.{IsByte}
 use Rattle.rc_core.specs.Shapes.{bytes_of}
 use Rattle.rc_deletes.specs.Ranges.{IsInRange, AreInRange, OptionInRange, LocalsInRange, StmtInRange, StmtsInRange, ItemsInRange}
-use Rattle.rc_terms.proofs.Walks.{front, none_left}
+use Rattle.rc_defined.proofs.Walks.{front, none_left}
 
 pub exprs_step : (es : List Expr) (i : ℕ) (e : Expr) → i < length es → e ≡ get_or es i e → IsInRange (written.expr_of e) → AreInRange (written.exprs_of (drop (i + 1) es)) → AreInRange (written.exprs_of (drop i es))
 exprs_step es i e l h a b = rw (front es i e l h) (a, b)

@@ -4,7 +4,7 @@ use Rattle.std.specs.Prelude.{get_or}
 use Rattle.rc_syntax.specs.declared.tree.Item.{Item}
 use Rattle.rc_syntax.specs.Shape as written
 use Rattle.rc_deletes.specs.Answer.{is_definition_of_main, main_shape_of, main_fault}
-use Rattle.rc_terms.proofs.Walks.{front, none_left}
+use Rattle.rc_defined.proofs.Walks.{front, none_left}
 
 module _ (is : List Item) (i : ℕ) where
   module _ (x : Item) (l : i < length is) (h : x ≡ get_or is i x) where

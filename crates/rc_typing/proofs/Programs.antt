@@ -14,11 +14,11 @@ use Rattle.rc_deletes.specs.Places.{deletes_faults}
 use Rattle.rc_deletes.specs.Scopes.{Context, structs_in}
 use Rattle.rc_operators.specs.declared.stop.Stop.{Stop}
 use Rattle.rc_operators.specs.Stops.{StopsAt}
-use Rattle.rc_terms.specs.declared.fields.NamedField.{NamedField}
-use Rattle.rc_terms.specs.Fields.{named_of}
+use Rattle.rc_defined.specs.declared.fields.NamedField.{NamedField}
+use Rattle.rc_defined.specs.Fields.{named_of}
 use Rattle.rc_items.specs.Outside.{all_made}
-use Rattle.rc_terms.proofs.Stops.{part_stops}
-use Rattle.rc_terms.proofs.Walks.{none_left}
+use Rattle.rc_defined.proofs.Stops.{part_stops}
+use Rattle.rc_defined.proofs.Walks.{none_left}
 
 -- a list that is made from another, part by part, is whole
 module _ {A B C : Type 0} (f : A → C) (g : B → C) (all : List A) (i : ℕ) (made : List B) where

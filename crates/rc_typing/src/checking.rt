@@ -13,20 +13,20 @@ ghost use Rattle.rc_syntax.specs.Shape as written;
 ghost use Rattle.rc_syntax.specs.Shape.{tree_of};
 ghost use Rattle.rc_syntax.specs.Tree as t;
 ghost use Rattle.rc_typing.specs.Checks.{Checks, IsWritten, Refuses};
-ghost use Rattle.rc_terms.specs.Contexts.{context_of};
-ghost use Rattle.rc_terms.specs.Fields.{struct_in};
+ghost use Rattle.rc_defined.specs.Contexts.{context_of};
+ghost use Rattle.rc_defined.specs.Fields.{struct_in};
 
 use crate::bounds::{numbers, strings};
 use crate::fault::TypeFault;
 use rc_core::parts::{Field, Parts, Struct};
 use rc_core::program::Program;
+use rc_defined::{Context, Fields, gather};
 use rc_deletes::{DeletesFault, Fault, Refusal, check_deletes};
+use rc_item_rules::{gives_int, main_shape, takes_nothing};
 use rc_items::{Whole, items};
 use rc_judgements::{fits_together, keeps_limits};
 use rc_operators::{Stop, add, copy_of};
-use rc_rules::{gives_int, main_shape, takes_nothing};
 use rc_syntax::tree::{Item, Name, Param, Spot, Tree, TypeName};
-use rc_terms::{Context, Fields, gather};
 use std::alloc::Global;
 
 const MAIN: &[u8] = b"main";

@@ -5,9 +5,9 @@ use Rattle.rc_core.specs.Programs as p
 use Rattle.rc_deletes.specs.Judged.{Judged, Holds, fitting}
 use Rattle.rc_operators.specs.Shapes.{typed_of}
 use Rattle.rc_operators.specs.Stops.{StopsAt}
-use Rattle.rc_terms.specs.Contexts.{context_of}
+use Rattle.rc_defined.specs.Contexts.{context_of}
 use Rattle.rc_bodies.specs.Here.{here_of}
-use Rattle.rc_terms.proofs.Lists.{on_any}
+use Rattle.rc_defined.proofs.Lists.{on_any}
 use Rattle.rc_bodies.proofs.Declared.{initial_stops, local_is, local_behind}
 use Rattle.rc_bodies.proofs.locals.local.Goals as goal
 

@@ -2,7 +2,7 @@ use Rattle.std.proofs.Common.{◌≡◌, drop, map}
 use Rattle.rc_syntax.specs.Shape.{local_of}
 use Rattle.rc_core.specs.Shapes.{stmt_of}
 use Rattle.rc_deletes.specs.Statements.{locals, behind_locals}
-use Rattle.rc_terms.specs.Contexts.{context_of}
+use Rattle.rc_defined.specs.Contexts.{context_of}
 use Rattle.rc_bodies.specs.Here.{here_of}
 use Rattle.rc_bodies.proofs.Walks.{after_steps}
 use Rattle.rc_bodies.proofs.locals.locals_of.Given as goal

@@ -10,7 +10,7 @@ use Rattle.rc_bodies.specs.Enclosing.{context_at, gives_at}
 use Rattle.rc_bodies.specs.declared.enclosing.Enclosing.{Enclosing}
 use Rattle.rc_bodies.specs.Here.{here_of}
 use Rattle.rc_bodies.proofs.Blocks.{block_own, for_own, for_end}
-use Rattle.rc_terms.proofs.Lists.{on_any}
+use Rattle.rc_defined.proofs.Lists.{on_any}
 use Rattle.rc_bodies.proofs.statements.+statements.Goals as goal
 
 pub type_block-returns-clause-behind : goal.type_block-returns-clause-behind

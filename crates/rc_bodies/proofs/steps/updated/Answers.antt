@@ -7,7 +7,7 @@ use Rattle.rc_deletes.specs.Judged.{Judged, fitting}
 use Rattle.rc_deletes.specs.Statements.{update_of}
 use Rattle.rc_operators.specs.Shapes.{typed_of, meant_of}
 use Rattle.rc_operators.specs.Stops.{StopsAt}
-use Rattle.rc_terms.specs.Contexts.{context_in, scope_in}
+use Rattle.rc_defined.specs.Contexts.{context_in, scope_in}
 use Rattle.rc_bodies.proofs.Assigned.{update_is}
 use Rattle.rc_bodies.proofs.steps.updated.Goals as goal
 

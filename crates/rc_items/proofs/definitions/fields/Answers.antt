@@ -1,5 +1,5 @@
 use Rattle.std.proofs.Common.{rules}
-use Rattle.rc_terms.specs.Contexts.{context_of}
+use Rattle.rc_defined.specs.Contexts.{context_of}
 use Rattle.rc_items.proofs.Members.{walk_ends, known_here, front_stops, field_stops, field_step, known_on}
 use Rattle.rc_items.proofs.definitions.fields.Goals as goal
 

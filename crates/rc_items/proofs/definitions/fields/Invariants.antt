@@ -2,7 +2,7 @@ use Rattle.std.proofs.Common.{◌≡◌, [], true, length, map}
 use Rattle.rc_syntax.specs.Shape.{field_of}
 use Rattle.rc_deletes.specs.Judged.{Holds}
 use Rattle.rc_deletes.specs.Items.{fields_rule, before_fields}
-use Rattle.rc_terms.specs.Contexts.{context_of}
+use Rattle.rc_defined.specs.Contexts.{context_of}
 use Rattle.rc_items.proofs.definitions.fields.Given as goal
 
 abbrev pub invariant-loop-rest : goal.invariant-loop-rest

@@ -1,7 +1,7 @@
 use Rattle.std.proofs.Common.{rules}
 use Rattle.rc_syntax.specs.Shape.{param_of}
 use Rattle.rc_core.specs.Shapes.{ty_of}
-use Rattle.rc_terms.specs.Contexts.{context_of}
+use Rattle.rc_defined.specs.Contexts.{context_of}
 use Rattle.rc_bodies.specs.Here.{here_of}
 use Rattle.rc_items.proofs.Params.{name_stops, own_stops}
 use Rattle.rc_items.proofs.heads.param.Goals as goal

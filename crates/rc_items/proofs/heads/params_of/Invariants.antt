@@ -1,7 +1,7 @@
 use Rattle.std.proofs.Common.{◌≡◌, drop, map}
 use Rattle.rc_syntax.specs.Shape.{param_of}
 use Rattle.rc_deletes.specs.Items.{params_rule, with_params}
-use Rattle.rc_terms.specs.Contexts.{context_of}
+use Rattle.rc_defined.specs.Contexts.{context_of}
 use Rattle.rc_bodies.specs.Here.{here_of}
 use Rattle.rc_items.proofs.heads.params_of.Given as goal
 

@@ -1,7 +1,7 @@
 use Rattle.std.proofs.Common.{ap, ◌∙◌, map}
 use Rattle.rc_syntax.specs.Shape.{param_of, stmts_of}
 use Rattle.rc_deletes.specs.Statements.{outside, behind_stmts}
-use Rattle.rc_terms.specs.Contexts.{context_of}
+use Rattle.rc_defined.specs.Contexts.{context_of}
 use Rattle.rc_bodies.specs.Here.{here_of}
 use Rattle.rc_items.proofs.Functions.{own_names}
 use Rattle.rc_items.proofs.walk.body_of.Goals as goal

@@ -1,7 +1,7 @@
 use Rattle.std.proofs.Common.{◌≡◌, drop, map}
 use Rattle.rc_deletes.specs.Builtins.{row}
 use Rattle.rc_deletes.specs.Scopes.{a_builtin}
-use Rattle.rc_terms.specs.Contexts.{scope_of}
+use Rattle.rc_defined.specs.Contexts.{scope_of}
 use Rattle.rc_items.proofs.walk.builtins.Given as goal
 
 abbrev pub invariant-loop-i : goal.invariant-loop-i

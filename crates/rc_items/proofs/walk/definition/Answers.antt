@@ -8,7 +8,7 @@ use Rattle.rc_deletes.specs.Judged.{Holds}
 use Rattle.rc_deletes.specs.Kinds.{place_of}
 use Rattle.rc_deletes.specs.Statements.{Here, stmts}
 use Rattle.rc_deletes.specs.Items.{before_params, behind_definition, with_params, is_struct_option}
-use Rattle.rc_terms.specs.Contexts.{context_of}
+use Rattle.rc_defined.specs.Contexts.{context_of}
 use Rattle.rc_bodies.specs.Here.{here_of}
 use Rattle.rc_items.specs.Outside.{outside_of}
 use Rattle.rc_items.specs.Parts.{written_params, written_result}

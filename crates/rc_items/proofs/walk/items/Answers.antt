@@ -1,5 +1,5 @@
 use Rattle.std.proofs.Common.{rules}
-use Rattle.rc_terms.specs.Contexts.{context_of}
+use Rattle.rc_defined.specs.Contexts.{context_of}
 use Rattle.rc_items.specs.Outside.{outside_of, all_made, made_of}
 use Rattle.rc_items.proofs.Walked.{front_stops, here_stops, walk_step, behind_step, known_on}
 use Rattle.rc_items.proofs.walk.items.Goals as goal

@@ -2,7 +2,7 @@ use Rattle.std.proofs.Common.{◌≡◌, true, length, map}
 use Rattle.rc_syntax.specs.Shape.{item_of}
 use Rattle.rc_deletes.specs.Judged.{Holds}
 use Rattle.rc_deletes.specs.Items.{items, behind_items, at_the_start, before_globals}
-use Rattle.rc_terms.specs.Contexts.{context_of}
+use Rattle.rc_defined.specs.Contexts.{context_of}
 use Rattle.rc_items.specs.Outside.{outside_of, all_made}
 use Rattle.rc_items.proofs.Walked.{after_made}
 use Rattle.rc_items.proofs.walk.items.Given as goal

@@ -1,7 +1,7 @@
 use Rattle.std.proofs.Common.{rules, ap, ◌∙◌, false}
 use Rattle.rc_deletes.specs.Statements.{Here}
 use Rattle.rc_deletes.specs.Items.{before_params}
-use Rattle.rc_terms.specs.Contexts.{context_of}
+use Rattle.rc_defined.specs.Contexts.{context_of}
 use Rattle.rc_bodies.specs.Here.{here_of}
 use Rattle.rc_items.specs.Outside.{outside_of}
 use Rattle.rc_items.specs.Parts.{written_params, written_result}

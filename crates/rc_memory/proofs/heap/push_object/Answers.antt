@@ -1,5 +1,5 @@
 use Rattle.std.proofs.Common.{rules}
-use Rattle.rc_memory.proofs.Lists.{changed_at}
+use Rattle.rc_values.proofs.Lists.{changed_at}
 use Rattle.rc_memory.proofs.heap.push_object.Goals as goal
 
 pub returns-in_ok-push-clause-pushed : goal.returns-in_ok-push-clause-pushed

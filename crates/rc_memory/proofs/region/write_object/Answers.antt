@@ -1,5 +1,5 @@
 use Rattle.std.proofs.Common.{rules}
-use Rattle.rc_memory.proofs.Lists.{changed_at}
+use Rattle.rc_values.proofs.Lists.{changed_at}
 use Rattle.rc_memory.proofs.region.write_object.Goals as goal
 
 pub returns-then-number-len : goal.returns-then-number-len

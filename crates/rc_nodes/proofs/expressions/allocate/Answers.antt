@@ -5,7 +5,7 @@ use Rattle.rc_core.specs.Shapes.{ty_of}
 use Rattle.rc_nodes.specs.Coming.{Comes}
 use Rattle.rc_memory.specs.KeptWorld.{kept}
 use Rattle.rc_nodes.specs.Stepping.{giving_next}
-use Rattle.rc_memory.specs.Values.{value_of}
+use Rattle.rc_values.specs.Values.{value_of}
 use Rattle.rc_nodes.proofs.expressions.allocate.Goals as goal
 
 pub returns : goal.returns

@@ -1,7 +1,7 @@
 use Rattle.std.proofs.Common.{◌∙◌, sym, ap, Result, Ok, Err, IfOk}
 use Rattle.rc_core.specs.Runs.{Go}
 use Rattle.rc_core.specs.Shapes.{expr_of, place_of, program_of}
-use Rattle.rc_nodes.specs.Codes.{frames_of, CodeFrames}
+use Rattle.rc_frames.specs.Codes.{frames_of, CodeFrames}
 use Rattle.rc_nodes.specs.Stepping.{begin, start}
 use Rattle.rc_nodes.proofs.expressions.begin_expression.Goals as goal
 

@@ -3,11 +3,11 @@ use Rattle.rc_core.specs.Arithmetic.{calculate_one}
 use Rattle.rc_core.specs.Evaluation.{give_number}
 use Rattle.rc_core.specs.Runs.{Run, bind, computed}
 use Rattle.rc_core.specs.Shapes.{expr_of}
-use Rattle.rc_nodes.specs.Codes.{frames_of}
+use Rattle.rc_frames.specs.Codes.{frames_of}
 use Rattle.rc_nodes.specs.Coming.{Comes}
 use Rattle.rc_memory.specs.KeptWorld.{KeptWorld}
 use Rattle.rc_nodes.specs.Stepping.{Doing, first_step, giving_next}
-use Rattle.rc_memory.specs.Values.{value_of}
+use Rattle.rc_values.specs.Values.{value_of}
 use Rattle.rc_nodes.proofs.expressions.first_value_to_inner_expression.Goals as goal
 
 pub returns-in-Unary : goal.returns-in-Unary

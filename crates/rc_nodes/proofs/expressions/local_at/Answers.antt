@@ -1,7 +1,7 @@
 use Rattle.std.proofs.Common.{◌∙◌, sym, ap}
 use Rattle.std.specs.Prelude.{option_map}
 use Rattle.rc_core.specs.Heap.{Null}
-use Rattle.rc_memory.specs.Values.{value_of}
+use Rattle.rc_values.specs.Values.{value_of}
 use Rattle.rc_core.proofs.Entries.{get_missing, get_there}
 use Rattle.rc_nodes.proofs.expressions.local_at.Goals as goal
 

@@ -9,7 +9,7 @@ use Rattle.rc_core.specs.Shapes.{expr_of, ty_of}
 use Rattle.rc_nodes.specs.Coming.{Comes}
 use Rattle.rc_memory.specs.KeptWorld.{KeptWorld, kept}
 use Rattle.rc_nodes.specs.Stepping.{Doing, giving_next, second_step}
-use Rattle.rc_memory.specs.Values.{value_of}
+use Rattle.rc_values.specs.Values.{value_of}
 use Rattle.rc_nodes.proofs.expressions.second_value_to_expression.Goals as goal
 
 both : (operator : Operator) (s : Signedness) (a a' b b' : ℤ) → a ≡ a' → b ≡ b' → calculate operator s a b ≡ calculate operator s a' b'

@@ -1,9 +1,9 @@
 use Rattle.std.proofs.Common.{◌∙◌, ◌∷◌, ap, sym}
 use Rattle.rc_core.proofs.ShapeRows.{block_is}
 use Rattle.rc_core.specs.Shapes.{function_of, place_of, stmt_of, stmts_of}
-use Rattle.rc_nodes.specs.Codes.{frames_of, rest_behind}
+use Rattle.rc_frames.specs.Codes.{frames_of, rest_behind}
 use Rattle.rc_nodes.specs.Coming.{with_turns}
-use Rattle.rc_nodes.specs.Frames.{inside, placed}
+use Rattle.rc_frames.specs.Frames.{inside, placed}
 use Rattle.rc_nodes.specs.Stepping.{execute, start, within_step}
 use Rattle.rc_nodes.proofs.Results.{if_ok_map, block_begins}
 use Rattle.rc_nodes.proofs.statements.begin_statement.Goals as goal

@@ -1,6 +1,6 @@
 use Rattle.std.proofs.Common.{◌∙◌, ap, sym}
 use Rattle.rc_core.specs.Shapes.{stmt_of}
-use Rattle.rc_nodes.specs.Codes.{stage_of}
+use Rattle.rc_frames.specs.Codes.{stage_of}
 use Rattle.rc_nodes.specs.Stepping.{doing, break_step}
 use Rattle.rc_nodes.proofs.statements.broke_to_statement.Goals as goal
 

@@ -1,6 +1,6 @@
 use Rattle.std.proofs.Common.{ap}
 use Rattle.rc_core.specs.Shapes.{stmt_of}
-use Rattle.rc_nodes.specs.Codes.{frames_of, rest_behind, stage_of}
+use Rattle.rc_frames.specs.Codes.{frames_of, rest_behind, stage_of}
 use Rattle.rc_nodes.specs.Coming.{with_turns}
 use Rattle.rc_nodes.specs.Stepping.{go_step, within_step}
 use Rattle.rc_nodes.proofs.Results.{if_ok_map, comes_doing}

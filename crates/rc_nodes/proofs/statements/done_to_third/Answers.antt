@@ -2,7 +2,7 @@ use Rattle.std.proofs.Common.{◌∙◌, ap, sym, ℕ}
 use Rattle.rc_core.specs.Shapes.{expr_of, stmt_of}
 use Rattle.std.specs.Prelude.{option_map}
 use Rattle.rc_core.specs.declared.stmt.Stmt.TheVariants.{For}
-use Rattle.rc_nodes.specs.Codes.{frames_of}
+use Rattle.rc_frames.specs.Codes.{frames_of}
 use Rattle.rc_nodes.specs.Coming.{with_turns}
 use Rattle.rc_nodes.specs.Stepping.{Doing, head_step, third_step, turning_to}
 use Rattle.rc_nodes.proofs.Results.{if_ok_map, comes_doing}

@@ -2,8 +2,9 @@ use Rattle.std.proofs.Common.{rules, ◌≡◌, ◌∙◌, ◌+◌, ◌∷◌, a
 use Rattle.std.specs.Prelude.{slice_get}
 use Rattle.rc_core.proofs.ShapeRows.{block_is}
 use Rattle.rc_core.specs.Shapes.{stmt_of, stmts_of}
-use Rattle.rc_nodes.specs.Codes.{control_of, behind_so_many, frames_of, rest_behind}
-use Rattle.rc_nodes.specs.Frames.{inside, within}
+use Rattle.rc_frames.specs.Codes.{behind_so_many, frames_of, rest_behind}
+use Rattle.rc_nodes.specs.Controls.{control_of}
+use Rattle.rc_frames.specs.Frames.{inside, within}
 use Rattle.rc_nodes.specs.Stepping.{doing, executing, within_step}
 use Rattle.rc_nodes.proofs.Results.{if_ok_map, block_ends, block_next}
 use Rattle.rc_nodes.proofs.statements.next_in_block.Goals as goal

@@ -1,6 +1,6 @@
 use Rattle.std.proofs.Common.{◌∙◌, ap}
 use Rattle.rc_core.specs.Shapes.{place_of}
-use Rattle.rc_nodes.specs.Codes.{frames_of, CodeFrames}
+use Rattle.rc_frames.specs.Codes.{frames_of, CodeFrames}
 use Rattle.rc_nodes.specs.Stepping.{start}
 use Rattle.rc_nodes.proofs.Results.{if_ok_map}
 use Rattle.rc_nodes.proofs.statements.wait_for_place.Goals as goal

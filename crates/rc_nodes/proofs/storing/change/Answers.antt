@@ -10,7 +10,7 @@ use Rattle.rc_core.specs.Runs.{Run, Go, bind, computed}
 use Rattle.rc_memory.specs.Kept.{KeptHeap}
 use Rattle.rc_memory.specs.KeptWorld.{KeptWorld, kept}
 use Rattle.rc_memory.specs.Leaving.{Leaves}
-use Rattle.rc_memory.specs.Values.{value_of}
+use Rattle.rc_values.specs.Values.{value_of}
 use Rattle.rc_nodes.proofs.storing.change.Goals as goal
 
 both : (operator : Operator) (s : Signedness) (a a' b b' : ℤ) → a ≡ a' → b ≡ b' → calculate operator s a b ≡ calculate operator s a' b'

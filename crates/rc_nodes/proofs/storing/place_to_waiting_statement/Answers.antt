@@ -1,7 +1,7 @@
 use Rattle.std.proofs.Common.{◌∙◌, ◌∷◌, ap, sym}
 use Rattle.rc_core.specs.Shapes.{place_of, stmt_of}
-use Rattle.rc_nodes.specs.Codes.{frames_of}
-use Rattle.rc_nodes.specs.Frames.{inside, sourced}
+use Rattle.rc_frames.specs.Codes.{frames_of}
+use Rattle.rc_frames.specs.Frames.{inside, sourced}
 use Rattle.rc_nodes.specs.Stepping.{place_step, start}
 use Rattle.rc_nodes.proofs.Results.{if_ok_map}
 use Rattle.rc_nodes.proofs.storing.place_to_waiting_statement.Goals as goal

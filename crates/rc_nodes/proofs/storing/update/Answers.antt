@@ -5,7 +5,7 @@ use Rattle.rc_nodes.specs.Coming.{Comes}
 use Rattle.rc_memory.specs.Kept.{load}
 use Rattle.rc_memory.specs.KeptWorld.{KeptWorld, kept, giving}
 use Rattle.rc_nodes.specs.Stepping.{Doing, going_next}
-use Rattle.rc_memory.specs.Values.{value_of}
+use Rattle.rc_values.specs.Values.{value_of}
 use Rattle.rc_nodes.proofs.storing.update.Goals as goal
 
 pub returns : goal.returns

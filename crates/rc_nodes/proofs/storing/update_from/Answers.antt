@@ -3,7 +3,7 @@ use Rattle.rc_core.specs.Runs.{Run, Go, bind}
 use Rattle.rc_nodes.specs.Coming.{Comes}
 use Rattle.rc_memory.specs.KeptWorld.{KeptWorld, kept, with_heap}
 use Rattle.rc_nodes.specs.Stepping.{Doing, going_next}
-use Rattle.rc_memory.specs.Values.{value_of}
+use Rattle.rc_values.specs.Values.{value_of}
 use Rattle.rc_nodes.proofs.Results.{stops_on}
 use Rattle.rc_nodes.proofs.storing.update_from.Goals as goal
 

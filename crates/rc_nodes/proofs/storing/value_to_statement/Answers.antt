@@ -1,11 +1,11 @@
 use Rattle.std.proofs.Common.{sym, ap, subst}
 use Rattle.rc_core.specs.Runs.{Run}
 use Rattle.rc_core.specs.Shapes.{stmt_of}
-use Rattle.rc_nodes.specs.Codes.{frames_of, stage_of}
+use Rattle.rc_frames.specs.Codes.{frames_of, stage_of}
 use Rattle.rc_nodes.specs.Coming.{Comes, with_turns}
 use Rattle.rc_memory.specs.KeptWorld.{KeptWorld}
 use Rattle.rc_nodes.specs.Stepping.{Doing, given_step}
-use Rattle.rc_memory.specs.Values.{value_of}
+use Rattle.rc_values.specs.Values.{value_of}
 use Rattle.rc_nodes.proofs.storing.value_to_statement.Goals as goal
 
 pub returns-in-Value : goal.returns-in-Value

@@ -4,7 +4,7 @@ use Rattle.rc_core.specs.Shapes.{stmt_of}
 use Rattle.rc_nodes.specs.Coming.{Comes}
 use Rattle.rc_memory.specs.KeptWorld.{KeptWorld}
 use Rattle.rc_nodes.specs.Stepping.{Doing, stored_step}
-use Rattle.rc_memory.specs.Values.{value_of}
+use Rattle.rc_values.specs.Values.{value_of}
 use Rattle.rc_nodes.proofs.storing.value_to_storing_statement.Goals as goal
 
 pub returns-in-Store : goal.returns-in-Store

@@ -1,11 +1,11 @@
 use Rattle.std.proofs.Common.{sym, ap, subst}
 use Rattle.rc_core.specs.Runs.{Run}
 use Rattle.rc_core.specs.Shapes.{stmt_of}
-use Rattle.rc_nodes.specs.Codes.{frames_of}
+use Rattle.rc_frames.specs.Codes.{frames_of}
 use Rattle.rc_nodes.specs.Coming.{Comes}
 use Rattle.rc_memory.specs.KeptWorld.{KeptWorld}
 use Rattle.rc_nodes.specs.Stepping.{Doing, value_step}
-use Rattle.rc_memory.specs.Values.{value_of}
+use Rattle.rc_values.specs.Values.{value_of}
 use Rattle.rc_nodes.proofs.storing.value_to_waiting_statement.Goals as goal
 
 pub returns-in-Delete : goal.returns-in-Delete

@@ -5,7 +5,7 @@ use Rattle.rc_core.specs.Shapes.{arguments_of, expr_of, program_of}
 use Rattle.rc_core.proofs.ShapeRows.{call_is}
 use Rattle.rc_slow.specs.declared.machine.Machine.{Machine as CodeMachine}
 use Rattle.rc_slow.specs.Advancing.{Leads, standing, state_at}
-use Rattle.rc_nodes.specs.Codes.{frames_of}
+use Rattle.rc_frames.specs.Codes.{frames_of}
 use Rattle.rc_memory.specs.KeptWorld.{KeptWorld}
 use Rattle.rc_nodes.specs.Stepping.{begin, needs_no_world}
 use Rattle.rc_slow.specs.Whole.{Progress, evaluate_step}

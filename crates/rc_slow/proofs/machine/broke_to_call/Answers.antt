@@ -1,6 +1,6 @@
 use Rattle.std.proofs.Common.{sym, subst}
 use Rattle.rc_slow.specs.Advancing.{LeadsTo, standing, state_at}
-use Rattle.rc_nodes.specs.Codes.{frames_of, CodeFrames}
+use Rattle.rc_frames.specs.Codes.{frames_of, CodeFrames}
 use Rattle.rc_slow.specs.Whole.{breaks_step}
 use Rattle.rc_slow.proofs.machine.broke_to_call.Goals as goal
 

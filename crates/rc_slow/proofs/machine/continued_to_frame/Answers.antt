@@ -3,7 +3,7 @@ use Rattle.rc_core.specs.Runs.{Run}
 use Rattle.rc_core.specs.Shapes.{stmt_of}
 use Rattle.rc_slow.specs.declared.machine.Machine.{Machine as CodeMachine}
 use Rattle.rc_slow.specs.Advancing.{Leads, standing, state_at}
-use Rattle.rc_nodes.specs.Codes.{frame_of, frames_of, stage_of}
+use Rattle.rc_frames.specs.Codes.{frame_of, frames_of, stage_of}
 use Rattle.rc_nodes.specs.Coming.{with_turns}
 use Rattle.rc_memory.specs.KeptWorld.{KeptWorld}
 use Rattle.rc_nodes.specs.Stepping.{continue_step}

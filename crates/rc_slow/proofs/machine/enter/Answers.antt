@@ -1,11 +1,11 @@
 use Rattle.std.proofs.Common.{◌≡◌, ◌∙◌, ◌∷◌, ◌-◌, [], false, None, arith, refl, ap}
 use Rattle.rc_core.specs.Execution.{first_locals}
 use Rattle.rc_core.specs.Shapes.{function_of}
-use Rattle.rc_nodes.specs.declared.calls.Activation.{Activation as CodeActivation}
+use Rattle.rc_frames.specs.declared.calls.Activation.{Activation as CodeActivation}
 use Rattle.rc_slow.specs.declared.machine.Machine.{Machine as CodeMachine}
-use Rattle.rc_nodes.specs.Codes.{frames_of, CodeFrames}
+use Rattle.rc_frames.specs.Codes.{frames_of, CodeFrames}
 use Rattle.rc_slow.specs.Standing.{activation_of}
-use Rattle.rc_nodes.specs.Waiting.{waiting_of}
+use Rattle.rc_frames.specs.Waiting.{waiting_of}
 use Rattle.rc_slow.specs.Whole.{Activation}
 use Rattle.rc_slow.proofs.Advances.{entered_on}
 use Rattle.rc_slow.proofs.machine.enter.Goals as goal

@@ -3,11 +3,11 @@ use Rattle.rc_core.specs.Runs.{Run}
 use Rattle.rc_core.specs.Shapes.{expr_of, program_of}
 use Rattle.rc_slow.specs.declared.machine.Machine.{Machine as CodeMachine}
 use Rattle.rc_slow.specs.Advancing.{standing, state_at}
-use Rattle.rc_nodes.specs.Codes.{frames_of}
+use Rattle.rc_frames.specs.Codes.{frames_of}
 use Rattle.rc_nodes.specs.Coming.{Comes}
 use Rattle.rc_memory.specs.KeptWorld.{KeptWorld}
 use Rattle.rc_nodes.specs.Stepping.{Doing, first_step}
-use Rattle.rc_memory.specs.Values.{value_of}
+use Rattle.rc_values.specs.Values.{value_of}
 use Rattle.rc_slow.proofs.Alone.{inside_code}
 use Rattle.rc_slow.proofs.Advances.{stays}
 use Rattle.rc_slow.proofs.machine.first_value_to_expression.Goals as goal

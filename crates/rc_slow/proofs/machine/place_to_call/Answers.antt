@@ -2,7 +2,7 @@ use Rattle.std.proofs.Common.{◌∙◌, sym, ap, subst}
 use Rattle.rc_core.specs.Runs.{Run}
 use Rattle.rc_core.specs.Shapes.{program_of}
 use Rattle.rc_slow.specs.Advancing.{Leads, LeadsTo, standing, state_at}
-use Rattle.rc_nodes.specs.Codes.{frame_of, frames_of, CodeFrames}
+use Rattle.rc_frames.specs.Codes.{frame_of, frames_of, CodeFrames}
 use Rattle.rc_memory.specs.KeptWorld.{KeptWorld}
 use Rattle.rc_slow.specs.Whole.{Progress, aim_step}
 use Rattle.rc_slow.proofs.Advances.{aim_any}

@@ -2,7 +2,7 @@ use Rattle.std.proofs.Common.{◌∷◌, refl, sym, ap, subst}
 use Rattle.rc_core.specs.Runs.{Run, bind}
 use Rattle.rc_core.specs.Shapes.{program_of}
 use Rattle.rc_slow.specs.Advancing.{Leads, standing, state_at}
-use Rattle.rc_nodes.specs.Codes.{frame_of, frames_of}
+use Rattle.rc_frames.specs.Codes.{frame_of, frames_of}
 use Rattle.rc_memory.specs.KeptWorld.{KeptWorld, kept}
 use Rattle.rc_nodes.specs.Stepping.{giving_next}
 use Rattle.rc_slow.specs.Whole.{Progress, aim_step}

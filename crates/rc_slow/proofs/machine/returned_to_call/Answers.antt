@@ -1,7 +1,7 @@
 use Rattle.std.proofs.Common.{sym, subst}
 use Rattle.rc_slow.specs.Advancing.{LeadsTo, standing, state_at}
-use Rattle.rc_nodes.specs.Codes.{frames_of, CodeFrames}
-use Rattle.rc_memory.specs.Values.{value_of}
+use Rattle.rc_frames.specs.Codes.{frames_of, CodeFrames}
+use Rattle.rc_values.specs.Values.{value_of}
 use Rattle.rc_slow.specs.Whole.{returns_step}
 use Rattle.rc_slow.proofs.machine.returned_to_call.Goals as goal
 

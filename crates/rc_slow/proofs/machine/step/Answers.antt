@@ -3,7 +3,8 @@ use Rattle.rc_core.specs.Runs.{Run, Go}
 use Rattle.rc_core.specs.Shapes.{function_of, program_of, stmt_of, path_of}
 use Rattle.rc_slow.specs.declared.machine.Machine.{Machine as CodeMachine}
 use Rattle.rc_slow.specs.Advancing.{Advances, Leads, standing, state_at}
-use Rattle.rc_nodes.specs.Codes.{control_of, frames_of}
+use Rattle.rc_frames.specs.Codes.{frames_of}
+use Rattle.rc_nodes.specs.Controls.{control_of}
 use Rattle.rc_memory.specs.KeptWorld.{KeptWorld}
 use Rattle.rc_nodes.specs.Stepping.{execute, along_step}
 use Rattle.rc_slow.specs.Whole.{Progress, control_step}

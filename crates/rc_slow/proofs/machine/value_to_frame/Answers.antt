@@ -4,10 +4,10 @@ use Rattle.rc_core.specs.Execution.{calls_within}
 use Rattle.rc_core.specs.Shapes.{expr_of, function_of, place_of, program_of}
 use Rattle.rc_slow.specs.declared.machine.Machine.{Machine as CodeMachine}
 use Rattle.rc_slow.specs.Advancing.{Advances, Leads, standing, state_at}
-use Rattle.rc_nodes.specs.Codes.{frame_of, frames_of}
+use Rattle.rc_frames.specs.Codes.{frame_of, frames_of}
 use Rattle.rc_memory.specs.KeptWorld.{KeptWorld, kept}
 use Rattle.rc_nodes.specs.Stepping.{pointer_step, second_step}
-use Rattle.rc_memory.specs.Values.{value_of}
+use Rattle.rc_values.specs.Values.{value_of}
 use Rattle.rc_slow.specs.Whole.{Progress, give_step, staying}
 use Rattle.rc_slow.proofs.Advances.{stays}
 use Rattle.rc_nodes.proofs.Results.{comes_doing, if_ok_map}

@@ -2,10 +2,10 @@ use Rattle.std.proofs.Common.{refl}
 use Rattle.rc_core.specs.Shapes.{program_of, stmt_of}
 use Rattle.rc_slow.specs.declared.machine.Machine.{Machine as CodeMachine}
 use Rattle.rc_slow.specs.Advancing.{standing, state_at}
-use Rattle.rc_nodes.specs.Codes.{frames_of, stage_of}
+use Rattle.rc_frames.specs.Codes.{frames_of, stage_of}
 use Rattle.rc_nodes.specs.Coming.{with_turns}
 use Rattle.rc_nodes.specs.Stepping.{given_step}
-use Rattle.rc_memory.specs.Values.{value_of}
+use Rattle.rc_values.specs.Values.{value_of}
 use Rattle.rc_slow.proofs.Advances.{stays}
 use Rattle.rc_slow.proofs.machine.value_to_inside_frame.Goals as goal
 

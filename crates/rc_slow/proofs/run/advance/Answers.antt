@@ -1,5 +1,5 @@
 use Rattle.rc_core.specs.Shapes.{program_of}
-use Rattle.rc_nodes.specs.Codes.{control_of}
+use Rattle.rc_nodes.specs.Controls.{control_of}
 use Rattle.rc_slow.specs.Going.{way_from}
 use Rattle.rc_slow.specs.Performing.{Follows}
 use Rattle.rc_slow.proofs.Fallings.{lessens}

@@ -1,5 +1,5 @@
 use Rattle.rc_core.specs.Shapes.{program_of}
-use Rattle.rc_nodes.specs.Codes.{control_of}
+use Rattle.rc_nodes.specs.Controls.{control_of}
 use Rattle.rc_slow.proofs.Goings.{LeavesSoFar, Reaches}
 use Rattle.rc_slow.proofs.run.run_to_end.Given as goal
 

@@ -1,7 +1,7 @@
 use Rattle.std.proofs.Common.{◌∙◌, Ok, refl, subst}
 use Rattle.rc_core.specs.Shapes.{program_of}
 use Rattle.rc_slow.specs.declared.outside.Next.{Next as CodeNext}
-use Rattle.rc_nodes.specs.Codes.{control_of}
+use Rattle.rc_nodes.specs.Controls.{control_of}
 use Rattle.rc_slow.specs.Falling.{Lessens}
 use Rattle.rc_slow.specs.Going.{Comes, way_from}
 use Rattle.rc_slow.specs.Performing.{LeavesOutside}

@@ -1,7 +1,7 @@
 use Rattle.std.proofs.Common.{◌≡◌}
 use Rattle.rc_core.specs.Shapes.{program_of}
 use Rattle.rc_slow.specs.Advancing.{state_at}
-use Rattle.rc_nodes.specs.Codes.{control_of}
+use Rattle.rc_nodes.specs.Controls.{control_of}
 use Rattle.rc_slow.specs.Size.{size_of}
 use Rattle.rc_slow.proofs.Goings.{LeavesSoFar, Reaches}
 use Rattle.rc_slow.proofs.run.run_to_turn.Given as goal

@@ -1,7 +1,7 @@
 use Rattle.std.proofs.Common.{ap, sym, ◌∙◌, length, arith}
 use Rattle.rc_core.specs.Shapes.{struct_of}
-use Rattle.rc_terms.specs.Fields.{struct_in}
-use Rattle.rc_terms.proofs.Contexts.{structs_are}
+use Rattle.rc_defined.specs.Fields.{struct_in}
+use Rattle.rc_defined.proofs.Contexts.{structs_are}
 use Rattle.rc_typing.proofs.Programs.{made_end}
 use Rattle.rc_typing.proofs.checking.structs_of.Goals as goal
 

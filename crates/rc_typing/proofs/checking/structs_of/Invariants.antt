@@ -1,6 +1,6 @@
 use Rattle.std.proofs.Common.{◌≡◌, ◌++◌, drop, map}
 use Rattle.rc_core.specs.Shapes.{struct_of}
-use Rattle.rc_terms.specs.Fields.{struct_in}
+use Rattle.rc_defined.specs.Fields.{struct_in}
 use Rattle.rc_typing.proofs.checking.structs_of.Given as goal
 
 abbrev pub invariant-loop-s : goal.invariant-loop-s

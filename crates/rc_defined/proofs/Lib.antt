@@ -1,0 +1,12 @@
+pub mod Lists
+pub mod Firsts
+pub mod Fronts
+pub mod Stops
+pub mod Meanings
+pub mod Contexts
+pub mod Walks
+pub mod Gathered
+pub mod Counted
+pub mod Sized
+pub mod ByValue
+pub mod Groups

@@ -1,0 +1,5 @@
+pub mod LiveAt
+pub mod LiveBehind
+pub mod Frames
+pub mod Codes
+pub mod Waiting

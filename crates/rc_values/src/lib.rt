@@ -1,0 +1,14 @@
+//! Values and places of an evaluation, and why it stops.
+#![tactic(auto)]
+
+mod cells;
+mod stop;
+mod target;
+mod value;
+mod values;
+
+pub use cells::{blank_cell, note_of, number_cells, zero_of};
+pub use stop::{Stop, trap};
+pub use target::{Chosen, Target, aimed, is_index, product_of_cells, sum_of_cells};
+pub use value::{Address, Value, as_wanted, is_same, is_true, names, number_in, static_pointer};
+pub use values::{Values, front_of};
