@@ -3,6 +3,7 @@
 
 mod area;
 mod head;
+mod naming;
 mod shapes;
 
 pub use area::Area;

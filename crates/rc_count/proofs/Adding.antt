@@ -1,11 +1,9 @@
 -- One region more of a set: what its cells hold is added.
-use Rattle.std.proofs.Common.{◌≡◌, ◌<◌, ◌≤◌, ◌+◌, ◌∙◌, ◌⊎◌, inl, inr, ℕ, zero, suc, IsTrue, List, length, take, get_or, refl, sym, ap, subst, arith}
-use Rattle.std.specs.List.{sum_by}
+use Rattle.std.proofs.Common.{◌≡◌, ◌<◌, ◌≤◌, ◌+◌, ◌⊎◌, inl, inr, ℕ, zero, suc, List, length, take, get_or, ap, arith}
 use Rattle.std.proofs.lemmas.List.Sums.{sum_by_more, sum_by_more_le}
 use Rattle.rc_store.specs.Kept.{Regions}
-use Rattle.rc_store.specs.Stores.{cells_in, live_in, objects_in, region_at}
+use Rattle.rc_store.specs.Stores.{cells_in, objects_in, region_at}
 use Rattle.rc_tally.specs.Tally.{held_refs}
-use Rattle.rc_space.specs.Spaces.{SpaceState, count_of}
 use Rattle.rc_count.specs.Together.{all_held, cells_among}
 
 module _ (regions : Regions) (set : List ℕ) (at : ℕ) (inside : at < length set) where

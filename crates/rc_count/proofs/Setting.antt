@@ -1,15 +1,14 @@
 -- Several regions go at once: the counts stay the references.
-use Rattle.std.proofs.Common.{◌≡◌, ◌≢◌, ◌<◌, ◌≤◌, ◌+◌, ◌-◌, ◌*◌, ◌∙◌, ◌⊎◌, inl, inr, ℕ, zero, suc, Bool, true, false, cond, nat_eq, IsTrue, List, [], ◌∷◌, Option, Some, None, length, get_or, refl, sym, ap, subst, arith}
-use Rattle.std.specs.Prelude.{◌↔◌, All, Contains}
+use Rattle.std.proofs.Common.{◌≡◌, ◌<◌, ◌≤◌, ◌+◌, ◌-◌, ◌∙◌, ℕ, zero, suc, true, cond, nat_eq, List, [], ◌∷◌, Option, Some, None, length, get_or, refl, sym, ap, subst, arith}
+use Rattle.std.specs.Prelude.{All, Contains}
 use Rattle.std.specs.List.{sum_by}
-use Rattle.std.proofs.lemmas.Bool.{false≢true}
 use Rattle.std.proofs.lemmas.List.Sums.{sum_by-cons}
-use Rattle.rc_store.specs.Kept.{KeptStore, KeptView, Regions, object_refs, refs, view_refs}
+use Rattle.rc_store.specs.Kept.{KeptStore, KeptView, object_refs, refs, view_refs}
 use Rattle.rc_store.specs.Sets.{IsSet, deleted_all, is_member, refs_to, set_refs}
-use Rattle.rc_store.specs.Stores.{IsLive, all_cells, cells_in, live_in, objects_in, or_none, region_at}
-use Rattle.rc_counts.specs.Together.{held, without}
+use Rattle.rc_store.specs.Stores.{objects_in, or_none, region_at}
+use Rattle.rc_counts.specs.Together.{held}
 use Rattle.rc_counts.proofs.Together.{place_of, sets_follow}
-use Rattle.rc_groups.proofs.Marked.{contained, in_place}
+use Rattle.rc_groups.proofs.Marked.{in_place}
 use Rattle.rc_tally.specs.Tally.{held_refs}
 use Rattle.rc_space.specs.Spaces.{SpaceState, count_of}
 use Rattle.rc_count.specs.Counted.{IsCounted}

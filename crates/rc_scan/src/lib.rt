@@ -5,5 +5,6 @@ mod object;
 mod region;
 mod scan;
 mod slot;
+mod together;
 
 pub use scan::ScanHeap;

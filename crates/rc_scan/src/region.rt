@@ -2,8 +2,8 @@
 ghost use Rattle.std.specs.Prelude.{◌≡◌, ◌+◌, ◌≤◌, ◌<◌, ◌++◌, ◌∷◌, ◌↔◌, [], length, map, sum_by, OnOk, OnErr, IsTrue, nat_eq, slice_index_or};
 ghost use Rattle.rc_core.specs.Laid.{kind_of};
 ghost use Rattle.rc_core.specs.Shapes.{kinds_in};
-ghost use Rattle.rc_store.specs.Kept.{blank, object_refs};
-ghost use Rattle.rc_store.specs.Stores.{HasCell, cell_value, no_object, objects_with, size_of};
+ghost use Rattle.rc_store.specs.Kept.{blank, object_refs, view_refs};
+ghost use Rattle.rc_store.specs.Stores.{HasCell, cell_value, cells_in, no_object, objects_with, size_of};
 ghost use Rattle.rc_store.specs.Values.{value_of};
 
 use crate::object::Object;
@@ -129,5 +129,21 @@ impl Region {
         ensures never_falls { steps.old ≤ steps.new }
     {
         any_names(&self.objects, region, steps)
+    }
+}
+
+/// Whether a counted cell of a region, if it is live, names this one. Each cell that is read is a step.
+pub(crate) fn slot_names<L: Ledger>(
+    slot: &Option<Region>,
+    region: u32,
+    steps: &mut Steps<L>,
+) -> bool
+    ensures found { IsTrue result ↔ (0 < view_refs region slot.now) }
+    ensures cost { steps.new ≤ steps.old + cells_in slot.now }
+    ensures never_falls { steps.old ≤ steps.new }
+{
+    match slot {
+        Some(other) => other.names(region, steps),
+        None => false,
     }
 }

@@ -8,11 +8,12 @@ ghost use Rattle.rc_store.specs.Kept.{blank, view_refs};
 ghost use Rattle.rc_store.specs.Stores.{HasCell, cell_value, cells_in, is_child, live_in, no_view, object_in, objects_in, objects_with, parent_in, region_at, with_objects};
 ghost use Rattle.rc_store.specs.Values.{value_of};
 
-use crate::region::Region;
+use crate::region::{Region, slot_names};
+use crate::together::{any_beside_names, clear_all, has_child_outside};
 use rc_base::{Limits, NoMemory, Steps};
 use rc_core::layout::Layout;
 use rc_core::ty::Note;
-use rc_store::{Cell, Denied, Heap, MakeFault, Pins, Place};
+use rc_store::{Cell, Denied, Heap, MakeFault, Pins, Place, SetHeap};
 use std::alloc::Global;
 use std::sync::ledger::Ledger;
 
@@ -176,19 +177,8 @@ fn any_child(regions: &[Option<Region>], region: u32) -> bool
     false
 }
 
-/// Whether a counted cell of a region, if it is live, names this one. Each cell that is read is a step.
-fn slot_names<L: Ledger>(slot: &Option<Region>, region: u32, steps: &mut Steps<L>) -> bool
-    ensures found { IsTrue result ↔ (0 < view_refs region slot.now) }
-    ensures cost { steps.new ≤ steps.old + cells_in slot.now }
-    ensures never_falls { steps.old ≤ steps.new }
-{
-    match slot {
-        Some(other) => other.names(region, steps),
-        None => false,
-    }
-}
-
-/// The same of the region i, if it is another one.
+/// Whether a counted cell of the region i, if it is live and another one, names this one. Each cell that
+/// is read is a step.
 fn other_names<L: Ledger>(
     regions: &[Option<Region>],
     i: usize,
@@ -222,6 +212,7 @@ fn any_other_names<L: Ledger>(regions: &[Option<Region>], region: u32, steps: &m
 
 impl ScanHeap {
     ghost use Rattle.rc_store.specs.Kept.{refs};
+    ghost use Rattle.rc_store.specs.Sets.{refs_to, set_refs};
 
     /// Region 0 alone, without objects, and nothing pinned. Both limits are 0.
     ///
@@ -254,6 +245,32 @@ impl ScanHeap {
             return true;
         }
         self.pins.name(region)
+    }
+
+    /// Whether a counted cell of a live region that isn't of the set, or a pin, names this one.
+    fn is_named_beside<L: Ledger>(&self, set: &[u32], member: u32, steps: &mut Steps<L>) -> bool
+        ensures found { IsTrue result ↔ (0 < refs_to (⟦<ScanHeap as Heap>⟧.store self.now) set.now member) }
+        ensures cost { steps.new ≤ steps.old + sum_by cells_in self.now.regions.items }
+        ensures never_falls { steps.old ≤ steps.new }
+    {
+        if any_beside_names(&self.regions, set, member, steps) {
+            return true;
+        }
+        self.pins.name(member)
+    }
+
+    /// Whether a counted cell of a live region that isn't of the set, or a pin, names one of the set.
+    fn is_set_named<L: Ledger>(&self, set: &[u32], steps: &mut Steps<L>) -> bool
+        ensures found { IsTrue result ↔ (0 < set_refs (⟦<ScanHeap as Heap>⟧.store self.now) set.now) }
+        ensures cost { steps.new ≤ steps.old + sum_by (⟦<ScanHeap as Heap>⟧.most_reads self.now) set.now }
+        ensures never_falls { steps.old ≤ steps.new }
+    {
+        for member in set {
+            if self.is_named_beside(set, *member, steps) {
+                return true;
+            }
+        }
+        false
     }
 }
 
@@ -347,5 +364,29 @@ impl Heap for ScanHeap {
     fn limit(&mut self, limits: &Limits) {
         self.region_limit = limits.regions;
         self.block_limit = limits.blocks;
+    }
+}
+
+impl SetHeap for ScanHeap {
+    /// Deletes live regions, each of which stands there once: all of them or none. It takes no memory.
+    /// For each of them it reads at most all cells, each once.
+    ///
+    /// # Errors
+    ///
+    /// Where region 0 is among them, else where a live region that isn't has a member as its parent,
+    /// else where a counted cell of such a region, or a pin, names a member. After an error nothing has
+    /// changed.
+    fn delete_set<L: Ledger>(&mut self, set: &[u32], steps: &mut Steps<L>) -> Result<(), Denied> {
+        if set.contains(&0) {
+            return Err(Denied::Root);
+        }
+        if has_child_outside(&self.regions, set) {
+            return Err(Denied::Subregion);
+        }
+        if self.is_set_named(set, steps) {
+            return Err(Denied::Reference);
+        }
+        clear_all(&mut self.regions, set);
+        Ok(())
     }
 }

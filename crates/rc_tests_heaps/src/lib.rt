@@ -8,4 +8,6 @@ mod references;
 #[cfg(test)]
 mod scripts;
 #[cfg(test)]
+mod set_scripts;
+#[cfg(test)]
 mod sets;

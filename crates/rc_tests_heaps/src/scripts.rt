@@ -16,7 +16,7 @@ use std::test::Fail;
 /// Regions 0 to 39 are asked for, whether they are live or not.
 const NUMBERS: u64 = 40;
 
-fn next(seed: u64) -> u64 {
+pub(crate) fn next(seed: u64) -> u64 {
     seed.wrapping_mul(6364136223846793005)
         .wrapping_add(1442695040888963407)
 }
@@ -28,7 +28,7 @@ fn number(seed: u64) -> u32
     ((seed >> 33) % NUMBERS) as u32
 }
 
-fn of_region(answer: Option<Result<u32, MakeFault>>) -> u64 {
+pub(crate) fn of_region(answer: Option<Result<u32, MakeFault>>) -> u64 {
     match answer {
         None => 1,
         Some(Ok(region)) => 1000 + region as u64,
@@ -37,7 +37,7 @@ fn of_region(answer: Option<Result<u32, MakeFault>>) -> u64 {
     }
 }
 
-fn of_cell(answer: Option<Result<Cell, MakeFault>>) -> u64 {
+pub(crate) fn of_cell(answer: Option<Result<Cell, MakeFault>>) -> u64 {
     match answer {
         None => 4,
         Some(Ok(Cell::Region(region))) => 2000 + region as u64,
@@ -47,7 +47,7 @@ fn of_cell(answer: Option<Result<Cell, MakeFault>>) -> u64 {
     }
 }
 
-fn of_deletion(answer: Option<Result<(), Denied>>) -> u64 {
+pub(crate) fn of_deletion(answer: Option<Result<(), Denied>>) -> u64 {
     match answer {
         None => 8,
         Some(Ok(())) => 9,

@@ -10,6 +10,7 @@ use crate::references::{handle, name};
 use rc_base::{Limits, Steps};
 use rc_core::layout::Layout;
 use rc_count::CountHeap;
+use rc_scan::ScanHeap;
 use rc_store::{Cell, Denied, Heap, SetHeap};
 use std::marker::Brand;
 use std::sync::ledger::{Blank, Ledger};
@@ -40,6 +41,7 @@ fn delete_set_from<H: SetHeap, L: Ledger>(
     requires name { blank.name ≡ L.name }
     requires parts { blank.parts ≡ L.parts }
     requires some { 0 < L.parts }
+    ensures { (H.store heap.new).pins ≡ (H.store heap.old).pins }
 {
     if !is_set(heap, set) {
         return None;
@@ -49,12 +51,14 @@ fn delete_set_from<H: SetHeap, L: Ledger>(
 }
 
 /// The deletion of a set, where it is one, by one who counts no steps.
-fn delete_set<H: SetHeap>(heap: &mut H, set: &[u32]) -> Option<Result<(), Denied>> {
+pub(crate) fn delete_set<H: SetHeap>(heap: &mut H, set: &[u32]) -> Option<Result<(), Denied>>
+    ensures { (H.store heap.new).pins ≡ (H.store heap.old).pins }
+{
     delete_set_from::<H, Brand>(heap, set, Blank::new(1))
 }
 
 /// Pins a live region, tries to delete a set, and takes the pin away again.
-fn delete_set_pinned<H: SetHeap>(
+pub(crate) fn delete_set_pinned<H: SetHeap>(
     heap: &mut H,
     region: u32,
     set: &[u32],
@@ -63,7 +67,9 @@ fn delete_set_pinned<H: SetHeap>(
         return None;
     }
     heap.pin(Cell::Region(region));
-    delete_set(heap, set)
+    let answer = delete_set(heap, set);
+    heap.unpin(Cell::Region(region));
+    answer
 }
 
 /// Two regions that name each other go together, and neither goes alone.
@@ -130,8 +136,25 @@ fn a_ring_goes_together(rt: HostRuntime) -> Result<(), Fail> {
 }
 
 #[test]
+fn a_ring_goes_together_on_the_plain_heap(rt: HostRuntime) -> Result<(), Fail> {
+    let layout = handle(rt.alloc())?;
+    let mut heap = ScanHeap::new(rt.alloc())?;
+    heap.limit(&limits());
+    assert!(rt; deletes_a_ring(&mut heap, &layout));
+    Ok(())
+}
+
+#[test]
 fn a_family_goes_together(rt: HostRuntime) -> Result<(), Fail> {
     let mut heap = CountHeap::new(rt.alloc())?;
+    heap.limit(&limits());
+    assert!(rt; deletes_a_family(&mut heap));
+    Ok(())
+}
+
+#[test]
+fn a_family_goes_together_on_the_plain_heap(rt: HostRuntime) -> Result<(), Fail> {
+    let mut heap = ScanHeap::new(rt.alloc())?;
     heap.limit(&limits());
     assert!(rt; deletes_a_family(&mut heap));
     Ok(())
@@ -141,6 +164,15 @@ fn a_family_goes_together(rt: HostRuntime) -> Result<(), Fail> {
 fn a_named_set_stays(rt: HostRuntime) -> Result<(), Fail> {
     let layout = handle(rt.alloc())?;
     let mut heap = CountHeap::new(rt.alloc())?;
+    heap.limit(&limits());
+    assert!(rt; keeps_the_named(&mut heap, &layout));
+    Ok(())
+}
+
+#[test]
+fn a_named_set_stays_on_the_plain_heap(rt: HostRuntime) -> Result<(), Fail> {
+    let layout = handle(rt.alloc())?;
+    let mut heap = ScanHeap::new(rt.alloc())?;
     heap.limit(&limits());
     assert!(rt; keeps_the_named(&mut heap, &layout));
     Ok(())

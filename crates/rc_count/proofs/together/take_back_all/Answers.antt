@@ -1,4 +1,4 @@
-use Rattle.std.proofs.Common.{◌≡◌, ◌<◌, ◌≤◌, ◌+◌, ◌∙◌, ℕ, inl, inr, IsTrue, get_or, length, take, sym, ap, subst, arith}
+use Rattle.std.proofs.Common.{◌<◌, ◌+◌, ◌∙◌, inl, inr, IsTrue, get_or, take, sym, ap, subst, arith}
 use Rattle.std.proofs.lemmas.List.{take_all}
 use Rattle.rc_store.specs.Stores.{live_in, objects_in}
 use Rattle.rc_tally.specs.Tally.{held_refs}

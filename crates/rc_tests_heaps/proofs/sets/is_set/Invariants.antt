@@ -1,4 +1,4 @@
-use Rattle.std.proofs.Common.{◌≡◌, ◌≢◌, ◌<◌, ℕ, get_or}
+use Rattle.std.proofs.Common.{◌≢◌, ◌<◌, ℕ, get_or}
 use Rattle.rc_store.specs.Stores.{IsLive}
 use Rattle.rc_tests_heaps.proofs.sets.is_set.Given as goal
 
