@@ -23,6 +23,7 @@ use rc_pile::{Caller, Pile, Word};
 use rc_store::{Cell, Heap};
 
 /// The number, or 0 where it is none.
+#[inline(always)]
 pub fn number_in(word: Word) -> i64
     ensures { result ≡ number_in (value_of word) }
 {
@@ -35,6 +36,7 @@ pub fn number_in(word: Word) -> i64
 }
 
 /// A local keeps what one of its kind keeps: a `char` a byte.
+#[inline(always)]
 fn keep(storage: Storage, pile: &mut Pile, local: u32)
     requires { local < length pile.old.locals }
     ensures { pile.new ≡ set_to local (kept storage (local_at pile.old.locals local)) pile.old }
@@ -46,6 +48,7 @@ fn keep(storage: Storage, pile: &mut Pile, local: u32)
 }
 
 /// The first locals keep what locals of their kinds keep.
+#[inline(always)]
 fn keep_first(function: &Function, pile: &mut Pile)
     requires few { function.now.parameters ≤ length function.now.locals }
     requires there { function.now.parameters ≤ length pile.old.locals }
@@ -69,6 +72,7 @@ pub fn body_of<'a>(setting: &Setting<'a>, function: u32) -> &'a Body
 }
 
 /// The function of that number.
+#[inline(always)]
 fn function_of<'a>(setting: &Setting<'a>, function: u32) -> &'a Function
     requires known { function < length setting.now.image.now.functions }
     ensures is { result.now ≡ function_at (reading_of setting.now.image.now) function }
@@ -78,6 +82,7 @@ fn function_of<'a>(setting: &Setting<'a>, function: u32) -> &'a Function
 }
 
 /// The operands of a call become its first locals, and the caller waits.
+#[inline(always)]
 fn begin(setting: &Setting, pile: &mut Pile, caller: Caller, callee: u32, body: &Body)
     requires known { callee < length setting.now.image.now.functions }
     requires body { IsBody setting.now.image.now body.now.start (function_at (reading_of setting.now.image.now) callee) body.now }
@@ -95,6 +100,7 @@ fn begin(setting: &Setting, pile: &mut Pile, caller: Caller, callee: u32, body: 
 
 /// Calls a function: its arguments become its first locals, the caller's values are pinned, and it
 /// takes a turn.
+#[inline(always)]
 pub fn call<H: Heap>(
     setting: &Setting,
     heap: &mut H,
@@ -136,6 +142,7 @@ pub fn call<H: Heap>(
 }
 
 /// What a function gives, or null where it gives nothing.
+#[inline(always)]
 fn result_word(pile: &Pile, has_result: bool) -> Word
     requires { has_result ≡ true → 0 < length pile.now.operands }
     ensures { value_of result ≡ result_if has_result pile.now.operands }
@@ -148,6 +155,7 @@ fn result_word(pile: &Pile, has_result: bool) -> Word
 }
 
 /// Puts a result on the stack, if there is one.
+#[inline(always)]
 fn give_result(pile: &mut Pile, has_result: bool, word: Word)
     requires { has_result ≡ true → 0 < pile.old.room }
     ensures { pile.new ≡ if_given has_result (value_of word) pile.old }
@@ -159,6 +167,7 @@ fn give_result(pile: &mut Pile, has_result: bool, word: Word)
 
 /// Returns to the caller, which unpins its values and goes on with the result, if there is one; or leaves,
 /// where no caller waits.
+#[inline(always)]
 pub fn give_back<H: Heap>(
     setting: &Setting,
     heap: &mut H,

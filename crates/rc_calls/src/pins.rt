@@ -15,6 +15,7 @@ use rc_pile::Pile;
 use rc_store::{Cell, Heap};
 
 /// The locals that the call at this place pins. None where there is no call.
+#[inline(always)]
 pub(crate) fn pins_at(image: &Image, function: u32, place: u32) -> &[u32]
     ensures { result.now ≡ pins_of (instruction_at (function_at (reading_of image.now) function) place) }
 {
@@ -41,6 +42,7 @@ pub fn is_fresh<H: Heap>(heap: &H, value: Cell) -> bool
 }
 
 /// Pins a value, where it names no dead region.
+#[inline(always)]
 fn pin_fresh<H: Heap>(heap: &mut H, value: Cell)
     requires { 0 < (H.store heap.old).spare }
     ensures pins { (H.store heap.new).pins ≡ (H.store heap.old).pins ++ fresh_of (live_in (H.store heap.old).regions) (value_of value ∷ []) }
@@ -53,6 +55,7 @@ fn pin_fresh<H: Heap>(heap: &mut H, value: Cell)
 }
 
 /// Takes a pin of a value away, where it names no dead region.
+#[inline(always)]
 fn unpin_fresh<H: Heap>(heap: &mut H, value: Cell)
     requires { is_fresh (live_in (H.store heap.old).regions) (value_of value) ≡ true → Contains (H.store heap.old).pins (value_of value) }
     ensures pins { IsPermutation (H.store heap.old).pins (fresh_of (live_in (H.store heap.old).regions) (value_of value ∷ []) ++ (H.store heap.new).pins) }
@@ -68,6 +71,7 @@ fn unpin_fresh<H: Heap>(heap: &mut H, value: Cell)
 /// # Errors
 ///
 /// Out of memory.
+#[inline(always)]
 pub fn pin_all<H: Heap>(heap: &mut H, pile: &Pile, pins: &[u32]) -> Result<(), NoMemory>
     requires { AreLocals pins.now pile.now }
     ensures { OnOk result (IsPinned (pinned pins.now pile.now.locals) (H.store heap.old) (H.store heap.new)) }
@@ -84,6 +88,7 @@ pub fn pin_all<H: Heap>(heap: &mut H, pile: &Pile, pins: &[u32]) -> Result<(), N
 }
 
 /// Takes the pins of these locals' values away, of those that name no dead region.
+#[inline(always)]
 pub fn unpin_all<H: Heap>(heap: &mut H, pile: &Pile, pins: &[u32])
     requires locals { AreLocals pins.now pile.now }
     requires held { AreHeld (pinned pins.now pile.now.locals) (H.store heap.old) }

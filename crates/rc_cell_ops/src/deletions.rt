@@ -20,6 +20,7 @@ use rc_store::{Denied, Heap};
 use std::sync::ledger::Ledger;
 
 /// The locals that the deletion at this place pins. None where there is no deletion.
+#[inline(always)]
 fn deleting_pins(image: &Image, function: u32, place: u32) -> &[u32]
     ensures { result.now ≡ deleting_pins (instruction_at (function_at (reading_of image.now) function) place) }
 {
@@ -37,6 +38,7 @@ fn deleting_pins(image: &Image, function: u32, place: u32) -> &[u32]
 /// # Errors
 ///
 /// The trap of a region that must stay. Or out of memory.
+#[inline(always)]
 fn free<H: Heap, L: Ledger>(
     heap: &mut H,
     pile: &Pile,
@@ -63,6 +65,7 @@ fn free<H: Heap, L: Ledger>(
 }
 
 /// Deletes the region on the stack.
+#[inline(always)]
 pub fn delete<H: Heap, L: Ledger>(
     setting: &Setting,
     heap: &mut H,

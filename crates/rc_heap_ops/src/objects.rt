@@ -23,6 +23,7 @@ use rc_pile::{Pile, Word};
 use rc_store::{Heap, MakeFault, Pointer};
 
 /// The region that a pointer leads into.
+#[inline(always)]
 pub fn region_of<H: Heap>(
     _setting: &Setting,
     _heap: &H,
@@ -46,6 +47,7 @@ pub fn region_of<H: Heap>(
 }
 
 /// The layout of a type.
+#[inline(always)]
 fn layout_of<'a>(setting: &Setting<'a>, type_number: u32) -> &'a Layout
     requires set { IsSet setting.now.image.now setting.now.bodies.now setting.now.layouts.now }
     requires known { type_number < length setting.now.image.now.types }
@@ -56,6 +58,7 @@ fn layout_of<'a>(setting: &Setting<'a>, type_number: u32) -> &'a Layout
 
 /// Makes an object of so many elements in a live region, and puts its address in place of so many
 /// operands.
+#[inline(always)]
 fn make<H: Heap>(
     setting: &Setting,
     heap: &mut H,
@@ -97,6 +100,7 @@ fn make<H: Heap>(
 }
 
 /// Makes an object of one element in the region on the stack.
+#[inline(always)]
 pub fn allocate<H: Heap>(
     setting: &Setting,
     heap: &mut H,
@@ -117,6 +121,7 @@ pub fn allocate<H: Heap>(
 }
 
 /// Makes an object of as many elements as the `int` on the stack says, in the region below it.
+#[inline(always)]
 pub fn allocate_array<H: Heap>(
     setting: &Setting,
     heap: &mut H,
@@ -148,6 +153,7 @@ pub fn allocate_array<H: Heap>(
 }
 
 /// A number of elements forwards or backwards.
+#[inline(always)]
 fn toward(direction: Direction, n: i64) -> i128
     ensures { result ≡ toward direction n }
 {
@@ -173,6 +179,7 @@ pub fn index_below(index: i128, count: u64) -> Option<u32>
 }
 
 /// Moves a pointer by elements.
+#[inline(always)]
 pub fn move_pointer<H: Heap>(
     _setting: &Setting,
     heap: &H,

@@ -17,6 +17,7 @@ use rc_pile::Pile;
 use rc_store::Heap;
 
 /// Writes the topmost operand's byte, which stays on the stack.
+#[inline(always)]
 pub fn put_char<H: Heap, O: Sink>(
     _setting: &Setting,
     _heap: &H,
@@ -61,6 +62,7 @@ fn ask<S: Source>(input: &mut S) -> Result<i64, Failed>
 }
 
 /// Asks for a byte, and puts it on the stack, or -1 where there is none.
+#[inline(always)]
 pub fn get_char<H: Heap, S: Source>(
     _setting: &Setting,
     _heap: &H,

@@ -14,6 +14,7 @@ use rc_pile::{Pile, Word};
 use rc_store::{Heap, MakeFault};
 
 /// Makes a region below a live one, and puts it in place of so many operands.
+#[inline(always)]
 fn make<H: Heap>(
     _setting: &Setting,
     heap: &mut H,
@@ -42,6 +43,7 @@ fn make<H: Heap>(
 }
 
 /// Makes a region below the traditional one.
+#[inline(always)]
 pub fn new_region<H: Heap>(
     setting: &Setting,
     heap: &mut H,
@@ -58,6 +60,7 @@ pub fn new_region<H: Heap>(
 }
 
 /// Makes a region below the one on the stack.
+#[inline(always)]
 pub fn new_subregion<H: Heap>(
     setting: &Setting,
     heap: &mut H,
