@@ -78,7 +78,7 @@ done_line (Refused refusal) = refusal_line refusal
 done_line (ImageRefused refusal) = image_refusal_line refusal
 done_line Wrote = []
 done_line Reported = []
-done_line Usage = codes "usage: rc run FILE | compile FILE IMAGE | exec IMAGE | checks FILE | list IMAGE | slow FILE | soak N | upgrade IMAGE IMAGE\n"
+done_line Usage = codes "usage: rc run FILE | compile FILE IMAGE | exec IMAGE | checks FILE | list IMAGE | slow FILE | soak N | upgrade IMAGE IMAGE | heap FILE\n"
 
 -- nothing can be said of a failed error stream on it
 abbrev pub fault_line : Fault → List ℕ

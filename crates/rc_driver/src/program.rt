@@ -12,11 +12,12 @@ use rc_exec::exec_image;
 use rc_image_files::{list_image, upgrade_image};
 use rc_programs::{compile_file, run_file};
 use rc_requests::{Request, request_of};
-use rc_store::Heap;
+use rc_scripts::run_script;
+use rc_store::SetHeap;
 use std::alloc::Global;
 
 /// Does what the words ask, but for telling it.
-fn perform<F: Shelf, S: Source, O: Sink, H: Heap>(
+fn perform<F: Shelf, S: Source, O: Sink, H: SetHeap>(
     alloc: Global,
     words: &[String],
     files: &mut F,
@@ -40,6 +41,7 @@ fn perform<F: Shelf, S: Source, O: Sink, H: Heap>(
         }
         Some(Request::Listing(file)) => list_image(alloc, file, files, out),
         Some(Request::Upgrade(from, to)) => upgrade_image(alloc, from, to, files),
+        Some(Request::Script(file, limits)) => { run_script(alloc, file, limits, files, out, heap) }
         None => Ok(Done::Usage),
     }
 }
@@ -51,8 +53,9 @@ fn perform<F: Shelf, S: Source, O: Sink, H: Heap>(
 /// writes exactly the bytes of the meaning of its program or its image to `out`, takes exactly those of
 /// `input` that the meaning asks for, and answers exactly its end. A program is run through its image,
 /// but for the request to go node by node; an image of a file is run with all marks of its stores taken
-/// away. Both run over `heap`, which is as its constructor made it, under the request's limits. Only a
-/// fault of the outside, which its count shows, or want of memory may cut a run short, and then a front
+/// away. Both run over `heap`, which is as its constructor made it, under the request's limits. A script
+/// of heap commands is obeyed over it line by line, writes exactly its answers to `out`, and leaves the
+/// store that is behind its last line. Only a fault of the outside, which its count shows, or want of memory may cut a run short, and then a front
 /// of the meaning's acts was done. What is answered
 /// is told on `err`. All that is promised stands fact by fact in `Serves` of specs/Headline, over the
 /// outside before the call and after it.
@@ -62,7 +65,7 @@ fn perform<F: Shelf, S: Source, O: Sink, H: Heap>(
 /// `FileFault`, `ReadFault`, `WriteFault` and `ErrFault` come only where the count of `files`, `input`,
 /// `out` or `err` rose in the call; `FileFault` comes also where a name that the words ask to read isn't
 /// there. `Memory` may come at any time.
-pub fn rc_main<F: Shelf, S: Source, O: Sink, E: Sink, H: Heap>(
+pub fn rc_main<F: Shelf, S: Source, O: Sink, E: Sink, H: SetHeap>(
     alloc: Global,
     words: &[String],
     files: &mut F,

@@ -1,5 +1,5 @@
-//! Runs each example by its name, and says which status it ends with. What an example writes on the
-//! error stream stands behind what it writes on the output.
+//! Runs each example by its name, a program or a script, and says which status it ends with. What an
+//! example writes on the error stream stands behind what it writes on the output.
 #![tactic(auto)]
 
 use rc_base::NoMemory;
@@ -8,7 +8,7 @@ use rc_driver::{Folder, StdSink, StdSource, rc_main, status_of};
 use std::io::{self, ErrorKind};
 use std::process::ExitCode;
 
-const EXAMPLES: [&str; 11] = [
+const EXAMPLES: [&str; 12] = [
     "hello.c",
     "list.c",
     "tree.c",
@@ -20,13 +20,23 @@ const EXAMPLES: [&str; 11] = [
     "dangling.c",
     "overflow.c",
     "refused.c",
+    "ring.heap",
 ];
+
+/// The command that runs an example.
+fn verb(name: &str) -> &'static str {
+    if name.ends_with(".heap") {
+        "heap"
+    } else {
+        "run"
+    }
+}
 
 /// Runs an example, and answers its status.
 fn run(rt: &HostRuntime, name: &str) -> io::Result<u8> {
     let alloc = rt.alloc();
     let mut words = Vec::new(alloc);
-    words.push(String::from_str(alloc, "run")?)?;
+    words.push(String::from_str(alloc, verb(name))?)?;
     words.push(String::from_str(alloc, name)?)?;
     let mut files = Folder::new(rt.clone()?);
     let mut input = StdSource::new(rt.stdin());

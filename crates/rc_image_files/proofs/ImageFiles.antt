@@ -1,5 +1,5 @@
 -- Requests that make something of the image of a file.
-use Rattle.std.proofs.Common.{◌≡◌, ◌∙◌, ◌≤◌, ℕ, true, List, Option, Some, Result, Ok, Err, IsTrue, refl, sym, ap, subst, arith, inl, inr, length}
+use Rattle.std.proofs.Common.{◌≡◌, ◌∙◌, ◌≤◌, ℕ, true, List, Option, Some, Result, Ok, Err, IsTrue, refl, sym, ap, subst, arith, inl, length}
 use Rattle.rc_base.specs.Shelves.{IsFront, Loads, ShelfState}
 use Rattle.rc_base.specs.Sinks.{SinkState}
 use Rattle.rc_base.specs.declared.outside.Piece.{Piece}
@@ -7,13 +7,13 @@ use Rattle.rc_base.specs.declared.outside.ShelfFault.{ShelfFault}
 use Rattle.rc_code.specs.declared.image.Parts.{Parts}
 use Rattle.rc_outcomes.specs.Footprint.{UsesFiles, footprint}
 use Rattle.rc_image_files.specs.Loading.{LoadedImage, MaySay, ReadPiece, beyond, whole}
-use Rattle.rc_outcomes.specs.Loading.{LoadCause, Loaded, no_file, no_memory}
+use Rattle.rc_outcomes.specs.Loading.{LoadCause, Loaded, no_memory}
 use Rattle.rc_outcomes.specs.Images.{image_in, read_as}
 use Rattle.rc_outcomes.specs.Storing.{MadeFile}
 use Rattle.rc_outcomes.proofs.Storing.{stored_bytes}
 use Rattle.rc_image_files.specs.Making.{ListsOf, MadeReport, MakesOf, UpgradesOf}
 use Rattle.rc_image_files.specs.Making as making
-use Rattle.rc_outcomes.specs.Outcome.{Comes, IsOutcome, Lists, OfRead, Outcome, Upgrades, answers, reports, stores}
+use Rattle.rc_outcomes.specs.Outcome.{AnyHeap, Comes, IsOutcome, Lists, OfRead, Outcome, Upgrades, answers, reports, stores}
 use Rattle.rc_outcomes.specs.Outside.{Outside, outside}
 use Rattle.rc_outcomes.specs.Performing.{Performs}
 use Rattle.rc_requests.specs.Request.{Request, Listing, Upgrade}
@@ -29,11 +29,12 @@ use Rattle.rc_image.specs.Reading.{parts_of}
 use Rattle.rc_image.specs.Spelling.{spelling}
 use Rattle.rc_image.specs.declared.version.Version.TheVariants.{Two}
 use Rattle.rc_listing.specs.Listing.{listing}
-use Rattle.rc_outcomes.proofs.Reports.{writes_report}
+use Rattle.rc_outcomes.proofs.Reports.{nothing_said, writes_report}
 use Rattle.rc_outcomes.proofs.SpelledImages.{read_long, read_short}
-use Rattle.rc_outcomes.proofs.Ways.{same_text, the_only, there_is}
+use Rattle.rc_outcomes.proofs.Ways.{same_text, the_only}
 use Rattle.rc_outcomes.proofs.TextLaws.{longer, whole_is}
-use Rattle.rc_outcomes.proofs.Ways.{FailsFirst, HasRead, OnlyReads, fails_before, is_refused, no_file as fails_by_file, no_memory as fails_by_memory, untouched}
+use Rattle.rc_outcomes.proofs.Files as one_file
+use Rattle.rc_outcomes.proofs.Ways.{HasRead, OnlyReads, fails_before, is_refused, no_memory as fails_by_memory, untouched}
 
 -- ---- what was loaded
 
@@ -103,14 +104,10 @@ module _ (request : Option Request) (name : List ℕ) (Made : Parts → List ℕ
 
   module _ (said : Result Parts ImageRefusal) (l : Loaded name before.files files' (λ bytes. image_in bytes ≡ said)) where
     pub only_reads : OnlyReads request before files'
-    only_reads = record { uses = uses; tells = l.tells; names = l.names; never_falls = (let same = l.kept in omega (arith, same)) }
+    only_reads = one_file.only_reads request name row.reads before files' (λ bytes. image_in bytes ≡ said) l
 
     pub has_read : HasRead request before files'
-    has_read = record {
-      only_reads = only_reads;
-      there = λ missing. (let file = l.holds missing.2.tells in there_is before.files.names name missing.0 file.0 (row.only missing.0 missing.1) file.1 missing.2.none);
-      kept = l.kept;
-    }
+    has_read = one_file.has_read request name row.reads before files' (λ bytes. image_in bytes ≡ said) l row.only
 
     pub some_made : (outcome : Outcome) → OfRead Made said before.input.rest outcome → (UsesFiles (footprint request) → IsTrue before.files.tells) → IsOutcome request before.files.names before.input.rest outcome
     some_made outcome is told =
@@ -131,13 +128,7 @@ module _ (request : Option Request) (name : List ℕ) (Made : Parts → List ℕ
       is_refused request before files' before.input before.out (ImageRefused refusal) (has_read (Err refusal) l.0) (untouched before.input before.out) tt (row.may_refuse refusal l.1) (some_made (Err refusal) l.0 (answers (ImageRefused refusal)) refl) (only_made (Err refusal) l.0)
 
   pub failed : (fault : Fault) → LoadedImage name before.files files' (Err (Failed fault)) → Performs request before (outside files' before.input before.out before.err before.heap) (Err fault)
-  failed fault l =
-      fails_before request before files' before.input before.out fault (record { uses = uses; tells = l.tells; names = l.names; never_falls = l.never_falls }) (untouched before.input before.out) (by fault l.cause)
-    where
-      by : (fault : Fault) → LoadCause name before.files files' fault → FailsFirst request before files' fault
-      by fault (no_file (inl lacks)) = fails_by_file (inr (name, row.reads, lacks))
-      by fault (no_file (inr rose)) = fails_by_file (inl rose)
-      by fault (no_memory kept) = fails_by_memory kept
+  failed fault l = one_file.fails_to_load request name row.reads before files' fault l
 
 -- ---- listings
 
@@ -145,8 +136,8 @@ pub listed : (request : Option Request) (name : List ℕ) (before : Outside) (fi
 listed request name before files' out' image result row l (making.no_memory same) =
     subst (λ (o : SinkState). Performs request before (outside files' before.input o before.err before.heap) (Err Memory)) (sym same) (no_memory_then request name Lists row.makes before files' (Ok image) l)
 listed request name before files' out' image result row l (making.wrote other report) =
-    writes_report request before files' out' (listing image) other (has_read request name Lists row.makes before files' (Ok image) l)
-    (record { writes_out = row.writes_out; may_report = row.may_report; outcome = some_made request name Lists row.makes before files' (Ok image) l (reports (listing image)) refl; only = only_made request name Lists row.makes before files' (Ok image) l }) report
+    writes_report request before files' out' before.heap (listing image) AnyHeap (has_read request name Lists row.makes before files' (Ok image) l)
+    (record { writes_out = row.writes_out; may_report = row.may_report; outcome = some_made request name Lists row.makes before files' (Ok image) l (reports (listing image)) refl; only = only_made request name Lists row.makes before files' (Ok image) l }) (λ e. refl) other report (nothing_said other before.heap)
 
 -- ---- upgrades
 

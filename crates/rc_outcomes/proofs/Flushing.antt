@@ -15,12 +15,12 @@ use Rattle.rc_outcomes.specs.Runs.{FlushedBehind, Ran, RanUnflushed, ended, no_m
 use Rattle.rc_store.specs.Kept.{KeptStore}
 
 -- a count that rose later rose
-rose_later : (a b c : ℕ) → a ≤ b → Rose b c → Rose a c
+pub rose_later : (a b c : ℕ) → a ≤ b → Rose b c → Rose a c
 rose_later a b c later (inl more) = inl (omega arith)
 rose_later a b c later (inr last) = inr last
 
 -- a flush writes nothing
-took_flushed : (bytes : List ℕ) (a b c : SinkState) → b.tells ≡ a.tells → Took bytes a b → Took [] b c → Took bytes a c
+pub took_flushed : (bytes : List ℕ) (a b c : SinkState) → b.tells ≡ a.tells → Took bytes a b → Took [] b c → Took bytes a c
 took_flushed bytes a b c same took none = subst (λ (bytes : List ℕ). Took bytes a c) (append-nil bytes) (took_then bytes [] a b c same took none)
 
 performed_flushed : (acts : List Act) (input input' : SourceState) (a b c : SinkState) → b.tells ≡ a.tells → Performed acts input input' a b → Took [] b c → Performed acts input input' a c
@@ -30,7 +30,7 @@ performed_flushed acts input input' a b c same did none = record {
 }
 
 -- where no count rose, the flush didn't fail
-is_flushed : (a b c : SinkState) (result : Result (Unit {0}) Failed) → a.faults ≤ b.faults → Flushes b c result → ¬ Rose a.faults c.faults → IsFlushed c
+pub is_flushed : (a b c : SinkState) (result : Result (Unit {0}) Failed) → a.faults ≤ b.faults → Flushes b c result → ¬ Rose a.faults c.faults → IsFlushed c
 is_flushed a b c (Ok value) later flush none = flush.ok
 is_flushed a b c (Err failed) later flush none = absurd (none (rose_later a.faults b.faults c.faults later (flush.cause.failed refl)))
 

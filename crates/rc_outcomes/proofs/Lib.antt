@@ -1,3 +1,4 @@
+pub mod Files
 pub mod Flushing
 pub mod OneOutcome
 pub mod Reports

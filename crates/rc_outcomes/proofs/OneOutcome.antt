@@ -28,10 +28,10 @@ use Rattle.rc_answers.specs.declared.image_refusal.ImageRefusal.{ImageRefusal}
 use Rattle.rc_outcomes.specs.Images.{image_in}
 use Rattle.rc_outcomes.specs.Footprint.{AreThere, footprint}
 use Rattle.rc_joined.specs.Programs.{image_of_program}
-use Rattle.rc_outcomes.specs.Outcome.{Executes, IsOutcome, Lists, OfImage, OfRead, OfText, OfTextFile, Leaving, Runs, Compiles, Outcome, Upgrades, unsaid, accepts, answers, broken, came, refusal_of_code, refuses, reports, runs, sound, stores}
-use Rattle.rc_requests.specs.Request.{Request, Run, Slow, Compile, Exec, Listing, Upgrade}
+use Rattle.rc_outcomes.specs.Outcome.{Executes, IsOutcome, Lists, OfImage, OfRead, OfScriptFile, OfText, OfTextFile, Leaving, Runs, Compiles, Outcome, Upgrades, unsaid, accepts, answers, broken, came, refusal_of_code, refuses, reports, runs, script_outcome, sound, stores}
+use Rattle.rc_requests.specs.Request.{Request, Run, Slow, Compile, Exec, Listing, Upgrade, Script}
 use Rattle.rc_answers.specs.declared.answer.Done.TheVariants.{ImageRefused, Refused, Usage}
-use Rattle.rc_outcomes.proofs.Ways.{an_end}
+use Rattle.rc_outcomes.proofs.Ways.{an_end, same_text}
 use Rattle.rc_safety.specs.Safety.{NeverTouchesDeleted}
 use Rattle.rc_safety.proofs.Never.{never_touches_deleted}
 
@@ -71,6 +71,12 @@ execution limits input image = by (sound_or_first image) where
   by (inl is) = (came (image_meaning (unmarked image) input limits) (image_left (unmarked image) input limits), sound is refl)
   by (inr (v, first)) = (answers (ImageRefused (refusal_of_code v)), broken v first refl)
 
+script_some : (file : List ℕ) (limits : Limits) (files : Names) → ¬ (files file ≡ None) → (outcome : Outcome) × OfScriptFile file limits files outcome
+script_some file limits files there = by (files file) refl where
+  by : (o : Option (List ℕ)) → files file ≡ o → (outcome : Outcome) × OfScriptFile file limits files outcome
+  by None is = absurd (there is)
+  by (Some text) is = (script_outcome limits text, (text, is, refl))
+
 pub some_outcome : (request : Option Request) (files : Names) (input : List ℕ) → AreThere (footprint request) files → (outcome : Outcome) × IsOutcome request files input outcome
 some_outcome None files input there = (answers Usage, refl)
 some_outcome (Some (Run file limits)) files input there = file_outcome file (Runs meant.left limits) files input (run_outcome meant.left limits input) (there file (0, omega arith, refl))
@@ -79,6 +85,7 @@ some_outcome (Some (Compile from to)) files input there = file_outcome from (Com
 some_outcome (Some (Exec file limits)) files input there = image_outcome file (Executes limits) files input (execution limits input) (there file (0, omega arith, refl))
 some_outcome (Some (Listing file)) files input there = image_outcome file Lists files input (λ image. (reports (listing image), refl)) (there file (0, omega arith, refl))
 some_outcome (Some (Upgrade from to)) files input there = image_outcome from (Upgrades to) files input (λ image. (stores to (spelling Two image), refl)) (there from (0, omega arith, refl))
+some_outcome (Some (Script file limits)) files input there = script_some file limits files (there file (0, omega arith, refl))
 
 -- two outcomes of one text are one
 same_end : (program : Program) (input : List ℕ) (limits : Limits) (one other : End) → (meaning program input limits).end ≡ Ends one → (meaning program input limits).end ≡ Ends other → one ≡ other
@@ -116,6 +123,9 @@ one_execution limits input one other image (sound a c) (broken v b d) = absurd (
 one_execution limits input one other image (broken v a c) (sound b d) = absurd (none_where_sound image v b a)
 one_execution limits input one other image (broken v a c) (broken w b d) = c ∙ ap (λ (u : Violation). answers (ImageRefused (refusal_of_code u))) (one_first image v w a b) ∙ sym d
 
+one_script : (file : List ℕ) (limits : Limits) (files : Names) (one other : Outcome) → OfScriptFile file limits files one → OfScriptFile file limits files other → one ≡ other
+one_script file limits files one other (text, is, so) (text', is', so') = so ∙ ap (script_outcome limits) (same_text files file text text' is is') ∙ sym so'
+
 pub one_outcome : (request : Option Request) (files : Names) (input : List ℕ) (one other : Outcome) → IsOutcome request files input one → IsOutcome request files input other → one ≡ other
 one_outcome None files input one other is also = is ∙ sym also
 one_outcome (Some (Run file limits)) files input one other is also = one_of_file file (Runs meant.left limits) files input one other (one_run meant.left limits input one other) is also
@@ -124,6 +134,7 @@ one_outcome (Some (Compile from to)) files input one other is also = one_of_file
 one_outcome (Some (Exec file limits)) files input one other is also = one_of_image file (Executes limits) files input one other (one_execution limits input one other) is also
 one_outcome (Some (Listing file)) files input one other is also = one_of_image file Lists files input one other (λ image a b. a ∙ sym b) is also
 one_outcome (Some (Upgrade from to)) files input one other is also = one_of_image from (Upgrades to) files input one other (λ image a b. a ∙ sym b) is also
+one_outcome (Some (Script file limits)) files input one other is also = one_script file limits files one other is also
 
 pub accepted_never : (text : List ℕ) (program : Program) (input : List ℕ) (limits : Limits) → Accepted text program → NeverTouchesDeleted program input limits
 accepted_never text program input limits accepted = never_touches_deleted program input limits (accepted_in_place text program accepted)

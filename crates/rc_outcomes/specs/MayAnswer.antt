@@ -3,7 +3,8 @@ use Rattle.std.specs.Prelude.{◌≡◌, Option, Some, None}
 use Rattle.rc_answers.specs.Answers.{IsOfBytes}
 use Rattle.rc_answers.specs.declared.answer.Done.{Done}
 use Rattle.rc_answers.specs.declared.answer.Done.TheVariants.{Ended, StaleImage, Refused, ImageRefused, Wrote, Reported, Usage}
-use Rattle.rc_requests.specs.Request.{Request, Run, Slow, Compile, Exec, Listing, Upgrade}
+use Rattle.rc_compile.specs.declared.refusal.Refusal.TheVariants.{TooLong}
+use Rattle.rc_requests.specs.Request.{Request, Run, Slow, Compile, Exec, Listing, Upgrade, Script}
 
 -- a text ends its run or is refused
 abbrev pub EndsOrIsRefused : Done → Type 0
@@ -36,6 +37,12 @@ StoresOrIsRefused Wrote = Unit {0}
 StoresOrIsRefused (Refused refusal) = Unit {0}
 StoresOrIsRefused _ = ⊥
 
+-- a script is run, or is too long
+abbrev pub ReportsOrIsTooLong : Done → Type 0
+ReportsOrIsTooLong Reported = Unit {0}
+ReportsOrIsTooLong (Refused TooLong) = Unit {0}
+ReportsOrIsTooLong _ = ⊥
+
 -- the row of each request; words that ask nothing have the usage alone
 abbrev pub MayAnswer : Option Request → Done → Type 0
 MayAnswer None done = done ≡ Usage
@@ -45,3 +52,4 @@ MayAnswer (Some (Compile from to)) done = StoresOrIsRefused done
 MayAnswer (Some (Exec file limits)) done = RunsOrIsRefused done
 MayAnswer (Some (Listing file)) done = ReportsOrIsRefused done
 MayAnswer (Some (Upgrade from to)) done = WritesOrIsRefused done
+MayAnswer (Some (Script file limits)) done = ReportsOrIsTooLong done

@@ -1,7 +1,8 @@
 -- What a request comes to if nothing fails: its answer, and what it does outside.
-use Rattle.std.specs.Prelude.{◌≡◌, ◌⊎◌, ℕ, List, [], ◌∷◌, ◌++◌, map, Option, Some, None, Result, Ok, Err, IsTrue}
+use Rattle.std.specs.Prelude.{◌≡◌, ◌⊎◌, ℕ, nat_le, List, [], ◌∷◌, ◌++◌, length, map, Option, Some, None, Result, Ok, Err, IsTrue, if◌then◌else◌}
 use Rattle.rc_base.specs.Acts.{Act, Gave, IsGetcharNext, IsWriteNext, Write, output}
 use Rattle.rc_base.specs.Causes.{Rose}
+use Rattle.rc_base.specs.Limits.{most_text_bytes}
 use Rattle.rc_base.specs.Shelves.{Names}
 use Rattle.rc_base.specs.Sinks.{IsFlushed, SinkState, Took}
 use Rattle.rc_base.specs.Sources.{SourceState}
@@ -11,6 +12,7 @@ use Rattle.rc_code.specs.declared.image.Parts.{Parts}
 use Rattle.rc_compile.specs.Acceptance.{Accepted}
 use Rattle.rc_compile.specs.Acceptance as acceptance
 use Rattle.rc_compile.specs.declared.refusal.Refusal.{Refusal}
+use Rattle.rc_compile.specs.declared.refusal.Refusal.TheVariants as refusal
 use Rattle.rc_core.specs.Meaning.{Left, Meaning, meaning}
 use Rattle.rc_core.specs.Meaning as meant
 use Rattle.rc_core.specs.Programs.{Program}
@@ -24,11 +26,13 @@ use Rattle.rc_loader.specs.declared.fault.Rule.{Rule}
 use Rattle.rc_loader.specs.declared.fault.Rule.TheVariants as rule
 use Rattle.rc_loader.specs.declared.fault.Violation.{Violation}
 use Rattle.rc_steps.specs.Stands.{IsKept}
+use Rattle.rc_replies.specs.Replies.{heap_store, heap_text}
+use Rattle.rc_replies.specs.Stores.{IsSame}
 use Rattle.rc_store.specs.Kept.{KeptStore}
 use Rattle.rc_outcomes.specs.Footprint.{TellsWhatIsUsed, footprint}
 use Rattle.rc_outcomes.specs.Images.{image_in}
 use Rattle.rc_outcomes.specs.Outside.{Outside}
-use Rattle.rc_requests.specs.Request.{Request, Run, Slow, Compile, Exec, Listing, Upgrade}
+use Rattle.rc_requests.specs.Request.{Request, Run, Slow, Compile, Exec, Listing, Upgrade, Script}
 use Rattle.rc_answers.specs.declared.answer.Done.{Done}
 use Rattle.rc_answers.specs.declared.answer.Done.TheVariants.{Ended, StaleImage, Refused, ImageRefused, Wrote, Reported, Usage}
 use Rattle.rc_answers.specs.declared.answer.Fault.{Fault}
@@ -45,18 +49,31 @@ pub record Stored : Type 0 where
   pub name : List ℕ
   pub bytes : List ℕ
 
+-- what is said of the heap behind a request
+pub data HeapLeft : Type 0 where
+  -- nothing
+  AnyHeap : HeapLeft
+  -- these are its regions, and nothing is pinned
+  Unpinned : Left → HeapLeft
+  -- it is this store, but for the order of its pins and the room for more
+  SameAs : KeptStore → HeapLeft
+
+abbrev pub unpinned : Option Left → HeapLeft
+unpinned None = AnyHeap
+unpinned (Some regions) = Unpinned regions
+
 -- the answer of a request, its acts on the input and the output, what it stores, and what it leaves of the heap, where that is said
 pub record Outcome : Type 0 where
   pub done : Done
   pub acts : List Act
   pub stored : Option Stored
-  pub left : Option Left
+  pub left : HeapLeft
 
 abbrev pub answers : Done → Outcome
-answers done = record { done = done; acts = []; stored = None; left = None }
+answers done = record { done = done; acts = []; stored = None; left = AnyHeap }
 
 abbrev pub runs : List Act → End → Option Left → Outcome
-runs acts end left = record { done = Ended end; acts = acts; stored = None; left = left }
+runs acts end left = record { done = Ended end; acts = acts; stored = None; left = unpinned left }
 
 -- a run ends, or an image from elsewhere touched a deleted region
 abbrev pub end_as : Stop → Done
@@ -65,18 +82,22 @@ end_as (Stale line) = StaleImage line
 
 -- what a run comes to that means this
 abbrev pub came : Meaning → Option Left → Outcome
-came means left = record { done = end_as means.end; acts = means.acts; stored = None; left = left }
+came means left = record { done = end_as means.end; acts = means.acts; stored = None; left = unpinned left }
 
 -- the acts that write these bytes
 abbrev pub writes : List ℕ → List Act
 writes [] = []
 writes (byte ∷ bytes) = Write byte ∷ writes bytes
 
+-- a report is written, and the heap is left so
+abbrev pub reports_leaving : List ℕ → HeapLeft → Outcome
+reports_leaving report left = record { done = Reported; acts = writes report; stored = None; left = left }
+
 abbrev pub reports : List ℕ → Outcome
-reports report = record { done = Reported; acts = writes report; stored = None; left = None }
+reports report = reports_leaving report AnyHeap
 
 abbrev pub stores : (name bytes : List ℕ) → Outcome
-stores name bytes = record { done = Wrote; acts = []; stored = Some (record { name = name; bytes = bytes }); left = None }
+stores name bytes = record { done = Wrote; acts = []; stored = Some (record { name = name; bytes = bytes }); left = AnyHeap }
 
 -- ---- texts
 
@@ -138,6 +159,16 @@ Lists image input outcome = outcome ≡ reports (listing image)
 abbrev pub Upgrades : (to : List ℕ) → Parts → (input : List ℕ) → Outcome → Type 0
 Upgrades to image input outcome = outcome ≡ stores to (spelling Two image)
 
+-- ---- scripts
+
+-- the heap commands of a text are obeyed one by one, and each is answered; a text that is longer than a program's may be is refused
+abbrev pub script_outcome : Limits → (text : List ℕ) → Outcome
+script_outcome limits text =
+    if nat_le (length text) most_text_bytes then reports_leaving (heap_text text limits) (SameAs (heap_store text limits)) else answers (Refused refusal.TooLong)
+
+abbrev pub OfScriptFile : (file : List ℕ) → Limits → Names → Outcome → Type 0
+OfScriptFile file limits files outcome = (text : List ℕ) × (files file ≡ Some text) × (outcome ≡ script_outcome limits text)
+
 -- what each request comes to over these files, with these bytes of input; it has no outcome where a name that it reads is not there
 abbrev pub IsOutcome : Option Request → Names → List ℕ → Outcome → Type 0
 IsOutcome None files input outcome = outcome ≡ answers Usage
@@ -147,6 +178,7 @@ IsOutcome (Some (Compile from to)) files input outcome = OfTextFile from (Compil
 IsOutcome (Some (Exec file limits)) files input outcome = OfImage file (Executes limits) files input outcome
 IsOutcome (Some (Listing file)) files input outcome = OfImage file Lists files input outcome
 IsOutcome (Some (Upgrade from to)) files input outcome = OfImage from (Upgrades to) files input outcome
+IsOutcome (Some (Script file limits)) files input outcome = OfScriptFile file limits files outcome
 
 -- the outcome, where what the request uses tells what it has
 pub record Comes (request : Option Request) (before : Outside) (outcome : Outcome) : Type 0 where
@@ -158,10 +190,11 @@ abbrev pub IsStored : Option Stored → Names → Type 0
 IsStored None names = Unit {0}
 IsStored (Some s) names = names s.name ≡ Some s.bytes
 
--- the heap keeps what is to be left, and nothing is pinned
-abbrev pub IsLeft : Option Left → KeptStore → Type 0
-IsLeft None heap = Unit {0}
-IsLeft (Some regions) heap = (store : Store) × (regions ≡ map view_left store.regions) × IsKept heap store × (heap.pins ≡ [])
+-- the heap is as is said
+abbrev pub IsLeft : HeapLeft → KeptStore → Type 0
+IsLeft AnyHeap heap = Unit {0}
+IsLeft (Unpinned regions) heap = (store : Store) × (regions ≡ map view_left store.regions) × IsKept heap store × (heap.pins ≡ [])
+IsLeft (SameAs store) heap = IsSame store heap
 
 -- neither was called
 pub record Untouched (input input' : SourceState) (out out' : SinkState) : Type 0 where

@@ -20,6 +20,8 @@ pub data Request : Type 0 where
   Listing : (file : List ℕ) → Request
   -- to store the image of the first file under the second name, in the newest version of the format
   Upgrade : (from to : List ℕ) → Request
+  -- to run the heap commands of this file within these limits; a script takes no turns
+  Script : (file : List ℕ) → Limits → Request
 
 -- the number of a word of decimal digits without a leading zero, where it is no more than `most`
 abbrev pub number_within : (most : ℕ) → List ℕ → Option ℕ
@@ -44,13 +46,16 @@ abbrev pub at_end : Limits → List (List ℕ) → Option Limits
 at_end limits [] = Some limits
 at_end limits (word ∷ words) = None
 
--- the options in their order, each at most once
-abbrev pub limits_of : List (List ℕ) → Option Limits
-limits_of words =
-    choosing (option (codes "--turns") most_turns usual_turns words) (λ turns words.
+-- the options of a heap in their order, each at most once, beside so many turns
+abbrev pub limits_within : (turns : ℕ) → List (List ℕ) → Option Limits
+limits_within turns words =
     choosing (option (codes "--regions") most_regions most_regions words) (λ regions words.
     choosing (option (codes "--blocks") most_blocks most_blocks words) (λ blocks words.
-    at_end (record { turns = turns; regions = regions; blocks = blocks }) words)))
+    at_end (record { turns = turns; regions = regions; blocks = blocks }) words))
+
+-- and that of turns before them
+abbrev pub limits_of : List (List ℕ) → Option Limits
+limits_of words = choosing (option (codes "--turns") most_turns usual_turns words) limits_within
 
 -- nothing stands behind
 abbrev pub ending : Request → List (List ℕ) → Option Request
@@ -70,5 +75,6 @@ request_of (verb ∷ file ∷ rest) =
     if bytes_eq verb (codes "compile") then ending_in_name (Compile file) rest else
     if bytes_eq verb (codes "exec") then option_map (Exec file) (limits_of rest) else
     if bytes_eq verb (codes "list") then ending (Listing file) rest else
-    if bytes_eq verb (codes "upgrade") then ending_in_name (Upgrade file) rest else None
+    if bytes_eq verb (codes "upgrade") then ending_in_name (Upgrade file) rest else
+    if bytes_eq verb (codes "heap") then option_map (Script file) (limits_within 0 rest) else None
 request_of _ = None

@@ -4,7 +4,7 @@ ghost use Rattle.std.specs.Option.{option_map};
 ghost use Rattle.std.specs.Fmt.{decimal};
 ghost use Rattle.std.specs.Str.{bytes_eq};
 ghost use Rattle.rc_requests.specs.Asking.{asks, bytes_of, chosen};
-ghost use Rattle.rc_requests.specs.Request.{Compile, Listing, Upgrade, ending, ending_in_name, limits_of, number_within, option, request_of};
+ghost use Rattle.rc_requests.specs.Request.{Compile, Listing, Upgrade, ending, ending_in_name, limits_of, limits_within, number_within, option, request_of};
 
 use itoa::Buffer;
 use rc_base::{Limits, MOST_BLOCKS, MOST_REGIONS, MOST_TURNS, USUAL_TURNS};
@@ -24,6 +24,8 @@ pub enum Request<'a> {
     Listing(&'a str),
     /// To store the image of the first file under the second name, in the newest version of the format.
     Upgrade(&'a str, &'a str),
+    /// To run the heap commands of the file. A script takes no turns.
+    Script(&'a str, Limits),
 }
 
 /// The number of an option, and the words behind it.
@@ -84,23 +86,30 @@ fn option<'a>(name: &str, most: u64, default: u64, words: &'a [String]) -> Optio
     Some(Chosen { number, rest })
 }
 
-/// The limits that the options set, which stand in this order.
-fn limits_of(words: &[String]) -> Option<Limits>
-    ensures { result ≡ limits_of (bytes_of words.now) }
+/// The limits that the options of a heap set, which stand in this order, beside so many turns.
+fn limits_within(turns: u64, words: &[String]) -> Option<Limits>
+    ensures { result ≡ limits_within turns (bytes_of words.now) }
 {
-    let turns = option("--turns", MOST_TURNS, USUAL_TURNS, words)?;
     let most_regions = MOST_REGIONS as u64;
-    let regions = option("--regions", most_regions, most_regions, turns.rest)?;
+    let regions = option("--regions", most_regions, most_regions, words)?;
     let most_blocks = MOST_BLOCKS as u64;
     let blocks = option("--blocks", most_blocks, most_blocks, regions.rest)?;
     if !blocks.rest.is_empty() {
         return None;
     }
     Some(Limits {
-        turns: turns.number,
+        turns,
         regions: regions.number as u32,
         blocks: blocks.number as u32,
     })
+}
+
+/// The limits that the options of a run set: that of turns stands before those of the heap.
+fn limits_of(words: &[String]) -> Option<Limits>
+    ensures { result ≡ limits_of (bytes_of words.now) }
+{
+    let turns = option("--turns", MOST_TURNS, USUAL_TURNS, words)?;
+    limits_within(turns.number, turns.rest)
 }
 
 /// To list this file, where no word stands behind.
@@ -156,6 +165,10 @@ fn asking<'a>(verb: &str, file: &'a str, rest: &'a [String]) -> Option<Request<'
     }
     if verb == "upgrade" {
         return upgrade(file, rest);
+    }
+    if verb == "heap" {
+        let limits = limits_within(0, rest)?;
+        return Some(Request::Script(file, limits));
     }
     None
 }

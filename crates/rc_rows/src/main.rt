@@ -35,7 +35,7 @@ use reading::rows_of;
 use std::process::ExitCode;
 use std::{env, fs, io};
 
-const FILES: [&str; 10] = [
+const FILES: [&str; 11] = [
     "words.rows",
     "programs.rows",
     "values.rows",
@@ -46,6 +46,7 @@ const FILES: [&str; 10] = [
     "images.rows",
     "exec.rows",
     "compile.rows",
+    "heap.rows",
 ];
 
 /// Goes through the rows of a file, and answers how many calls differ.

@@ -20,7 +20,7 @@ use Rattle.rc_answers.specs.declared.answer.Fault.{Fault}
 use Rattle.rc_answers.specs.declared.answer.Fault.TheVariants.{Memory}
 use Rattle.rc_outcomes.specs.Footprint.{footprint}
 use Rattle.rc_outcomes.specs.Loading.{Loaded}
-use Rattle.rc_outcomes.specs.Outcome.{Leaving, OfText, Outcome, Runs, accepts, end_as, runs}
+use Rattle.rc_outcomes.specs.Outcome.{Leaving, OfText, Outcome, Runs, accepts, end_as, runs, unpinned}
 use Rattle.rc_outcomes.specs.Outside.{Outside, outside}
 use Rattle.rc_outcomes.specs.Performing.{Performs}
 use Rattle.rc_outcomes.proofs.Ways.{RunsTo, an_end, runs_and_is_cut_short, runs_to_the_end}
@@ -29,7 +29,7 @@ use Rattle.rc_text_files.specs.Programs.{RanProgram, RanText, RunsTextOf, comes_
 use Rattle.rc_text_files.proofs.TextFiles.{has_read, made_so, no_memory_then, only_made, refused_text, some_made}
 
 comes_so : (leaves : Leaving) (program : Program) (limits : Limits) (rest : List ℕ) (end : End) → (meaning program rest limits).end ≡ Ends end → comes_of leaves program limits rest ≡ runs (meaning program rest limits).acts end (leaves program rest limits)
-comes_so leaves program limits rest end is = ap (λ (s : Stop). record { done = end_as s; acts = (meaning program rest limits).acts; stored = None; left = leaves program rest limits }) is
+comes_so leaves program limits rest end is = ap (λ (s : Stop). record { done = end_as s; acts = (meaning program rest limits).acts; stored = None; left = unpinned (leaves program rest limits) }) is
 
 never_touches : (text : List ℕ) (program : Program) (limits : Limits) → IsOnlyProgram text program → (rest : List ℕ) → NeverTouchesDeleted program rest limits
 never_touches text program limits only rest = never_touches_deleted program rest limits (accepted_in_place text program only.accepted)

@@ -1,5 +1,5 @@
 -- Requests that make something of the text of a file.
-use Rattle.std.proofs.Common.{◌≡◌, ◌∙◌, ℕ, List, Option, Result, Ok, Err, IsTrue, refl, sym, ap, subst, arith, inl, inr}
+use Rattle.std.proofs.Common.{◌≡◌, ◌∙◌, ℕ, List, Option, Result, Ok, Err, IsTrue, refl, sym, ap, subst, arith, inl}
 use Rattle.rc_base.specs.Shelves.{IsFront, Loads, ShelfState}
 use Rattle.rc_base.specs.Sinks.{SinkState}
 use Rattle.rc_base.specs.Sources.{SourceState}
@@ -14,12 +14,13 @@ use Rattle.rc_answers.specs.declared.answer.Done.TheVariants.{Refused}
 use Rattle.rc_answers.specs.declared.answer.Fault.{Fault}
 use Rattle.rc_answers.specs.declared.answer.Fault.TheVariants.{Memory}
 use Rattle.rc_outcomes.specs.Footprint.{UsesFiles, footprint}
-use Rattle.rc_outcomes.specs.Loading.{LoadCause, Loaded, NotLoaded, no_file, no_memory}
+use Rattle.rc_outcomes.specs.Loading.{LoadCause, Loaded, NotLoaded}
 use Rattle.rc_outcomes.specs.Outcome.{Comes, IsOutcome, OfText, Outcome, Untouched, accepts, answers, refuses}
 use Rattle.rc_outcomes.specs.Outside.{Outside, outside}
 use Rattle.rc_outcomes.specs.Performing.{Performs}
 use Rattle.rc_outcomes.proofs.TextLaws.{longer, whole_is}
-use Rattle.rc_outcomes.proofs.Ways.{FailsFirst, HasRead, OnlyReads, fails_before, is_refused, no_file as fails_by_file, no_memory as fails_by_memory, same_text, there_is, untouched}
+use Rattle.rc_outcomes.proofs.Files as one_file
+use Rattle.rc_outcomes.proofs.Ways.{HasRead, OnlyReads, fails_before, is_refused, no_memory as fails_by_memory, same_text, untouched}
 use Rattle.rc_requests.specs.Request.{Request}
 use Rattle.rc_text_files.specs.Texts.{IsTooLong, LoadedText, ReadText, TextOf, beyond, whole}
 use Rattle.rc_text_files.specs.declared.text_file.NoText.{NoText}
@@ -61,14 +62,10 @@ module _ (request : Option Request) (name : List ℕ) (Made : List ℕ → Progr
 
   module _ (Holds : List ℕ → Type 0) (l : Loaded name before.files files' Holds) where
     pub only_reads : OnlyReads request before files'
-    only_reads = record { uses = uses; tells = l.tells; names = l.names; never_falls = (let same = l.kept in omega (arith, same)) }
+    only_reads = one_file.only_reads request name row.reads before files' Holds l
 
     pub has_read : HasRead request before files'
-    has_read = record {
-      only_reads = only_reads;
-      there = λ missing. (let file = l.holds missing.2.tells in there_is before.files.names name missing.0 file.0 (row.only missing.0 missing.1) file.1 missing.2.none);
-      kept = l.kept;
-    }
+    has_read = one_file.has_read request name row.reads before files' Holds l row.only
 
     pub some_made : (outcome : Outcome) → ((bytes : List ℕ) → Holds bytes → OfText (Made before.input.rest) bytes outcome) → (UsesFiles (footprint request) → IsTrue before.files.tells) → IsOutcome request before.files.names before.input.rest outcome
     some_made outcome is told = let file = l.holds (told uses) in row.is_outcome before.files.names before.input.rest outcome (file.0, file.1, is file.0 file.2)
@@ -93,10 +90,4 @@ module _ (request : Option Request) (name : List ℕ) (Made : List ℕ → Progr
   too_long l = refused_text IsTooLong l before.input before.out refusal.TooLong (λ bytes long. too_long_only bytes long) (untouched before.input before.out)
 
   pub failed : (fault : Fault) → LoadedText name before.files files' (Err (Failed fault)) → Performs request before (outside files' before.input before.out before.err before.heap) (Err fault)
-  failed fault l =
-      fails_before request before files' before.input before.out fault (record { uses = uses; tells = l.tells; names = l.names; never_falls = l.never_falls }) (untouched before.input before.out) (by fault l.cause)
-    where
-      by : (fault : Fault) → LoadCause name before.files files' fault → FailsFirst request before files' fault
-      by fault (no_file (inl lacks)) = fails_by_file (inr (name, row.reads, lacks))
-      by fault (no_file (inr rose)) = fails_by_file (inl rose)
-      by fault (no_memory kept) = fails_by_memory kept
+  failed fault l = one_file.fails_to_load request name row.reads before files' fault l

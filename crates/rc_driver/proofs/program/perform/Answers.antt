@@ -2,13 +2,14 @@ use Rattle.std.proofs.Common.{◌∙◌, Ok, Option, Some, ap, subst, sym}
 use Rattle.rc_requests.specs.Asking.{asks}
 use Rattle.rc_outcomes.specs.Outside.{outside}
 use Rattle.rc_outcomes.specs.Performing.{Performs}
-use Rattle.rc_requests.specs.Request.{Request, Run, Slow, Compile, Exec, Listing, Upgrade}
+use Rattle.rc_requests.specs.Request.{Request, Run, Slow, Compile, Exec, Listing, Upgrade, Script}
 use Rattle.rc_requests.specs.declared.request.Request.{Request as Asked}
 use Rattle.rc_answers.specs.declared.answer.Done.TheVariants.{Usage}
 use Rattle.rc_evaluation.proofs.Rows.{slow_row}
 use Rattle.rc_programs.proofs.Rows.{compile_row, run_row}
 use Rattle.rc_exec.proofs.Executions.{exec_row}
 use Rattle.rc_image_files.proofs.ImageFiles.{list_row, upgrade_row}
+use Rattle.rc_scripts.proofs.Rows.{script_row}
 use Rattle.rc_outcomes.proofs.Ways.{asks_usage}
 use Rattle.rc_driver.proofs.program.perform.Goals as goal
 
@@ -41,6 +42,11 @@ pub returns-in-Some-Upgrade : goal.returns-in-Some-Upgrade
 returns-in-Some-Upgrade g c = λ err. subst (λ (request : Option Request). Performs request (outside (g.F.Shelf.state c.args.files.now) (g.S.Source.state c.args.input.now) (g.O.Sink.state c.args.out.now) err (g.H.Heap.store c.args.heap.now)) (outside (g.F.Shelf.state c.upgrade_image.new.files) (g.S.Source.state c.args.input.now) (g.O.Sink.state c.args.out.now) err (g.H.Heap.store c.args.heap.now)) c.upgrade_image.result)
     (ap (λ (r : Asked). Some (asks r)) (sym c.in-Some-Upgrade.field-0-is) ∙ c.in-Some-Upgrade.ensures)
     (c.upgrade_image.ensures (Some (Upgrade c.in-Some-Upgrade.from.now c.in-Some-Upgrade.to.now)) (g.S.Source.state c.args.input.now) (g.O.Sink.state c.args.out.now) err (g.H.Heap.store c.args.heap.now) (upgrade_row c.in-Some-Upgrade.from.now c.in-Some-Upgrade.to.now))
+
+pub returns-in-Some-Script : goal.returns-in-Some-Script
+returns-in-Some-Script g c = λ err. subst (λ (request : Option Request). Performs request (outside (g.F.Shelf.state c.args.files.now) (g.S.Source.state c.args.input.now) (g.O.Sink.state c.args.out.now) err (g.H.Heap.store c.args.heap.now)) (outside (g.F.Shelf.state c.run_script.new.files) (g.S.Source.state c.args.input.now) (g.O.Sink.state c.run_script.new.out) err (g.H.Heap.store c.run_script.new.heap)) c.run_script.result)
+    (ap (λ (r : Asked). Some (asks r)) (sym c.in-Some-Script.field-0-is) ∙ c.in-Some-Script.ensures)
+    (c.run_script.ensures (Some (Script c.in-Some-Script.file.now c.in-Some-Script.limits)) (g.S.Source.state c.args.input.now) err (script_row c.in-Some-Script.file.now c.in-Some-Script.limits))
 
 pub returns-in-None : goal.returns-in-None
 returns-in-None g c = λ err. subst (λ (request : Option Request). Performs request (outside (g.F.Shelf.state c.args.files.now) (g.S.Source.state c.args.input.now) (g.O.Sink.state c.args.out.now) err (g.H.Heap.store c.args.heap.now)) (outside (g.F.Shelf.state c.args.files.now) (g.S.Source.state c.args.input.now) (g.O.Sink.state c.args.out.now) err (g.H.Heap.store c.args.heap.now)) (Ok Usage)) c.in-None.ensures (asks_usage (outside (g.F.Shelf.state c.args.files.now) (g.S.Source.state c.args.input.now) (g.O.Sink.state c.args.out.now) err (g.H.Heap.store c.args.heap.now)))
