@@ -126,12 +126,21 @@ module _ (n s u : ℕ) (a : Annotation) (effect : Effect) (before : Facts) (news
   allowed_up (Some x) h d =
       subst (Derivable n (λ q. before q || gained (exit_facts a) (assigning u effect) q)) (ap (fact_with (respelled s u)) (sym (replaced_is x s fact)) ∙ names_twice (respelled s u) (renamed x s) fact ∙ same_names s (λ v. respelled s u (renamed x s v)) (renamed x u) (put_respelled s u x) fact own) (h (with_replaced x s fact) d.0)
 
+-- what an effect allows, by a list of what it adds
+pub news_allow : (n s u : ℕ) (a : Annotation) (effect : Effect) (before : Facts) (news : List Fact) (fact : Fact) → s < u → u < n → EffectBelow s effect → AllBelow s before → is_below s fact → AreNews (suc s) (exit_facts a) (renewed s effect) news →
+    allowed n u (gained (exit_facts a)) (assigned effect) effect before fact ↔ Behind (suc s) s (assigned effect) news before fact
+news_allow n s u a effect before news fact over lt below old own are = (
+  λ d. allowed_down n s u a effect before news over fact own (assigned effect) (λ p q. down n s u a effect before news over lt below old are q) d,
+  λ d. allowed_up n s u a effect before news over fact own (assigned effect) (λ p q. up n s u a effect before news over lt below old are q) d,
+)
+
 pub edges_allow : (n s u : ℕ) (a : Annotation) (effect : Effect) (from to : ℕ) (e : _) (before : Facts) (fact : Fact) → s < u → u < n → EffectBelow s effect → AllBelow s before → is_below s fact → Carries s (exit_facts a) effect from to e →
     allowed n u (gained (exit_facts a)) (assigned effect) effect before fact ↔ Behind (suc s) s e.assigned e.news.items before fact
-edges_allow n s u a effect from to e before fact over lt below old own c = (
-  λ d. subst (λ x. Behind (suc s) s x e.news.items before fact) (sym c.assigned) (allowed_down n s u a effect before e.news.items over fact own (assigned effect) (λ p q. down n s u a effect before e.news.items over lt below old c.news q) d),
-  λ d. allowed_up n s u a effect before e.news.items over fact own (assigned effect) (λ p q. up n s u a effect before e.news.items over lt below old c.news q) (subst (λ x. Behind (suc s) s x e.news.items before fact) c.assigned d),
-)
+edges_allow n s u a effect from to e before fact over lt below old own c =
+    let same = news_allow n s u a effect before e.news.items fact over lt below old own c.news in (
+      λ d. subst (λ x. Behind (suc s) s x e.news.items before fact) (sym c.assigned) (same.0 d),
+      λ d. same.1 (subst (λ x. Behind (suc s) s x e.news.items before fact) c.assigned d),
+    )
 
 -- fewer variables
 

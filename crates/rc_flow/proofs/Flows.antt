@@ -119,6 +119,18 @@ settled_same n scratch news before shut none fact apart = (λ is. stated (or_lef
     had : (p : Fact) → IsTrue (together before news p) → IsTrue (before p)
     had p is = elim (or_cases (before p) _ is) [ inl old ↦ old | inr new ↦ none_new before news none p new ]
 
+-- a pass over an edge adds nothing
+pub fewer_carry : (n scratch : ℕ) (e : Edge) (sets sets1 : List Known) → ((p : ℕ) → (p ≡ e.to → ⊥) → set_at sets1 p ≡ set_at sets p)
+    → ((fact : Fact) → IsTrue (set_at sets1 e.to fact) ↔ (IsTrue (set_at sets e.to fact) × Behind n scratch e.assigned e.news.items (set_at sets e.from) fact)) → (p : ℕ) (fact : Fact) → IsTrue (set_at sets1 p fact) → IsTrue (set_at sets p fact)
+fewer_carry n scratch e sets sets1 others there p fact has = by (nat_eq p e.to) refl
+  where
+    by : (b : Bool) → nat_eq p e.to ≡ b → IsTrue (set_at sets p fact)
+    by true q = let same : p ≡ e.to = eqb-true p e.to q in subst (λ i. IsTrue (set_at sets i fact)) (sym same) ((there fact).0 (subst (λ i. IsTrue (set_at sets1 i fact)) same has)).0
+    by false q = ap (λ s. s fact) (sym (others p (λ c. absurd (not_both (sym q ∙ eq-eqb p e.to c))))) ∙ has
+      where
+        not_both : false ≡ true → ⊥
+        not_both c = cc
+
 -- a pass over an edge keeps what is inside
 pub inside_carry : (n scratch : ℕ) (e : Edge) (a : Annotation) (sets sets1 : List Known) → e.from < length sets → length sets1 ≡ length sets → ((p : ℕ) → (p ≡ e.to → ⊥) → set_at sets1 p ≡ set_at sets p)
     → ((fact : Fact) → IsTrue (set_at sets1 e.to fact) ↔ (IsTrue (set_at sets e.to fact) × Behind n scratch e.assigned e.news.items (set_at sets e.from) fact)) → Keeps n scratch a e → IsInside a sets → IsInside a sets1
@@ -193,17 +205,7 @@ step_keeps n scratch edges k e starts sets sets1 true at first others there r ke
   where
     -- edges from other points
     elsewhere : (j : ℕ) (d : Edge) → slice_get edges j ≡ Some d → (d.from ≡ e.to → ⊥) → Keeps n scratch (set_at sets) d → Keeps n scratch (set_at sets1) d
-    elsewhere j d is apart keeps fact has = subst (λ s. Behind n scratch d.assigned d.news.items s fact) (sym (others d.from apart)) (keeps fact (fewer d.to fact has))
-      where
-        fewer : (p : ℕ) (fact : Fact) → IsTrue (set_at sets1 p fact) → IsTrue (set_at sets p fact)
-        fewer p fact has = pick (nat_eq p e.to) refl
-          where
-            pick : (b : Bool) → nat_eq p e.to ≡ b → IsTrue (set_at sets p fact)
-            pick true q = let same : p ≡ e.to = eqb-true p e.to q in subst (λ i. IsTrue (set_at sets i fact)) (sym same) ((there fact).0 (subst (λ i. IsTrue (set_at sets1 i fact)) same has)).0
-            pick false q = ap (λ s. s fact) (sym (others p (λ c. absurd (not_both (sym q ∙ eq-eqb p e.to c))))) ∙ has
-              where
-                not_both : false ≡ true → ⊥
-                not_both c = cc
+    elsewhere j d is apart keeps fact has = subst (λ s. Behind n scratch d.assigned d.news.items s fact) (sym (others d.from apart)) (keeps fact (fewer_carry n scratch e sets sets1 others there d.to fact has))
 
     by : (b : Bool) → nat_le (get_or starts e.to 0) k ≡ b → m ≡ (if b then get_or starts e.to 0 else k + 1) → KeptBelow n scratch edges m sets1
     by true q em = λ j d lt is. elsewhere j d is (λ c. let f = first j d is in let g : get_or starts d.from 0 ≡ get_or starts e.to 0 = ap (λ i. get_or starts i 0) c in omega (arith, f, g, lt, em)) (kept j d (let w = leb-true (get_or starts e.to 0) k q in omega (arith, lt, em, w)) is)

@@ -58,6 +58,10 @@ pub record IsEdge (n scratch points : ℕ) (e : Edge) : Type 0 where
 abbrev pub IsInside : Annotation → List Known → Type 0
 IsInside a sets = (p : ℕ) (fact : Fact) → p < length sets → IsTrue (a p fact) → IsTrue (set_at sets p fact)
 
+-- each set has at most the facts of the other sets' one
+abbrev pub HaveFewer : (sets others : List Known) → Type 0
+HaveFewer sets others = (p : ℕ) (fact : Fact) → IsTrue (set_at sets p fact) → IsTrue (set_at others p fact)
+
 abbrev pub HaveVariables : ℕ → List Known → Type 0
 HaveVariables n sets = All (λ (s : Known). s.variables ≡ n) sets
 

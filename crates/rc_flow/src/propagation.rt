@@ -4,7 +4,7 @@ ghost use Rattle.std.specs.List.{All, list_any};
 ghost use Rattle.rc_facts.specs.declared.fact.Fact.{Fact};
 ghost use Rattle.rc_facts.specs.Derivable.{Derivable};
 ghost use Rattle.rc_facts.specs.Facts.{holds, is_over, names};
-ghost use Rattle.rc_flow.specs.Flow.{Annotation, AreShut, Behind, HaveVariables, IsConsistent, IsEdge, IsInside, IsShut, facts_in, set_at, together, StartsAt};
+ghost use Rattle.rc_flow.specs.Flow.{Annotation, AreShut, Behind, HaveFewer, HaveVariables, IsConsistent, IsEdge, IsInside, IsShut, facts_in, set_at, together, StartsAt};
 
 use crate::edge::Edge;
 use rc_facts::{Fact, FactSet};
@@ -96,7 +96,7 @@ fn carry(sets: &mut [FactSet], work: &mut FactSet, edge: &Edge, scratch: u32) ->
     sets[edge.to as usize].meet(work)
 }
 
-/// Goes over the edges in their order until none drops a fact. Where a fact was dropped, it goes back to the first edge from there.
+/// Goes over the edges in their order until none drops a fact. No set gains one. Where a fact was dropped, it goes back to the first edge from there.
 pub fn propagate(
     sets: &mut [FactSet],
     work: &mut FactSet,
@@ -111,6 +111,7 @@ pub fn propagate(
     requires shut { AreShut work.old.variables scratch sets.old }
     ensures points { length sets.new ≡ length sets.old }
     ensures variables { HaveVariables work.old.variables sets.new }
+    ensures fewer { HaveFewer sets.new sets.old }
     ensures inside { (a : Annotation) → IsConsistent work.old.variables scratch edges.now a → IsInside a sets.old → IsInside a sets.new }
     ensures consistent { IsConsistent work.old.variables scratch edges.now (set_at sets.new) }
     ensures shut { AreShut work.old.variables scratch sets.new }

@@ -14,4 +14,5 @@ mod plans;
 mod walk;
 
 pub use graph::{Graph, graph_of};
+pub use names::{cell_note, note_in};
 pub use node::{Effect, Entry, Node};

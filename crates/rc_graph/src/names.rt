@@ -42,7 +42,7 @@ pub(crate) fn is_regional(ty: &Ty) -> bool
 }
 
 /// The annotation of a cell of a type.
-pub(crate) fn note_in(ty: &Ty) -> Note
+pub fn note_in(ty: &Ty) -> Note
     ensures { result ≡ note_in_type (ty_of ty.now) }
 {
     match ty {
@@ -56,7 +56,7 @@ pub(crate) fn note_in(ty: &Ty) -> Note
 }
 
 /// The annotation of a cell.
-pub(crate) fn cell_note(kind: &Kind) -> Note
+pub fn cell_note(kind: &Kind) -> Note
     ensures { (cell : CellKind) → kind.now ≡ kind_of cell → result ≡ note_of cell }
 {
     match kind {

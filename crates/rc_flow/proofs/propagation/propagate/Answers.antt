@@ -5,7 +5,7 @@ use Rattle.std.proofs.lemmas.List.Elements.{All-get_or}
 use Rattle.rc_facts.specs.declared.fact.Fact.{Fact}
 use Rattle.rc_flow.specs.declared.edge.Edge.{Edge}
 use Rattle.rc_flow.specs.Flow.{Behind, HaveVariables, IsEdge, facts_in, set_at}
-use Rattle.rc_flow.proofs.Flows.{inside_carry, shut_carry, step_keeps, measure_falls, next_below, of_true, of_false}
+use Rattle.rc_flow.proofs.Flows.{inside_carry, fewer_carry, shut_carry, step_keeps, measure_falls, next_below, of_true, of_false}
 use Rattle.rc_flow.proofs.propagation.propagate.Goals as goal
 
 pub edges-smaller : goal.edges-smaller
@@ -28,6 +28,7 @@ edges-preserved c =
       same = c.carry-dropped.ensures.same ∙ c.edges.invariant.same;
       points = c.carry-dropped.ensures.points ∙ c.edges.invariant.points;
       variables = subst (λ m. HaveVariables m c.carry-dropped.new.sets) c.edges.invariant.same c.carry-dropped.ensures.variables;
+      fewer = λ p fact has. c.edges.invariant.fewer p fact (fewer_carry n c.args.scratch e c.edges.sets c.carry-dropped.new.sets c.carry-dropped.ensures.others there p fact has);
       inside = λ a consistent inside. inside_carry n c.args.scratch e a c.edges.sets c.carry-dropped.new.sets (let from = good.from in let points = c.edges.invariant.points in omega (arith, from, points)) c.carry-dropped.ensures.points c.carry-dropped.ensures.others there (consistent c.edges.k e at) (c.edges.invariant.inside a consistent inside);
       shut = shut_carry n c.args.scratch e c.edges.sets c.carry-dropped.new.sets (let s = c.requires.scratch in omega (arith, s)) c.carry-dropped.ensures.points c.carry-dropped.ensures.others there c.edges.invariant.shut;
       at_most = next_below (length c.args.edges.now) c.edges.k _ c.next_edge-k.result c.carry-dropped.result c.edges-test.true c.next_edge-k.ensures;

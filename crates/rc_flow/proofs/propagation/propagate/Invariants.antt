@@ -1,5 +1,5 @@
 use Rattle.std.proofs.Common.{◌≡◌, ◌≤◌, ◌*◌, ◌+◌, ◌-◌, length}
-use Rattle.rc_flow.specs.Flow.{Annotation, AreShut, HaveVariables, IsConsistent, IsInside, facts_in}
+use Rattle.rc_flow.specs.Flow.{Annotation, AreShut, HaveFewer, HaveVariables, IsConsistent, IsInside, facts_in}
 use Rattle.rc_flow.proofs.Flows.{KeptBelow}
 use Rattle.rc_flow.proofs.propagation.propagate.Given as goal
 
@@ -8,6 +8,7 @@ invariant-edges l = record {
   same : l.work.variables ≡ l.fn.work.variables;
   points : length l.sets ≡ length l.fn.sets;
   variables : HaveVariables l.fn.work.variables l.sets;
+  fewer : HaveFewer l.sets l.fn.sets;
   inside : (a : Annotation) → IsConsistent l.fn.work.variables l.scratch l.edges a → IsInside a l.fn.sets → IsInside a l.sets;
   shut : AreShut l.fn.work.variables l.scratch l.sets;
   at_most : l.k ≤ length l.edges;

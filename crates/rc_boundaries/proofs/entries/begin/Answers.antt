@@ -1,0 +1,21 @@
+use Rattle.std.proofs.Common.{IsTrue, ◌↔◌, length, ap, ◌∙◌, subst, arith}
+use Rattle.std.proofs.lemmas.List.FromFn.{length-range_with_len}
+use Rattle.rc_facts.specs.Facts.{holds}
+use Rattle.rc_facts.specs.Derivable.{Derivable}
+use Rattle.rc_boundaries.proofs.Handing.{begun_by, range_below}
+use Rattle.rc_boundaries.proofs.entries.begin.Goals as goal
+
+pub read-requires-clause-names : goal.read-requires-clause-names
+read-requires-clause-names c = range_below c.as_slice.result.now c.args.copies c.args.entry.now.variables (c.as_slice.ensures.value ∙ c.in_ok-own.ensures) c.requires.copies
+
+pub read-requires-clause-room : goal.read-requires-clause-room
+read-requires-clause-room c =
+    let long = ap length (c.as_slice.ensures.value ∙ c.in_ok-own.ensures) ∙ length-range_with_len 0 c.args.copies in
+    let hidden = c.requires.hidden in
+    omega (arith, long, hidden)
+
+pub returns-clause-facts : goal.returns-clause-facts
+returns-clause-facts c =
+    let wide = c.in_ok-known.ensures.variables in
+    begun_by c.args.copies c.args.spare c.as_slice.result.now c.args.entry.now (holds c.args.first.now) (holds c.in_ok-known.known) (holds c.close.new.self) (holds c.forget.new.self) (holds c.meet.new.self) (c.as_slice.ensures.value ∙ c.in_ok-own.ensures) c.in_ok-known.ensures.facts
+    (λ p. subst (λ m. IsTrue (holds c.close.new.self p) ↔ Derivable m (holds c.in_ok-known.known) p) (omega (arith, wide)) (c.close.ensures.facts p)) c.forget.ensures.facts c.meet.ensures.facts

@@ -1,0 +1,90 @@
+// Calls.
+ghost use Rattle.std.specs.Prelude.{◌≡◌, ℕ, slice_get, get_or, Option, Some, length, IfOk};
+ghost use Rattle.rc_rlang.specs.RegionFlow.{Node as AnyNode, called};
+ghost use Rattle.rc_flow.specs.Flow.{no_set};
+ghost use Rattle.rc_graph.specs.Nodes.{effect_of, node_of, nodes_of};
+ghost use Rattle.rc_searching.specs.Reading.{Loses};
+ghost use Rattle.rc_searching.specs.Boundaries.{CallGives, CallReady, Callable, CallsGive, NodeGives, NodeReady};
+
+use rc_base::NoMemory;
+use rc_facts::FactSet;
+use rc_graph::{Effect, Node};
+use rc_reading::{lose, read};
+use std::alloc::Global;
+
+/// Keeps at the entry of a function what a call of it gives.
+fn give_call(
+    alloc: Global,
+    function: u32,
+    arguments: &[u32],
+    known: &FactSet,
+    entries: &mut [FactSet],
+) -> Result<bool, NoMemory>
+    requires { Callable function arguments.now known.now.variables entries.old }
+    ensures { (x : Option ℕ) → IfOk result (λ lost. Loses lost entries.old entries.new (CallGives (called x function arguments.now) known.now)) }
+{
+    let count = u32::try_from(arguments.len()).map_err(|_| NoMemory)?;
+    let found = read(alloc, known, arguments, count)?;
+    Ok(lose(entries, function as usize, &found))
+}
+
+/// Keeps at an entry what an effect gives, where it is a call.
+fn give(
+    alloc: Global,
+    effect: &Effect,
+    known: &FactSet,
+    entries: &mut [FactSet],
+) -> Result<bool, NoMemory>
+    requires { CallReady (effect_of effect.now) known.now.variables entries.old }
+    ensures { IfOk result (λ lost. Loses lost entries.old entries.new (CallGives (effect_of effect.now) known.now)) }
+{
+    match effect {
+        Effect::Called {
+            result: _,
+            function,
+            arguments,
+        } => give_call(alloc, *function, arguments.as_slice(), known, entries),
+        _ => Ok(false),
+    }
+}
+
+/// Keeps at entries what the calls at a point give.
+fn give_all(
+    alloc: Global,
+    node: &Node,
+    known: &FactSet,
+    entries: &mut [FactSet],
+) -> Result<bool, NoMemory>
+    requires { NodeReady (node_of node.now) known.now.variables entries.old }
+    ensures { IfOk result (λ lost. Loses lost entries.old entries.new (NodeGives (node_of node.now) known.now)) }
+{
+    match node {
+        Node::Go { effect, .. } => give(alloc, effect, known, entries),
+        Node::Fork { left, right, .. } => {
+            let first = give(alloc, left, known, entries)?;
+            let second = give(alloc, right, known, entries)?;
+            Ok(first || second)
+        }
+        Node::Return { .. } => Ok(false),
+    }
+}
+
+/// Keeps at the entries of functions what the calls of one give, from what is known before its points.
+/// Says whether a fact was lost. The only error is want of memory.
+pub fn call(
+    alloc: Global,
+    nodes: &[Node],
+    points: &[FactSet],
+    entries: &mut [FactSet],
+) -> Result<bool, NoMemory>
+    requires points { length points.now ≡ length nodes.now }
+    requires ready { (p : ℕ) (node : AnyNode) → slice_get (nodes_of nodes.now) p ≡ Some node → NodeReady node (get_or points.now p no_set).variables entries.old }
+    ensures { IfOk result (λ lost. Loses lost entries.old entries.new (CallsGive (nodes_of nodes.now) points.now (length nodes.now))) }
+{
+    let mut lost = false;
+    for p in 0..nodes.len() {
+        let more = give_all(alloc, &nodes[p], &points[p], entries)?;
+        lost = lost || more;
+    }
+    Ok(lost)
+}
