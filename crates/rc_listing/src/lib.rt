@@ -2,6 +2,5 @@
 #![tactic(auto)]
 
 mod listing;
-mod text;
 
 pub use listing::list;

@@ -3,11 +3,11 @@ ghost use Rattle.std.specs.Prelude.{◌≡◌, ◌++◌, ◌∷◌, [], codes, l
 ghost use Rattle.rc_code.specs.Image.{operands_of};
 ghost use Rattle.rc_listing.specs.Listing.{behind_blanks, code_text, functions_text, line_text, listing, operands_text};
 
-use crate::text::Text;
 use rc_base::NoMemory;
 use rc_code::{Function, Image, Instruction};
 use rc_core::as_int;
 use rc_core::ty::Signedness;
+use rc_text::Text;
 use std::alloc::Global;
 
 /// Appends the operands of an instruction as they are, each behind a blank.

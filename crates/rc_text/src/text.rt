@@ -10,7 +10,7 @@ use std::marker::Model;
 /// A text, which contracts see as its bytes. Where memory is refused it may have taken a part of what
 /// was to be appended.
 #[derive(Drop)]
-pub(crate) struct Text {
+pub struct Text {
     bytes: Vec<u8>,
 }
 
@@ -23,7 +23,7 @@ impl Model for Text {
 }
 
 impl Text {
-    pub(crate) fn new(alloc: Global) -> Text
+    pub fn new(alloc: Global) -> Text
         ensures { result ≡ [] }
     {
         Text {
@@ -31,14 +31,14 @@ impl Text {
         }
     }
 
-    pub(crate) fn into_bytes(self) -> Vec<u8>
+    pub fn into_bytes(self) -> Vec<u8>
         ensures { result.items ≡ self }
     {
         self.bytes
     }
 
     /// Appends these bytes.
-    pub(crate) fn append(&mut self, bytes: &[u8]) -> Result<(), NoMemory>
+    pub fn append(&mut self, bytes: &[u8]) -> Result<(), NoMemory>
         ensures { OnOk result (self.new ≡ self.old ++ bytes.now) }
     {
         self.bytes.extend_from_slice(bytes)?;
@@ -46,7 +46,7 @@ impl Text {
     }
 
     /// Appends a number in decimal.
-    pub(crate) fn append_number(&mut self, number: u64) -> Result<(), NoMemory>
+    pub fn append_number(&mut self, number: u64) -> Result<(), NoMemory>
         ensures { OnOk result (self.new ≡ self.old ++ decimal number) }
     {
         let mut buffer = Buffer::new();
@@ -54,7 +54,7 @@ impl Text {
     }
 
     /// Appends a number in decimal, with its sign where it is below 0.
-    pub(crate) fn append_signed(&mut self, number: i32) -> Result<(), NoMemory>
+    pub fn append_signed(&mut self, number: i32) -> Result<(), NoMemory>
         ensures { OnOk result (self.new ≡ self.old ++ signed_decimal number) }
     {
         let mut buffer = Buffer::new();
@@ -62,7 +62,7 @@ impl Text {
     }
 
     /// Appends a number, and a blank behind it.
-    pub(crate) fn append_with_blank(&mut self, number: u64) -> Result<(), NoMemory>
+    pub fn append_with_blank(&mut self, number: u64) -> Result<(), NoMemory>
         ensures { OnOk result (self.new ≡ self.old ++ (decimal number ++ codes " ")) }
     {
         self.append_number(number)?;
@@ -70,7 +70,7 @@ impl Text {
     }
 
     /// Appends a blank, and a number behind it.
-    pub(crate) fn append_behind_blank(&mut self, number: u64) -> Result<(), NoMemory>
+    pub fn append_behind_blank(&mut self, number: u64) -> Result<(), NoMemory>
         ensures { OnOk result (self.new ≡ self.old ++ (codes " " ++ decimal number)) }
     {
         self.append(b" ")?;

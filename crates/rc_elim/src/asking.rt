@@ -1,0 +1,76 @@
+// What the check of a store asks.
+ghost use Rattle.std.specs.Prelude.{◌≡◌, IfOk, length, get_or, slice_get, Some, ℕ};
+ghost use Rattle.rc_rlang.specs.RegionFlow.{Node as RegionNode};
+ghost use Rattle.rc_annotations.specs.Annotations.{asked, asked_by, asked_of};
+ghost use Rattle.rc_facts.specs.Facts.{holds};
+ghost use Rattle.rc_flow.specs.Flow.{no_set};
+ghost use Rattle.rc_graph.specs.Nodes.{effect_of, node_of, nodes_of};
+ghost use Rattle.rc_elim.specs.Masks.{is_proven};
+ghost use Rattle.rc_elim.specs.Asking.{AsksOver, bits_of};
+
+use rc_base::NoMemory;
+use rc_core::ty::Note;
+use rc_facts::{Fact, FactSet};
+use rc_graph::{Effect, Node};
+use std::alloc::Global;
+
+/// The fact that the check of a store asks, where its cell has an annotation.
+fn asked(note: Note, value: u32, holder: u32) -> Option<Fact>
+    ensures { result ≡ asked note value holder }
+{
+    match note {
+        Note::Plain => None,
+        Note::SameRegion => Some(Fact::In(value, holder)),
+        Note::ParentPtr => Some(Fact::Up(value, holder)),
+        Note::Traditional => Some(Fact::Trad(value)),
+    }
+}
+
+/// The fact that an effect asks, if it does.
+fn asked_of(effect: &Effect) -> Option<Fact>
+    ensures { result ≡ asked_of (effect_of effect.now) }
+{
+    match effect {
+        Effect::Stored(value, holder, note) => asked(*note, *value, *holder),
+        _ => None,
+    }
+}
+
+/// The fact that the check at a node asks, if there is one.
+fn asked_by(node: &Node) -> Option<Fact>
+    ensures { result ≡ asked_by (node_of node.now) }
+{
+    match node {
+        Node::Go { effect, .. } => asked_of(effect),
+        Node::Fork { left, .. } => asked_of(left),
+        Node::Return { .. } => None,
+    }
+}
+
+/// Whether a set has the fact that a node asks.
+fn is_proven(node: &Node, facts: &FactSet) -> bool
+    requires { AsksOver facts.now.variables (node_of node.now) }
+    ensures { result ≡ is_proven (node_of node.now) (holds facts.now) }
+{
+    match asked_by(node) {
+        None => false,
+        Some(fact) => facts.has(fact),
+    }
+}
+
+/// For each node whether the set before it has the fact that it asks.
+///
+/// # Errors
+///
+/// Out of memory.
+pub(crate) fn proven(alloc: Global, nodes: &[Node], sets: &[FactSet]) -> Result<Vec<bool>, NoMemory>
+    requires sets { length sets.now ≡ length nodes.now }
+    requires over { (p : ℕ) (node : RegionNode) → slice_get (nodes_of nodes.now) p ≡ Some node → AsksOver (get_or sets.now p no_set).variables node }
+    ensures { IfOk result (λ bits. bits.items ≡ bits_of (nodes_of nodes.now) sets.now) }
+{
+    let mut bits = Vec::new(alloc);
+    for i in 0..nodes.len() {
+        bits.push(is_proven(&nodes[i], &sets[i]))?;
+    }
+    Ok(bits)
+}

@@ -1,0 +1,9 @@
+//! Which checks of region code may go. `specs/Masks` says what a mask of stores marks.
+#![tactic(auto)]
+
+mod asking;
+mod mask;
+mod removal;
+
+pub use mask::Mask;
+pub use removal::removable;

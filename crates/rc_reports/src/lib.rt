@@ -1,0 +1,23 @@
+//! The report of region code: which checks of annotations are kept, and which are removed.
+//! `specs/Reports` says what it is.
+#![tactic(auto)]
+
+ghost use Rattle.std.specs.Prelude.{◌≡◌, List};
+ghost use Rattle.rc_rlang.specs.RegionCode.{Rlang};
+ghost use Rattle.rc_reports.specs.declared.entry.Entry.{Entry as AnEntry};
+ghost use Rattle.rc_reports.specs.Reports.{IsReport};
+
+mod entry;
+mod listing;
+mod site;
+mod text;
+
+pub use entry::{Entry, entries};
+pub use listing::sites;
+pub use site::Site;
+pub use text::{removed_count, report_text};
+
+/// Region code has one report and no other.
+pub fn region_code_has_one_report()
+    ensures { (r : Rlang) (a b : List AnEntry) → IsReport r a → IsReport r b → a ≡ b }
+{}
