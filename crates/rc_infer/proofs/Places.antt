@@ -1,5 +1,5 @@
 -- Where the sets of a function stand among those of all functions.
-use Rattle.std.proofs.Common.{◌≡◌, ℕ, zero, suc, ◌<◌, List, [], ◌∷◌, ◌++◌, length, get_or, map, Bool, Some, Result, Ok, Err, refl, sym, ap, ◌∙◌, subst, arith}
+use Rattle.std.proofs.Common.{◌≡◌, ◌⊎◌, ℕ, zero, suc, ◌<◌, List, [], ◌∷◌, ◌++◌, length, get_or, map, Bool, Some, Result, Ok, Err, refl, sym, ap, ◌∙◌, subst, arith}
 use Rattle.std.specs.Prelude.{slice_get, slice_set, IfOk, OnOk}
 use Rattle.std.specs.declared.vec.Vec.{Vec}
 use Rattle.std.specs.declared.alloc.Global.{Global}
@@ -8,6 +8,7 @@ use Rattle.std.proofs.lemmas.List.{length-map, get_or-map, map-set, length-set, 
 use Rattle.rc_facts.specs.Facts.{Known}
 use Rattle.rc_rlang.specs.declared.code.RegionParts.{RegionParts}
 use Rattle.rc_rlang.specs.declared.code.Routine.{Routine as CodeRoutine}
+use Rattle.rc_rlang.specs.RegionCode.{Routine}
 use Rattle.rc_rlang.specs.Shapes.{rlang_of, routine_in}
 use Rattle.rc_flow.specs.Flow.{no_set}
 use Rattle.rc_graph.specs.declared.graph.Graph.{Graph}
@@ -19,6 +20,12 @@ use Rattle.rc_searching.specs.Boundaries.{ReturnsGive}
 use Rattle.rc_searching.specs.Reading.{Loses}
 use Rattle.rc_searching.specs.Searching.{Passed}
 use Rattle.rc_infer.specs.Visiting.{LeftAt, PassedAt, Ready}
+
+pub some_is : (x y : Routine) → Some x ≡ Some y → x ≡ y
+some_is x y e = cc
+
+pub order : (a b : ℕ) → (a < b) ⊎ ((a ≡ b) ⊎ (b < a))
+order a b = grind arith
 
 pub if_ok : {T E : Type 0} (r : Result T E) (P Q : T → Type 0) → ((x : T) → P x → Q x) → IfOk r P → IfOk r Q
 if_ok (Ok x) P Q f p = f x p

@@ -19,7 +19,7 @@ use Rattle.rc_graph.specs.declared.graph.Graph.{Graph}
 use Rattle.rc_graph.specs.Nodes.{IsGraph, node_of}
 use Rattle.rc_searching.specs.Searching.{Full}
 use Rattle.rc_infer.specs.Starting.{Started, StartedAt}
-use Rattle.rc_infer.proofs.Places.{some_at}
+use Rattle.rc_infer.proofs.Places.{order, some_at, some_is}
 
 before_end : {X : Type 0} (xs : List X) (y d : X) (g : ℕ) → g < length xs → get_or (xs ++ y ∷ []) g d ≡ get_or xs g d
 before_end [] y d g lt = absurd (omega (arith, lt))
@@ -43,12 +43,6 @@ none_held fact = refl
 
 pub plus_one : (n : ℕ) → n + 1 ≡ suc n
 plus_one n = omega (arith)
-
-some_is : (x y : Routine) → Some x ≡ Some y → x ≡ y
-some_is x y e = cc
-
-order : (a b : ℕ) → (a < b) ⊎ ((a ≡ b) ⊎ (b < a))
-order a b = grind arith
 
 side : (a b : ℕ) → (a < b) ⊎ (b ≤ a)
 side a b = grind arith

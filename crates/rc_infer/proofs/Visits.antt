@@ -28,6 +28,7 @@ use Rattle.rc_searching.specs.Searching.{Searching, EdgeOf, Passed, Visited, Gon
 use Rattle.rc_searching.proofs.Steps.{pass_step, call_step, leave_step, settled_here, settled_stays}
 use Rattle.rc_passing.specs.Passing.{NodeFits}
 use Rattle.rc_infer.specs.Visiting.{Ready, PassedAt, CalledAt, LeftAt}
+use Rattle.rc_infer.proofs.Places.{order, some_is}
 
 call_fits_by : (exits : List Known) (effect : Effect) → ((x : Option ℕ) (h : ℕ) (arguments : List ℕ) → effect ≡ called x h arguments → (h < length exits) × (length (places_of arguments x) ≤ (get_or exits h no_set).variables)) → CallFits exits effect
 call_fits_by exits nothing h = tt {0}
@@ -213,9 +214,6 @@ module _ (r : Rlang) (is : IsRlang r) (g : ℕ) (f : Routine) (there : slice_get
 
 -- rounds
 
-order : (a b : ℕ) → (a < b) ⊎ ((a ≡ b) ⊎ (b < a))
-order a b = grind arith
-
 pub gone_none : (r : Rlang) (m : Family) → Searching r m → Gone r 0 m m false
 gone_none r m s = record { searching = s; still = (refl, refl, λ g f lt th. absurd (omega (arith, lt))) }
 
@@ -223,9 +221,6 @@ module _ (r : Rlang) (is : IsRlang r) where
   pub gone_more : (k : ℕ) (f : Routine) (m m1 m2 : Family) (l1 l2 : Bool) → slice_get r.functions k ≡ Some f → Gone r k m m1 l1 → Visited r k f m1 m2 l2 → Gone r (k + 1) m m2 (l1 || l2)
   gone_more k f m m1 m2 l1 l2 there gone visit = record { searching = visit.searching; still = by l1 l2 gone.still visit.still }
     where
-      some_is : (x y : Routine) → Some x ≡ Some y → x ≡ y
-      some_is x y e = cc
-
       apart : (g : ℕ) → g < k → g ≡ k → ⊥
       apart g lt e = absurd (omega (arith, lt, e))
 

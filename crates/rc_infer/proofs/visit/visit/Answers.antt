@@ -5,13 +5,10 @@ use Rattle.rc_rlang.specs.Shapes.{rlang_of, routine_in}
 use Rattle.rc_graph.specs.Nodes.{IsGraph}
 use Rattle.rc_region_facts.specs.Inferred.{family_of}
 use Rattle.rc_searching.specs.Searching.{Searching, Visited}
-use Rattle.rc_infer.proofs.Places.{found}
+use Rattle.rc_infer.proofs.Places.{found, some_is}
 use Rattle.rc_infer.proofs.Visits.{ready, after_pass, after_calls, visited}
 use Rattle.rc_infer.proofs.visit.visit.Goals as goal
 use Rattle.rc_infer.proofs.visit.visit.Goals.{then-called, else-called}
-
-some_is : (x y : Routine) → Some x ≡ Some y → x ≡ y
-some_is x y e = cc
 
 pub pass_through-requires : goal.pass_through-requires
 pass_through-requires c =
