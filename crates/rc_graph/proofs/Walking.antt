@@ -1,26 +1,24 @@
 -- Nodes of parts of code, one behind another.
-use Rattle.std.proofs.Common.{◌≡◌, ◌<◌, ◌≤◌, ◌-◌, ◌+◌, ℕ, zero, suc, Bool, true, false, List, [], ◌∷◌, ◌++◌, length, map, take, drop, get_or, refl, sym, ap, ◌∙◌, arith, append_assoc, nat_eq, nat_lt}
+use Rattle.std.proofs.Common.{◌≡◌, ◌<◌, ◌≤◌, ◌-◌, ◌+◌, ℕ, zero, suc, Bool, true, false, List, [], ◌∷◌, ◌++◌, length, map, take, drop, refl, sym, ap, ◌∙◌, arith, append_assoc, nat_eq, nat_lt}
 use Rattle.std.specs.Prelude.{Option, Some, Result, Ok, Err, OnOk, slice_get}
 use Rattle.std.proofs.lemmas.Bool.{eqb-true, eq-eqb, ltb-true, ltb-false}
 use Rattle.std.proofs.lemmas.List.{length-drop}
 use Rattle.rc_core.specs.Programs.{Struct}
 use Rattle.rc_rlang.specs.declared.steps.Step.{Step as CodeStep}
-use Rattle.rc_rlang.specs.declared.code.Code.{Code as CodeCode}
-use Rattle.rc_rlang.specs.Shapes.{step_of, steps_of, code_of, codes_of}
+use Rattle.rc_rlang.specs.Shapes.{step_of, steps_of}
 use Rattle.rc_core.specs.Types.{Ty}
 use Rattle.rc_core.specs.Layout.{Layout, note_of}
 use Rattle.rc_rlang.specs.RegionCode.{Step, set, fork, Steps, more, Act, Test, Code, simple, branch, loop, repeat, Codes, then, Routine}
 use Rattle.rc_rlang.specs.RegionPoints.{steps_points, step_points, code_points, codes_points}
 use Rattle.rc_rlang.specs.RegionFlow.{Node, Effect, nulled, if_regional, returned_variable, returning, entered, entry_pairs, end_nodes, routine_nodes, one_of, numbers_below, nothing, looked_at, loaded, stored, going, forking, yes_effect, no_effect, Ends, first_of, step_nodes, steps_nodes, act_nodes, test_nodes, code_nodes, codes_nodes, in_line, cell_effects, temporary_variable}
-use Rattle.rc_graph.specs.declared.plans.ForkPlan.{ForkPlan}
-use Rattle.rc_graph.specs.declared.plans.ActPlan.{ActPlan}
-use Rattle.rc_graph.specs.declared.plans.BranchPlan.{BranchPlan}
-use Rattle.rc_graph.specs.declared.plans.LoopPlan.{LoopPlan}
-use Rattle.rc_graph.specs.declared.plans.RepeatPlan.{RepeatPlan}
-use Rattle.rc_graph.specs.declared.plans.RoutinePlan.{RoutinePlan}
+use Rattle.rc_plans.specs.declared.plans.ForkPlan.{ForkPlan}
+use Rattle.rc_plans.specs.declared.plans.ActPlan.{ActPlan}
+use Rattle.rc_plans.specs.declared.plans.BranchPlan.{BranchPlan}
+use Rattle.rc_plans.specs.declared.plans.LoopPlan.{LoopPlan}
+use Rattle.rc_plans.specs.declared.plans.RepeatPlan.{RepeatPlan}
+use Rattle.rc_plans.specs.declared.plans.RoutinePlan.{RoutinePlan}
 use Rattle.rc_graph.specs.Nodes.{idle_nodes}
-use Rattle.rc_graph.proofs.Counting.{codes_last}
-use Rattle.rc_graph.specs.Plans.{fork_plan, act_plan, branch_plan, loop_plan, repeat_plan, routine_plan}
+use Rattle.rc_plans.specs.Plans.{fork_plan, act_plan, branch_plan, loop_plan, repeat_plan, routine_plan}
 
 two : {A : Type 0} (old m new a b : List A) → m ≡ old ++ a → new ≡ m ++ b → new ≡ old ++ (a ++ b)
 two old m new a b e d = d ∙ ap (λ x. x ++ b) e ∙ append_assoc old a b
@@ -169,30 +167,6 @@ pub split_at : {A : Type 0} (xs : List A) (i : ℕ) → i < length xs → Split 
 split_at [] i l = absurd (omega (arith, l))
 split_at (x ∷ xs) zero l = record { item = x; rest = refl; there = refl }
 split_at (x ∷ xs) (suc i) l = let r = split_at xs i (omega (arith, l)) in record { item = r.item; rest = r.rest; there = r.there }
-
--- statements behind have fewer points
-pub fewer_behind : (structs : List Struct) (xs : List CodeCode) (j k : ℕ) → j ≤ k → codes_points (codes_of structs (drop k xs)) ≤ codes_points (codes_of structs (drop j xs))
-fewer_behind structs [] zero zero l = omega arith
-fewer_behind structs [] zero (suc k) l = omega arith
-fewer_behind structs [] (suc j) zero l = absurd (omega (arith, l))
-fewer_behind structs [] (suc j) (suc k) l = omega arith
-fewer_behind structs (x ∷ xs) zero zero l = omega arith
-fewer_behind structs (x ∷ xs) zero (suc k) l = let h = fewer_behind structs xs zero k (omega arith) in omega (arith, h)
-fewer_behind structs (x ∷ xs) (suc j) zero l = absurd (omega (arith, l))
-fewer_behind structs (x ∷ xs) (suc j) (suc k) l = fewer_behind structs xs j k (omega (arith, l))
-
-pub busy_before : (structs : List Struct) (xs : List CodeCode) (i own j : ℕ) (x : CodeCode) → 0 < i → i ≤ length xs → x ≡ get_or xs (i - 1) x → own ≡ code_points (code_of structs x) → (own ≡ 0 → ⊥) → j < i → codes_points (codes_of structs (drop j xs)) ≡ 0 → ⊥
-busy_before structs xs i own j x p l e o some lt z =
-    let there = ap codes_points (codes_last structs xs i x p l e) in
-    let fewer = fewer_behind structs xs j (i - 1) (omega (arith, lt)) in
-    some (omega (arith, there, fewer, o, z))
-
-pub idle_before : (structs : List Struct) (xs : List CodeCode) (i own j : ℕ) (x : CodeCode) → 0 < i → i ≤ length xs → x ≡ get_or xs (i - 1) x → own ≡ code_points (code_of structs x) → own ≡ 0 → ((j : ℕ) → i ≤ j → codes_points (codes_of structs (drop j xs)) ≡ 0) → i - 1 ≤ j → codes_points (codes_of structs (drop j xs)) ≡ 0
-idle_before structs xs i own j x p l e o empty idle le =
-    let there = ap codes_points (codes_last structs xs i x p l e) in
-    let fewer = fewer_behind structs xs (i - 1) j le in
-    let rest = idle i (omega arith) in
-    omega (arith, there, fewer, o, empty, rest)
 
 -- the points of an update of a number
 

@@ -7,18 +7,20 @@ ghost use Rattle.rc_core.specs.Types.{CellKind, struct};
 ghost use Rattle.rc_core.specs.Laid.{kind_of};
 ghost use Rattle.rc_rlang.specs.RegionCode.{Routine, width};
 ghost use Rattle.rc_rlang.specs.RegionFlow.{act_nodes, cell_effects, change_effects, in_line, if_regional, nothing, beside, looked_at, moved, numbers_below, one_of, is_regional as is_regional_type, loaded_value, stored_value, local_variable, returned_variable, returning, temporary_variable};
+ghost use Rattle.rc_rlang.specs.Points.{change_points};
 ghost use Rattle.rc_rlang.specs.Shapes.{access_of, act_of};
 ghost use Rattle.rc_graph.specs.Nodes.{Serves, effect_of, nodes_of, idle_nodes};
 
-use crate::counts;
-use crate::names::{add, cell_note, is_regional};
+use crate::names::{cell_note, is_regional};
 use crate::node::{Effect, Node};
-use crate::operations::{loaded, stored, width_of};
+use crate::operations::{loaded, stored};
 use crate::output::{Context, either, go, leave};
 use rc_base::NoMemory;
 use rc_core::Kind;
 use rc_core::stmt::Change;
 use rc_core::ty::{Note, Ty};
+use rc_plans::{add, width_of};
+use rc_points::act_points;
 use rc_rlang::access::Access;
 use rc_rlang::code::Act;
 
@@ -118,20 +120,21 @@ fn cells(
     Ok(())
 }
 
-/// The nodes of an update.
+/// The nodes of an update that has so many points.
 fn update(
     context: &Context,
     place: &Access,
     way: Change,
+    points: u32,
     here: u32,
     next: u32,
     out: &mut Vec<Node>,
 ) -> Result<(), NoMemory>
-    ensures { (structs : List Struct) (f : Routine) → Serves context.now structs f → OnOk result (nodes_of out.new.items ≡ nodes_of out.old.items ++ in_line (change_effects f (access_of place.now) way) here next) }
+    ensures { (structs : List Struct) (f : Routine) → Serves context.now structs f → points ≡ change_points way → OnOk result (nodes_of out.new.items ≡ nodes_of out.old.items ++ in_line (change_effects f (access_of place.now) way) here next) }
 {
     let holder = context.names.temporary(0)?;
     match way {
-        Change::Compute { .. } => compute(out, holder, counts::change(way), here, next),
+        Change::Compute { .. } => compute(out, holder, points, here, next),
         Change::Step { .. } => {
             let value = context.names.temporary(add(width_of(place)?, 1)?)?;
             step_cell(out, &place.cell, value, holder, here, next)
@@ -226,7 +229,10 @@ pub(crate) fn act(
             access,
             change: way,
             ..
-        } => update(context, access, *way, here, next, out),
+        } => {
+            let points = act_points(context.layouts, act)?;
+            update(context, access, *way, points, here, next, out)
+        }
         Act::Move {
             structure,
             left,

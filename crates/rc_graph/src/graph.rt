@@ -7,18 +7,17 @@ ghost use Rattle.rc_rlang.specs.RegionCode.{Routine as RegionRoutine};
 ghost use Rattle.rc_rlang.specs.RegionFlow.{entered, entry_pairs, end_nodes, routine_nodes, nulled, if_regional, temporary_variable};
 ghost use Rattle.rc_rlang.specs.Shapes.{code_of, routine_in};
 ghost use Rattle.rc_graph.specs.Nodes.{Numbers, Serves, IsGraph, effect_of, entry_of, nodes_of};
-ghost use Rattle.rc_graph.specs.Plans.{routine_plan};
+ghost use Rattle.rc_plans.specs.Plans.{routine_plan};
 
 use crate::acts::given;
-use crate::heights::temporaries;
-use crate::names::{Names, add, is_regional, number};
+use crate::names::{Names, is_regional, number};
 use crate::node::{Effect, Entry, Node};
 use crate::output::{Context, Ways, go, leave};
-use crate::plans::plan_routine;
 use crate::walk::code;
 use rc_base::NoMemory;
 use rc_core::Layouts;
 use rc_core::ty::Ty;
+use rc_plans::{add, plan_routine, temporaries};
 use rc_rlang::code::Routine;
 use std::alloc::Global;
 

@@ -3,14 +3,11 @@
 #![tactic(auto)]
 
 mod acts;
-mod counts;
 mod graph;
-mod heights;
 mod names;
 mod node;
 mod operations;
 mod output;
-mod plans;
 mod walk;
 
 pub use graph::{Graph, graph_of};

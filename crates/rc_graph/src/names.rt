@@ -11,6 +11,7 @@ ghost use Rattle.rc_graph.specs.Nodes.{Numbers};
 use rc_base::NoMemory;
 use rc_core::Kind;
 use rc_core::ty::{Note, Ty};
+use rc_plans::add;
 use std::alloc::Global;
 
 /// The numbers of a function's region variables: first the hidden copies, then the locals that are
@@ -64,17 +65,6 @@ pub fn cell_note(kind: &Kind) -> Note
         Kind::Region => Note::Plain,
         Kind::Pointer(note) => *note,
     }
-}
-
-/// The sum.
-///
-/// # Errors
-///
-/// Out of memory, which is said where it is no `u32`.
-pub(crate) fn add(a: u32, b: u32) -> Result<u32, NoMemory>
-    ensures { IfOk result (λ n. n ≡ a + b) }
-{
-    a.checked_add(b).ok_or(NoMemory)
 }
 
 /// How many before a local are regions or pointers, where so many are in all.

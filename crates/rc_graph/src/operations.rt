@@ -2,18 +2,18 @@
 ghost use Rattle.std.specs.Prelude.{◌≡◌, List, IfOk, Some, None};
 ghost use Rattle.rc_core.specs.Programs.{Struct};
 ghost use Rattle.rc_core.specs.Shapes.{ty_of};
-ghost use Rattle.rc_rlang.specs.RegionCode.{Routine, width};
+ghost use Rattle.rc_rlang.specs.RegionCode.{Routine};
 ghost use Rattle.rc_rlang.specs.RegionFlow.{operation_effect, yes_effect, no_effect, stored_value, loaded_value, one_of, if_regional, is_regional as is_regional_type, note_in as note_in_type, local_variable, temporary_variable};
 ghost use Rattle.rc_rlang.specs.RegionFlow as From;
-ghost use Rattle.rc_rlang.specs.Shapes.{access_of, operation_of};
+ghost use Rattle.rc_rlang.specs.Shapes.{operation_of};
 ghost use Rattle.rc_graph.specs.Nodes.{Serves, Numbers, effect_of};
 
-use crate::names::{add, is_regional, note_in};
+use crate::names::{is_regional, note_in};
 use crate::node::Effect;
 use crate::output::Context;
 use rc_base::NoMemory;
 use rc_core::ty::Ty;
-use rc_rlang::access::Access;
+use rc_plans::add;
 use rc_rlang::steps::Operation;
 
 /// What finding does that a value is true.
@@ -57,17 +57,6 @@ pub(crate) fn stored(cell: &Ty, value: u32, holder: u32) -> Effect
         Effect::Stored(value, holder, note_in(cell))
     } else {
         Effect::LookedAt(holder)
-    }
-}
-
-/// How many temporaries a place has.
-pub(crate) fn width_of(place: &Access) -> Result<u32, NoMemory>
-    ensures { IfOk result (λ n. n ≡ width (access_of place.now)) }
-{
-    let indices = u32::try_from(place.indices.len()).map_err(|_| NoMemory)?;
-    match place.shift {
-        None => add(1, indices),
-        Some(_) => add(2, indices),
     }
 }
 

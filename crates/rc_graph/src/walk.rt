@@ -12,11 +12,11 @@ use crate::names::is_regional;
 use crate::node::{Effect, Node};
 use crate::operations::{found_false, found_true, operation};
 use crate::output::{Context, Ways, either, fork, go};
-use crate::plans::{
-    busy, past_code, past_step, plan_act, plan_branch, plan_fork, plan_loop, plan_repeat,
-};
 use rc_base::NoMemory;
 use rc_core::ty::Ty;
+use rc_plans::{
+    busy, past_code, past_step, plan_act, plan_branch, plan_fork, plan_loop, plan_repeat,
+};
 use rc_rlang::code::{Code, Test};
 use rc_rlang::steps::Step;
 

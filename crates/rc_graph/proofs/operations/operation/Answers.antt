@@ -3,7 +3,7 @@ use Rattle.rc_core.specs.Shapes.{ty_of}
 use Rattle.rc_rlang.specs.RegionFlow.{operation_effect, if_regional, moved, local_variable}
 use Rattle.rc_rlang.specs.Shapes.{operation_of}
 use Rattle.rc_graph.specs.Nodes.{effect_of}
-use Rattle.rc_graph.proofs.Counting.{ok_more}
+use Rattle.rc_plans.proofs.Counting.{ok_more}
 use Rattle.rc_graph.proofs.operations.operation.Goals as goal
 
 pub returns-in-Copy : goal.returns-in-Copy

@@ -4,7 +4,7 @@ use Rattle.rc_rlang.specs.RegionFlow.{steps_nodes, code_nodes, codes_nodes}
 use Rattle.rc_rlang.specs.Shapes.{steps_of, act_of, test_of, code_of, codes_of}
 use Rattle.rc_rlang.proofs.CodeRows.{block_is}
 use Rattle.rc_graph.specs.Nodes.{nodes_of, ends_of}
-use Rattle.rc_graph.specs.Plans.{act_plan, branch_plan, loop_plan, repeat_plan}
+use Rattle.rc_plans.specs.Plans.{act_plan, branch_plan, loop_plan, repeat_plan}
 use Rattle.rc_graph.proofs.Walking.{simple_done, branch_done, loop_done, repeat_done, on_ok}
 use Rattle.rc_graph.proofs.walk.+code.Goals as goal
 

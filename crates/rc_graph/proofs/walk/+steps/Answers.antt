@@ -5,8 +5,8 @@ use Rattle.rc_rlang.specs.RegionFlow.{step_nodes, steps_nodes}
 use Rattle.rc_rlang.specs.Shapes.{step_of, steps_of}
 use Rattle.rc_rlang.proofs.CodeRows.{fork_is}
 use Rattle.rc_graph.specs.Nodes.{effect_of, nodes_of}
-use Rattle.rc_graph.specs.Plans.{fork_plan}
-use Rattle.rc_graph.proofs.Counting.{steps_from}
+use Rattle.rc_plans.specs.Plans.{fork_plan}
+use Rattle.rc_plans.proofs.Counting.{steps_from}
 use Rattle.rc_graph.proofs.Walking.{fork_done, steps_more, last_step, on_ok}
 use Rattle.rc_graph.proofs.walk.+steps.Goals as goal
 

@@ -1,6 +1,6 @@
 use Rattle.std.proofs.Common.{◌≡◌, ◌+◌, get_or, ap, ◌∙◌}
 use Rattle.rc_rlang.specs.RegionFlow.{local_variable, copies}
-use Rattle.rc_graph.proofs.Counting.{ok_more}
+use Rattle.rc_plans.proofs.Counting.{ok_more}
 use Rattle.rc_graph.proofs.Numbering.{rank_is}
 use Rattle.rc_graph.proofs.names.Names.local.Goals as goal
 

@@ -6,12 +6,12 @@ use Rattle.rc_rlang.specs.RegionCode.{Steps, Act, Test, Code}
 use Rattle.rc_rlang.specs.RegionPoints.{steps_points, act_points, branch_points, code_points, codes_points}
 use Rattle.rc_rlang.specs.RegionFlow.{first_of}
 use Rattle.rc_rlang.specs.Shapes.{codes_of}
-use Rattle.rc_graph.specs.declared.plans.ForkPlan.{ForkPlan}
-use Rattle.rc_graph.specs.declared.plans.ActPlan.{ActPlan}
-use Rattle.rc_graph.specs.declared.plans.BranchPlan.{BranchPlan}
-use Rattle.rc_graph.specs.declared.plans.LoopPlan.{LoopPlan}
-use Rattle.rc_graph.specs.declared.plans.RepeatPlan.{RepeatPlan}
-use Rattle.rc_graph.specs.declared.plans.RoutinePlan.{RoutinePlan}
+use Rattle.rc_plans.specs.declared.plans.ForkPlan.{ForkPlan}
+use Rattle.rc_plans.specs.declared.plans.ActPlan.{ActPlan}
+use Rattle.rc_plans.specs.declared.plans.BranchPlan.{BranchPlan}
+use Rattle.rc_plans.specs.declared.plans.LoopPlan.{LoopPlan}
+use Rattle.rc_plans.specs.declared.plans.RepeatPlan.{RepeatPlan}
+use Rattle.rc_plans.specs.declared.plans.RoutinePlan.{RoutinePlan}
 
 abbrev pub fork_plan : (yes no : Steps) → (here next : ℕ) → ForkPlan
 fork_plan a b here next = record {

@@ -2,17 +2,32 @@
 ghost use Rattle.std.specs.Prelude.{◌≡◌, ℕ, max, suc, List, IfOk, drop, length, option_map};
 ghost use Rattle.rc_core.specs.Programs.{Struct};
 ghost use Rattle.rc_core.specs.Shapes.{ty_of};
-ghost use Rattle.rc_rlang.specs.RegionCode.{Routine as RegionRoutine};
+ghost use Rattle.rc_rlang.specs.RegionCode.{Routine as RegionRoutine, width};
 ghost use Rattle.rc_rlang.specs.RegionVariables.{step_temporaries, steps_temporaries, act_temporaries, code_temporaries, codes_temporaries, routine_temporaries};
 ghost use Rattle.rc_rlang.specs.Variables.{end_temporaries};
-ghost use Rattle.rc_rlang.specs.Shapes.{act_of, code_of, codes_of, step_of, steps_of, routine_in};
+ghost use Rattle.rc_rlang.specs.Shapes.{access_of, act_of, code_of, codes_of, step_of, steps_of, routine_in};
 
-use crate::names::add;
-use crate::operations::width_of;
+use crate::sums::add;
 use rc_base::NoMemory;
 use rc_core::ty::Ty;
+use rc_rlang::access::Access;
 use rc_rlang::code::{Act, Code, Routine};
 use rc_rlang::steps::Step;
+
+/// How many temporaries a place has.
+///
+/// # Errors
+///
+/// Out of memory, which is said where a number is no `u32`.
+pub fn width_of(place: &Access) -> Result<u32, NoMemory>
+    ensures { IfOk result (λ n. n ≡ width (access_of place.now)) }
+{
+    let indices = u32::try_from(place.indices.len()).map_err(|_| NoMemory)?;
+    match place.shift {
+        None => add(1, indices),
+        Some(_) => add(2, indices),
+    }
+}
 
 fn larger(a: u32, b: u32) -> u32
     ensures { result ≡ max a b }
@@ -144,7 +159,11 @@ fn at_end(promised: &Option<Ty>) -> u32
 }
 
 /// The temporaries of a function.
-pub(crate) fn temporaries(routine: &Routine) -> Result<u32, NoMemory>
+///
+/// # Errors
+///
+/// Out of memory, which is said where a number is no `u32`.
+pub fn temporaries(routine: &Routine) -> Result<u32, NoMemory>
     ensures { (structs : List Struct) → IfOk result (λ n. n ≡ routine_temporaries (routine_in structs routine.now)) }
 {
     let body = code(&routine.body)?;

@@ -2,7 +2,7 @@ use Rattle.std.proofs.Common.{◌≡◌, suc, max, sym, ap, ◌∙◌, arith}
 use Rattle.rc_rlang.specs.RegionVariables.{step_temporaries, steps_temporaries}
 use Rattle.rc_rlang.specs.Shapes.{steps_of}
 use Rattle.rc_rlang.proofs.CodeRows.{fork_is}
-use Rattle.rc_graph.proofs.heights.+steps.Goals as goal
+use Rattle.rc_plans.proofs.heights.+steps.Goals as goal
 
 pub step-returns-in_ok-right-in-Fork : goal.step-returns-in_ok-right-in-Fork
 step-returns-in_ok-right-in-Fork t c structs =

@@ -2,8 +2,8 @@ use Rattle.std.proofs.Common.{◌≡◌, sym, ap, ◌∙◌}
 use Rattle.rc_rlang.specs.RegionVariables.{code_temporaries, codes_temporaries}
 use Rattle.rc_rlang.specs.Shapes.{code_of, codes_of}
 use Rattle.rc_rlang.proofs.CodeRows.{block_is}
-use Rattle.rc_graph.proofs.Counting.{ok_more}
-use Rattle.rc_graph.proofs.heights.+code.Goals as goal
+use Rattle.rc_plans.proofs.Counting.{ok_more}
+use Rattle.rc_plans.proofs.heights.+code.Goals as goal
 
 pub code-returns-in-Block : goal.code-returns-in-Block
 code-returns-in-Block t c structs =

@@ -1,6 +1,6 @@
 use Rattle.std.proofs.Common.{arith}
-use Rattle.rc_graph.proofs.Walking.{busy_before, idle_before}
-use Rattle.rc_graph.proofs.plans.busy.Goals as goal
+use Rattle.rc_plans.proofs.Counting.{busy_before, idle_before}
+use Rattle.rc_plans.proofs.plans.busy.Goals as goal
 
 pub returns-then-own-ne0 : goal.returns-then-own-ne0
 returns-then-own-ne0 c structs laid =
