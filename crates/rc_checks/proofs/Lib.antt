@@ -1,3 +1,3 @@
 mod Rights
 mod Typed
-mod Whole
+pub mod Whole

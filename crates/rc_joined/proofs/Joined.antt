@@ -96,7 +96,7 @@ module _ (r : Rlang) (fit : IsRlang r) (numberable : IsNumberable r) (small : Is
   layout_same : (l : Layout) → layout_of (map (cell_of (type_in r) (path_in r)) l) ≡ map (named_cell name) l
   layout_same l = map_map cell_kind (cell_of (type_in r) (path_in r)) (named_cell name) cell_same l
 
-  own_is_written : (own image).code ≡ reading_of (image_of r)
+  pub own_is_written : (own image).code ≡ reading_of (image_of r)
   own_is_written = ap (λ ls. record { parts = image_of r; layouts = ls; numbered = pointee }) (sym (map_map layout_of (map (cell_of (type_in r) (path_in r))) (map (named_cell name)) layout_same (layouts_in r)))
 
   own_is_sound : ImageIsSound (own image)
@@ -196,25 +196,25 @@ module _ (r : Rlang) (fit : IsRlang r) (numberable : IsNumberable r) (small : Is
   there_in (g ∷ gs) ss each all (suc n) h e = there_in gs ss (λ k d q. each (suc k) d q) all n h e
 
 module _ (program : Program) (well : IsWellTyped program) (bounds : IsWithinBounds program) (small : IsSmall (image_of_program program)) where
-  abbrev r : Rlang
+  abbrev pub r : Rlang
   r = region_of_program program
 
-  fit : IsRlang r
+  pub fit : IsRlang r
   fit = Region.fits_together program well bounds
 
-  numberable : IsNumberable r
+  pub numberable : IsNumberable r
   numberable = program_is_numberable program well
 
-  abbrev compared : Compared
+  abbrev pub compared : Compared
   compared = image r fit numberable small
 
-  globals_there : GlobalsAreThere compared (first_heap program)
+  pub globals_there : GlobalsAreThere compared (first_heap program)
   globals_there n h e = there_in r fit numberable small r.globals r.strings (global_in r fit numberable small) (strings_in r fit numberable) n h e
 
   begins : (input : List ℕ) (limits : Limits) → Good compared (first_world program input limits)
   begins input limits = first_is_good compared refl program input limits globals_there
 
-  first_is_model : (input : List ℕ) (limits : Limits) → model (name r fit numberable small) (first_world program input limits) ≡ first_held (reading_of (image_of r)) input limits
+  pub first_is_model : (input : List ℕ) (limits : Limits) → model (name r fit numberable small) (first_world program input limits) ≡ first_held (reading_of (image_of r)) input limits
   first_is_model input limits = ap (λ os. record {
     turns = limits.turns;
     input = input;
@@ -236,11 +236,11 @@ module _ (program : Program) (well : IsWellTyped program) (bounds : IsWithinBoun
       (unmarked compared (view_is_sound compared (λ ty. refl) (own_is_sound r fit numberable small)) refl (run_main (watched compared) (view_of r) (first_world program input limits)))
       ∙ ap (mapped compared) (same_run input limits)
 
-  same_meaning : (input : List ℕ) (m : Run World Value) → Image.meaning_of_run input (mapped compared m) ≡ meaning_of_run input m
+  pub same_meaning : (input : List ℕ) (m : Run World Value) → Image.meaning_of_run input (mapped compared m) ≡ meaning_of_run input m
   same_meaning input (Go v w) = refl
   same_meaning input (Stopped stop w) = refl
 
-  same_left : (m : Run World Value) → Image.left_by_run (mapped compared m) ≡ left_by_run m
+  pub same_left : (m : Run World Value) → Image.left_by_run (mapped compared m) ≡ left_by_run m
   same_left (Go v w) = ap Some (regions_left (name r fit numberable small) w.heap)
   same_left (Stopped stop w) = refl
 

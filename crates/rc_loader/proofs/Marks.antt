@@ -27,7 +27,7 @@ at_mapped change [] (suc n) d = refl
 at_mapped change (x ∷ xs) zero d = refl
 at_mapped change (x ∷ xs) (suc n) d = at_mapped change xs n d
 
-as_long : {A B : Type 0} (change : A → B) (xs : List A) → length (map change xs) ≡ length xs
+pub as_long : {A B : Type 0} (change : A → B) (xs : List A) → length (map change xs) ≡ length xs
 as_long change [] = refl
 as_long change (x ∷ xs) = ap suc (as_long change xs)
 
@@ -52,7 +52,7 @@ no_mark (instruction.Delete pins) path e = absurd cc
 no_mark (instruction.Call function pins) path e = absurd cc
 no_mark (instruction.Jump jump target) path e = absurd cc
 
-function_is : (parts : Parts) (g : ℕ) → function_at (reading_of (unmarked parts)) g ≡ unmarked_function (function_at (reading_of parts) g)
+pub function_is : (parts : Parts) (g : ℕ) → function_at (reading_of (unmarked parts)) g ≡ unmarked_function (function_at (reading_of parts) g)
 function_is parts g = at_mapped unmarked_function parts.functions g no_function
 
 pub faithful : (parts : Parts) → Faithful (unmarked parts)
@@ -96,7 +96,7 @@ fields_fit parts fits = record {
 -- ---- rules of code
 
 module _ (parts : Parts) (f : Function) where
-  same_takes : (i : Instruction) → takes (reading_of (unmarked parts)) (unmarked_function f) (unmarked_instruction i) ≡ takes (reading_of parts) f i
+  pub same_takes : (i : Instruction) → takes (reading_of (unmarked parts)) (unmarked_function f) (unmarked_instruction i) ≡ takes (reading_of parts) f i
   same_takes (instruction.Call g pins) = ap (λ (h : Function). reverse (parameter_kinds h)) (function_is parts g)
   same_takes i = refl
 
@@ -116,7 +116,7 @@ module _ (parts : Parts) (f : Function) where
   same_at : (n : ℕ) → instruction_at (unmarked_function f) n ≡ unmarked_instruction (instruction_at f n)
   same_at n = at_mapped unmarked_instruction f.code n (instruction.Simple simple.Return)
 
-  same_kinds : (n : ℕ) → kinds_before (reading_of (unmarked parts)) (unmarked_function f) n ≡ kinds_before (reading_of parts) f n
+  pub same_kinds : (n : ℕ) → kinds_before (reading_of (unmarked parts)) (unmarked_function f) n ≡ kinds_before (reading_of parts) f n
   same_kinds zero = refl
   same_kinds (suc n) =
       ap (λ i. after (reading_of (unmarked parts)) (unmarked_function f) i (kinds_before (reading_of (unmarked parts)) (unmarked_function f) n)) (same_at n)

@@ -58,7 +58,7 @@ module _ (r : Rlang) (mask : ℕ → Bool) where
   note_there (struct k) = refl
   note_there (pointer note target) = refl
 
-  note_is : (a : Access) → AccessFits r.structs a → In a.element → PathIn (path_of (type_in r) a) → note_of (cell_at code (path_at code (path_in r a))) ≡ note_on a.cell
+  pub note_is : (a : Access) → AccessFits r.structs a → In a.element → PathIn (path_of (type_in r) a) → note_of (cell_at code (path_at code (path_in r a))) ≡ note_on a.cell
   note_is a fits there path =
       ap (λ p. note_of (cell_at code p)) (path_found r a path)
       ∙ ap (λ (l : Layout). note_of (get_or l a.offset int_cell)) (layout_written a.element there)

@@ -1,0 +1,4 @@
+pub mod Lives
+pub mod Decoded
+pub mod Runs
+pub mod Numberings

@@ -1,0 +1,5 @@
+pub mod Labels
+pub mod Numberings
+pub mod Labelled
+pub mod LabelledWorlds
+pub mod Laws

@@ -1,0 +1,4 @@
+pub mod Bare
+pub mod Standing
+pub mod Rules
+pub mod Kept

@@ -1,0 +1,27 @@
+//! Images without needless checks: what they mean.
+#![tactic(auto)]
+
+ghost use Rattle.rc_core.specs.Programs.{Program};
+ghost use Rattle.rc_core.specs.WellTyped.{IsWellTyped};
+ghost use Rattle.rc_rlang.specs.Bounds.{IsWithinBounds};
+ghost use Rattle.rc_image_rules.specs.Small.{IsSmall};
+ghost use Rattle.rc_joined.specs.Programs.{image_of_program};
+ghost use Rattle.rc_unchecked.specs.Right.{MarksAreRight};
+ghost use Rattle.rc_unchecked.specs.Unchecked.{LeavesTheSameUnchecked, MeansTheSameUnchecked};
+
+/// Without needless checks the image of a program means what the program means. A store whose check
+/// may go has a mark, and makes no check; on every input of bytes and under all limits the image does
+/// the same acts in the same order, takes as many bytes and has the same end, over a store that
+/// counts. Where it exits it leaves the same heap. As of the image with all its checks it is asked
+/// that the image's counts and lines are below 2 to the power 32.
+pub fn images_without_needless_checks_mean_the_same()
+    ensures means { (program : Program) → IsWellTyped program → IsWithinBounds program → IsSmall (image_of_program program) → MeansTheSameUnchecked program }
+    ensures leaves { (program : Program) → IsWellTyped program → IsWithinBounds program → IsSmall (image_of_program program) → LeavesTheSameUnchecked program }
+{}
+
+/// In no run of such an image, on an input of bytes, would a check have failed that is left out: at
+/// each marked store that the run comes to, after however many instructions, the store does the same
+/// with its check and without.
+pub fn checks_that_are_left_out_never_fail()
+    ensures { (program : Program) → IsWellTyped program → IsWithinBounds program → IsSmall (image_of_program program) → MarksAreRight program }
+{}
