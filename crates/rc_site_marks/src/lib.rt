@@ -1,0 +1,8 @@
+//! The marks of region code's stores, in the order in which its image has them. `specs/InOrder` of rc_marks says
+//! what they are.
+#![tactic(auto)]
+
+mod marks;
+mod walk;
+
+pub use marks::marks_of;
