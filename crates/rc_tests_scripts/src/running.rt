@@ -3,24 +3,24 @@ ghost use Rattle.std.specs.Prelude.{◌≡◌, ◌<◌};
 
 use rc_base::{Buffer, Limits, NoMemory, Steps};
 use rc_count::CountHeap;
+use rc_scan::ScanHeap;
 use rc_sets::{ScriptFault, script};
 use rc_store::Heap;
 use std::alloc::Global;
 use std::marker::Brand;
 use std::sync::ledger::{Blank, Ledger};
 
-/// A script with what it answers within these limits.
+/// A script, and the limits in which it runs.
 #[derive(Clone, Copy)]
-pub(crate) struct Row {
+pub(crate) struct Script<'a> {
     pub(crate) regions: u32,
     pub(crate) blocks: u32,
-    pub(crate) text: &'static [u8],
-    pub(crate) output: &'static [u8],
+    pub(crate) text: &'a [u8],
 }
 
-fn run_from<L: Ledger>(
+fn count_from<L: Ledger>(
     alloc: Global,
-    row: &Row,
+    of: Script<'_>,
     out: &mut Buffer,
     blank: Blank,
 ) -> Result<Result<(), ScriptFault>, NoMemory>
@@ -31,25 +31,61 @@ fn run_from<L: Ledger>(
     let mut heap = CountHeap::new(alloc)?;
     heap.limit(&Limits {
         turns: 0,
-        regions: row.regions,
-        blocks: row.blocks,
+        regions: of.regions,
+        blocks: of.blocks,
     });
     let mut steps = Steps::<L>::start(blank);
-    Ok(script(alloc, row.text, &mut heap, out, &mut steps))
+    Ok(script(alloc, of.text, &mut heap, out, &mut steps))
 }
 
-/// Runs a script over a new heap with these limits.
-pub(crate) fn run(
+/// Runs a script over a new heap that counts.
+pub(crate) fn count(
     alloc: Global,
-    row: &Row,
+    of: Script<'_>,
     out: &mut Buffer,
 ) -> Result<Result<(), ScriptFault>, NoMemory> {
-    run_from::<Brand>(alloc, row, out, Blank::new(1))
+    count_from::<Brand>(alloc, of, out, Blank::new(1))
 }
 
-/// Whether a script answers what its row says.
-pub(crate) fn answers(alloc: Global, row: &Row) -> Result<bool, NoMemory> {
+fn look_from<L: Ledger>(
+    alloc: Global,
+    of: Script<'_>,
+    out: &mut Buffer,
+    blank: Blank,
+) -> Result<Result<(), ScriptFault>, NoMemory>
+    requires name { blank.name ≡ L.name }
+    requires parts { blank.parts ≡ L.parts }
+    requires some { 0 < L.parts }
+{
+    let mut heap = ScanHeap::new(alloc)?;
+    heap.limit(&Limits {
+        turns: 0,
+        regions: of.regions,
+        blocks: of.blocks,
+    });
+    let mut steps = Steps::<L>::start(blank);
+    Ok(script(alloc, of.text, &mut heap, out, &mut steps))
+}
+
+/// Runs a script over a new plain heap.
+pub(crate) fn look(
+    alloc: Global,
+    of: Script<'_>,
+    out: &mut Buffer,
+) -> Result<Result<(), ScriptFault>, NoMemory> {
+    look_from::<Brand>(alloc, of, out, Blank::new(1))
+}
+
+/// Whether a script answers this over a heap that counts.
+pub(crate) fn is_counted(alloc: Global, of: Script<'_>, output: &[u8]) -> Result<bool, NoMemory> {
+    let mut out = Buffer::new(alloc, 10_000_000, Vec::new(alloc))?;
+    let ended = count(alloc, of, &mut out)?;
+    Ok(ended == Ok(()) && out.taken() == output)
+}
+
+/// Whether a script answers this over a plain heap.
+pub(crate) fn is_looked_up(alloc: Global, of: Script<'_>, output: &[u8]) -> Result<bool, NoMemory> {
     let mut out = Buffer::new(alloc, 100_000, Vec::new(alloc))?;
-    let answer = run(alloc, row, &mut out)?;
-    Ok(answer == Ok(()) && out.taken() == row.output)
+    let ended = look(alloc, of, &mut out)?;
+    Ok(ended == Ok(()) && out.taken() == output)
 }
