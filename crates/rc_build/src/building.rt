@@ -10,9 +10,13 @@ use rc_core::program::Program;
 use rc_emit::compile_program;
 use std::alloc::Global;
 
-/// The image of a program. Where it keeps within the bounds of points and region variables, as that of
-/// a text does, it is refused for want of memory alone.
-fn image(alloc: Global, program: &Program) -> Result<Image, NoMemory>
+/// The image of a program, without marks. Where the program keeps within the bounds of points and region
+/// variables, as that of a text does, it is refused for want of memory alone.
+///
+/// # Errors
+///
+/// Out of memory, which is said too of a program beyond those bounds.
+pub fn image(alloc: Global, program: &Program) -> Result<Image, NoMemory>
     ensures { IfOk result (HasImage (program_of program.now)) }
 {
     let _parts = program.parts();

@@ -4,4 +4,4 @@
 
 mod building;
 
-pub use building::{compile, ready};
+pub use building::{compile, image, ready};

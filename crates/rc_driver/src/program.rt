@@ -10,6 +10,7 @@ use rc_base::{Shelf, Sink, Source};
 use rc_evaluation::evaluate_file;
 use rc_exec::exec_image;
 use rc_image_files::{list_image, upgrade_image};
+use rc_inspections::check_file;
 use rc_programs::{compile_file, run_file};
 use rc_requests::{Request, request_of};
 use rc_scripts::run_script;
@@ -42,6 +43,7 @@ fn perform<F: Shelf, S: Source, O: Sink, H: SetHeap>(
         Some(Request::Listing(file)) => list_image(alloc, file, files, out),
         Some(Request::Upgrade(from, to)) => upgrade_image(alloc, from, to, files),
         Some(Request::Script(file, limits)) => { run_script(alloc, file, limits, files, out, heap) }
+        Some(Request::Checks(file)) => check_file(alloc, file, files, out),
         None => Ok(Done::Usage),
     }
 }
@@ -55,10 +57,10 @@ fn perform<F: Shelf, S: Source, O: Sink, H: SetHeap>(
 /// but for the request to go node by node; an image of a file is run with all marks of its stores taken
 /// away. Both run over `heap`, which is as its constructor made it, under the request's limits. A script
 /// of heap commands is obeyed over it line by line, writes exactly its answers to `out`, and leaves the
-/// store that is behind its last line. Only a fault of the outside, which its count shows, or want of memory may cut a run short, and then a front
-/// of the meaning's acts was done. What is answered
-/// is told on `err`. All that is promised stands fact by fact in `Serves` of specs/Headline, over the
-/// outside before the call and after it.
+/// store that is behind its last line. A report on the checks of a program says exactly which may go. Only
+/// a fault of the outside, which its count shows, or want of memory may cut a run or a report short, and
+/// then a front of its acts was done. What is answered is told on `err`. All that is promised stands fact
+/// by fact in `Serves` of specs/Headline, over the outside before the call and after it.
 ///
 /// # Errors
 ///

@@ -11,8 +11,8 @@ use Rattle.rc_outcomes.specs.Loading.{LoadCause, Loaded, no_memory}
 use Rattle.rc_outcomes.specs.Images.{image_in, read_as}
 use Rattle.rc_outcomes.specs.Storing.{MadeFile}
 use Rattle.rc_outcomes.proofs.Storing.{stored_bytes}
-use Rattle.rc_image_files.specs.Making.{ListsOf, MadeReport, MakesOf, UpgradesOf}
-use Rattle.rc_image_files.specs.Making as making
+use Rattle.rc_image_files.specs.Making.{ListsOf, MakesOf, UpgradesOf}
+use Rattle.rc_outcomes.specs.Reporting.{MadeReport}
 use Rattle.rc_outcomes.specs.Outcome.{AnyHeap, Comes, IsOutcome, Lists, OfRead, Outcome, Upgrades, answers, reports, stores}
 use Rattle.rc_outcomes.specs.Outside.{Outside, outside}
 use Rattle.rc_outcomes.specs.Performing.{Performs}
@@ -29,7 +29,7 @@ use Rattle.rc_image.specs.Reading.{parts_of}
 use Rattle.rc_image.specs.Spelling.{spelling}
 use Rattle.rc_image.specs.declared.version.Version.TheVariants.{Two}
 use Rattle.rc_listing.specs.Listing.{listing}
-use Rattle.rc_outcomes.proofs.Reports.{nothing_said, writes_report}
+use Rattle.rc_outcomes.proofs.Reports.{made_report, nothing_said}
 use Rattle.rc_outcomes.proofs.SpelledImages.{read_long, read_short}
 use Rattle.rc_outcomes.proofs.Ways.{same_text, the_only}
 use Rattle.rc_outcomes.proofs.TextLaws.{longer, whole_is}
@@ -133,11 +133,9 @@ module _ (request : Option Request) (name : List ℕ) (Made : Parts → List ℕ
 -- ---- listings
 
 pub listed : (request : Option Request) (name : List ℕ) (before : Outside) (files' : ShelfState) (out' : SinkState) (image : Parts) (result : Result Done Fault) → ListsOf request name → LoadedImage name before.files files' (Ok image) → MadeReport (listing image) before.out out' result → Performs request before (outside files' before.input out' before.err before.heap) result
-listed request name before files' out' image result row l (making.no_memory same) =
-    subst (λ (o : SinkState). Performs request before (outside files' before.input o before.err before.heap) (Err Memory)) (sym same) (no_memory_then request name Lists row.makes before files' (Ok image) l)
-listed request name before files' out' image result row l (making.wrote other report) =
-    writes_report request before files' out' before.heap (listing image) AnyHeap (has_read request name Lists row.makes before files' (Ok image) l)
-    (record { writes_out = row.writes_out; may_report = row.may_report; outcome = some_made request name Lists row.makes before files' (Ok image) l (reports (listing image)) refl; only = only_made request name Lists row.makes before files' (Ok image) l }) (λ e. refl) other report (nothing_said other before.heap)
+listed request name before files' out' image result row l made =
+    made_report request before files' out' before.heap (listing image) AnyHeap (has_read request name Lists row.makes before files' (Ok image) l)
+    (record { writes_out = row.writes_out; may_report = row.may_report; outcome = some_made request name Lists row.makes before files' (Ok image) l (reports (listing image)) refl; only = only_made request name Lists row.makes before files' (Ok image) l }) (λ e. refl) result made (nothing_said result before.heap)
 
 -- ---- upgrades
 

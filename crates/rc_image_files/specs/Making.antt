@@ -1,18 +1,13 @@
 -- Requests that make something of the image of a file.
-use Rattle.std.specs.Prelude.{◌≡◌, ℕ, List, Option, Result, Err, IsTrue}
+use Rattle.std.specs.Prelude.{◌≡◌, ℕ, List, Option, IsTrue}
 use Rattle.rc_base.specs.Shelves.{Names}
-use Rattle.rc_base.specs.Sinks.{SinkState}
 use Rattle.rc_code.specs.declared.image.Parts.{Parts}
 use Rattle.rc_answers.specs.Answers.{IsOfBytes}
 use Rattle.rc_outcomes.specs.MayAnswer.{MayAnswer}
 use Rattle.rc_outcomes.specs.Footprint.{Reads, Stores, footprint}
 use Rattle.rc_outcomes.specs.Outcome.{IsOutcome, Lists, OfImage, Outcome, Upgrades}
-use Rattle.rc_outcomes.specs.Reporting.{WroteReport, reported}
 use Rattle.rc_requests.specs.Request.{Request}
-use Rattle.rc_answers.specs.declared.answer.Done.{Done}
 use Rattle.rc_answers.specs.declared.answer.Done.TheVariants.{ImageRefused, Reported, Wrote}
-use Rattle.rc_answers.specs.declared.answer.Fault.{Fault}
-use Rattle.rc_answers.specs.declared.answer.Fault.TheVariants.{Memory}
 use Rattle.rc_answers.specs.declared.image_refusal.ImageRefusal.{ImageRefusal}
 
 -- the rows of the tables say of a request that this comes of the image of this file
@@ -34,8 +29,3 @@ pub record UpgradesOf (request : Option Request) (from to : List ℕ) : Type 0 w
   pub makes : MakesOf request from (Upgrades to)
   pub stores : Stores (footprint request) to
   pub may_write : MayAnswer request Wrote
-
--- a report is written; or there is no memory to make it
-pub data MadeReport (report : List ℕ) (out out' : SinkState) : Result Done Fault → Type 0 where
-  no_memory : out' ≡ out → MadeReport report out out' (Err Memory)
-  wrote : (result : Result (Unit {0}) Fault) → WroteReport report out out' result → MadeReport report out out' (reported result)

@@ -2,45 +2,27 @@
 ghost use Rattle.std.specs.Prelude.{Option};
 ghost use Rattle.rc_base.specs.Sinks.{SinkState};
 ghost use Rattle.rc_base.specs.Sources.{SourceState};
-ghost use Rattle.rc_image_files.specs.Making.{ListsOf, MadeReport};
+ghost use Rattle.rc_image_files.specs.Making.{ListsOf};
 ghost use Rattle.rc_outcomes.specs.Outside.{outside};
 ghost use Rattle.rc_outcomes.specs.Performing.{Performs};
-ghost use Rattle.rc_outcomes.specs.Reporting.{WroteReport};
+ghost use Rattle.rc_outcomes.specs.Reporting.{MadeReport};
 ghost use Rattle.rc_requests.specs.Request.{Request};
 ghost use Rattle.rc_store.specs.Kept.{KeptStore};
 ghost use Rattle.rc_listing.specs.Listing.{listing};
 
 use crate::image_file::{NoImage, load_image};
 use rc_answers::{Done, Fault};
-use rc_base::{Shelf, Sink, write_all};
+use rc_base::{Shelf, Sink};
 use rc_code::Image;
 use rc_listing::list;
+use rc_outcomes::report;
 use std::alloc::Global;
-
-/// Writes a report, and flushes it.
-fn write_report<O: Sink>(out: &mut O, report: &[u8]) -> Result<(), Fault>
-    ensures { WroteReport report.now (O.state out.old) (O.state out.new) result }
-{
-    match write_all(out, report) {
-        Ok(()) => match out.flush() {
-            Ok(()) => Ok(()),
-            Err(_) => Err(Fault::WriteFault),
-        },
-        Err(_) => Err(Fault::WriteFault),
-    }
-}
 
 /// Writes the listing of an image.
 fn report_image<O: Sink>(alloc: Global, image: &Image, out: &mut O) -> Result<Done, Fault>
     ensures { MadeReport (listing image.now) (O.state out.old) (O.state out.new) result }
 {
-    let Ok(report) = list(alloc, image) else {
-        return Err(Fault::Memory);
-    };
-    match write_report(out, report.as_slice()) {
-        Ok(()) => Ok(Done::Reported),
-        Err(fault) => Err(fault),
-    }
+    report(out, list(alloc, image))
 }
 
 /// Loads the image of a file and writes its listing, for a request that asks that.

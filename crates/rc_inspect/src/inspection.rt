@@ -12,9 +12,13 @@ use rc_infer::infer;
 use rc_reports::{Entry, entries};
 use std::alloc::Global;
 
-/// The report of a program. Where it keeps within the bounds of points and region variables, as that of
-/// a text does, it is refused for want of memory alone.
-fn report(alloc: Global, program: &Program) -> Result<Vec<Entry>, NoMemory>
+/// The report of a program. Where the program keeps within the bounds of points and region variables, as
+/// that of a text does, it is refused for want of memory alone.
+///
+/// # Errors
+///
+/// Out of memory, which is said too of a program beyond those bounds.
+pub fn report(alloc: Global, program: &Program) -> Result<Vec<Entry>, NoMemory>
     ensures { IfOk result (λ all. IsReportOf (program_of program.now) all.items) }
 {
     let Ok(code) = elaborate(alloc, program) else {

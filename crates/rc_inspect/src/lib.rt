@@ -4,4 +4,4 @@
 
 mod inspection;
 
-pub use inspection::inspect;
+pub use inspection::{inspect, report};

@@ -6,7 +6,7 @@ use Rattle.rc_outcomes.specs.Footprint.{Reads, UsesFiles, footprint}
 use Rattle.rc_outcomes.specs.Loading.{LoadCause, Loaded, NotLoaded, no_file, no_memory}
 use Rattle.rc_outcomes.specs.Outside.{Outside, outside}
 use Rattle.rc_outcomes.specs.Performing.{Performs}
-use Rattle.rc_outcomes.proofs.Ways.{FailsFirst, HasRead, OnlyReads, fails_before, no_file as fails_by_file, no_memory as fails_by_memory, there_is, untouched}
+use Rattle.rc_outcomes.proofs.Ways.{FailsFirst, HasRead, OnlyReads, asks_some, fails_before, no_file as fails_by_file, no_memory as fails_by_memory, there_is, untouched}
 use Rattle.rc_requests.specs.Request.{Request}
 
 module _ (request : Option Request) (name : List ℕ) (reads : Reads (footprint request) name) (before : Outside) (files' : ShelfState) where
@@ -15,7 +15,7 @@ module _ (request : Option Request) (name : List ℕ) (reads : Reads (footprint 
 
   module _ (Holds : List ℕ → Type 0) (l : Loaded name before.files files' Holds) where
     pub only_reads : OnlyReads request before files'
-    only_reads = record { uses = uses_file; tells = l.tells; names = l.names; never_falls = (let same = l.kept in omega (arith, same)) }
+    only_reads = record { asks = asks_some request uses_file; unused = λ none. absurd (none uses_file); tells = l.tells; names = l.names; never_falls = (let same = l.kept in omega (arith, same)) }
 
     pub has_read : ((other : List ℕ) → Reads (footprint request) other → name ≡ other) → HasRead request before files'
     has_read only = record {
@@ -27,9 +27,9 @@ module _ (request : Option Request) (name : List ℕ) (reads : Reads (footprint 
   -- it is not there, or was not loaded
   pub fails_to_load : (fault : Fault) → NotLoaded name before.files files' fault → Performs request before (outside files' before.input before.out before.err before.heap) (Err fault)
   fails_to_load fault l =
-      fails_before request before files' before.input before.out fault (record { uses = uses_file; tells = l.tells; names = l.names; never_falls = l.never_falls }) (untouched before.input before.out) (by fault l.cause)
+      fails_before request before files' before.input before.out fault (record { asks = asks_some request uses_file; unused = λ none. absurd (none uses_file); tells = l.tells; names = l.names; never_falls = l.never_falls }) (untouched before.input before.out) (by fault l.cause)
     where
       by : (fault : Fault) → LoadCause name before.files files' fault → FailsFirst request before files' fault
-      by fault (no_file (inl lacks)) = fails_by_file (inr (name, reads, lacks))
-      by fault (no_file (inr rose)) = fails_by_file (inl rose)
+      by fault (no_file (inl lacks)) = fails_by_file uses_file (inr (name, reads, lacks))
+      by fault (no_file (inr rose)) = fails_by_file uses_file (inl rose)
       by fault (no_memory kept) = fails_by_memory kept

@@ -1,5 +1,5 @@
 -- A request whose names are there has one outcome.
-use Rattle.std.proofs.Common.{◌≡◌, ◌⊎◌, ◌∙◌, ℕ, List, Option, Some, None, Result, Ok, Err, refl, sym, ap, subst, inl, inr, arith}
+use Rattle.std.proofs.Common.{◌≡◌, ◌⊎◌, ◌∙◌, ℕ, List, [], length, Option, Some, None, Result, Ok, Err, refl, sym, ap, subst, inl, inr, arith}
 use Rattle.rc_base.specs.Shelves.{Names}
 use Rattle.rc_base.specs.declared.ends.End.{End}
 use Rattle.rc_base.specs.declared.ends.Limits.{Limits}
@@ -28,12 +28,23 @@ use Rattle.rc_answers.specs.declared.image_refusal.ImageRefusal.{ImageRefusal}
 use Rattle.rc_outcomes.specs.Images.{image_in}
 use Rattle.rc_outcomes.specs.Footprint.{AreThere, footprint}
 use Rattle.rc_joined.specs.Programs.{image_of_program}
-use Rattle.rc_outcomes.specs.Outcome.{Executes, IsOutcome, Lists, OfImage, OfRead, OfScriptFile, OfText, OfTextFile, Leaving, Runs, Compiles, Outcome, Upgrades, unsaid, accepts, answers, broken, came, refusal_of_code, refuses, reports, runs, script_outcome, sound, stores}
-use Rattle.rc_requests.specs.Request.{Request, Run, Slow, Compile, Exec, Listing, Upgrade, Script}
+use Rattle.rc_outcomes.specs.Bytes.{AreBytes}
+use Rattle.rc_outcomes.specs.Outcome.{Executes, IsOutcome, Lists, OfImage, OfRead, OfScriptFile, OfText, OfTextFile, Leaving, ReportsOn, Runs, Compiles, Outcome, Upgrades, unpinned, unsaid, accepts, answers, broken, came, refusal_of_code, refuses, reports, reports_leaving, runs, script_outcome, sound, stores}
+use Rattle.rc_requests.specs.Request.{Request, Run, Slow, Compile, Exec, Listing, Upgrade, Script, Checks}
 use Rattle.rc_answers.specs.declared.answer.Done.TheVariants.{ImageRefused, Refused, Usage}
 use Rattle.rc_outcomes.proofs.Ways.{an_end, same_text}
 use Rattle.rc_safety.specs.Safety.{NeverTouchesDeleted}
 use Rattle.rc_safety.proofs.Never.{never_touches_deleted}
+use Rattle.std.specs.List.{AllByRecursion as Every}
+use Rattle.rc_core.specs.Numbers.{IsByte}
+use Rattle.rc_well_typed.proofs.Texts.{well_typed}
+use Rattle.rc_greatest.proofs.Marks.{marks_decided}
+use Rattle.rc_inspect.specs.Inspected.{IsReportOf}
+use Rattle.rc_region_rules.proofs.Theorem.{fits_together}
+use Rattle.rc_reports.specs.Reports.{entries, report_text}
+use Rattle.rc_reports.specs.declared.entry.Entry.{Entry}
+use Rattle.rc_reports.proofs.One.{one_report}
+use Rattle.rc_translation.specs.Translation.{region_of_program}
 
 -- what comes of a text, where something comes of each program
 text_outcome : (Made : Program → Outcome → Type 0) → (text : List ℕ) → ((program : Program) → Accepted text program → (outcome : Outcome) × Made program outcome) → (outcome : Outcome) × OfText Made text outcome
@@ -42,17 +53,28 @@ text_outcome Made text some = by (decided text) where
   by (inl (program, accepted)) = let made = some program accepted in (made.0, accepts program accepted made.1)
   by (inr (refusal, refused)) = (answers (Refused refusal), refuses refusal refused refl)
 
-file_outcome : (file : List ℕ) (Made : List ℕ → Program → Outcome → Type 0) (files : Names) (input : List ℕ) → ((text : List ℕ) (program : Program) → Accepted text program → (outcome : Outcome) × Made input program outcome) → ¬ (files file ≡ None) → (outcome : Outcome) × OfTextFile file Made files input outcome
+file_outcome : (file : List ℕ) (Made : List ℕ → Program → Outcome → Type 0) (files : Names) (input : List ℕ) → ((text : List ℕ) → files file ≡ Some text → (program : Program) → Accepted text program → (outcome : Outcome) × Made input program outcome) → ¬ (files file ≡ None) → (outcome : Outcome) × OfTextFile file Made files input outcome
 file_outcome file Made files input some there = by (files file) refl where
   by : (o : Option (List ℕ)) → files file ≡ o → (outcome : Outcome) × OfTextFile file Made files input outcome
   by None is = absurd (there is)
-  by (Some text) is = let found = text_outcome (Made input) text (some text) in (found.0, (text, is, found.1))
+  by (Some text) is = let found = text_outcome (Made input) text (some text is) in (found.0, (text, is, found.1))
 
 -- a program that is accepted comes to an end
 run_outcome : (leaves : Leaving) (limits : Limits) (input text : List ℕ) (program : Program) → Accepted text program → (outcome : Outcome) × Runs leaves limits input program outcome
 run_outcome leaves limits input text program accepted =
     let e = an_end (meaning program input limits).end (never_touches_deleted program input limits (accepted_in_place text program accepted)) in
     (runs (meaning program input limits).acts e.0 (leaves program input limits), record { end = e.0; ends = e.1; comes = refl })
+
+-- the program of bytes has a report
+report_of : (text : List ℕ) → Every IsByte text → (program : Program) → Accepted text program → (all : List Entry) × IsReportOf program all
+report_of text bytes program accepted =
+    let decided = marks_decided (region_of_program program) (fits_together program (well_typed text program bytes accepted) accepted.bounds) in
+    (entries decided.0 (region_of_program program), record { marks = decided.0; removable = decided.1; are = refl })
+
+reported_outcome : (input text : List ℕ) → Every IsByte text → (program : Program) → Accepted text program → (outcome : Outcome) × ReportsOn input program outcome
+reported_outcome input text bytes program accepted =
+    let found = report_of text bytes program accepted in
+    (reports (report_text found.0), record { entries = found.0; report = found.1; comes = refl })
 
 -- what comes of an image, where something comes of each
 image_outcome : (file : List ℕ) (Made : Parts → List ℕ → Outcome → Type 0) (files : Names) (input : List ℕ) → ((image : Parts) → (outcome : Outcome) × Made image input outcome) → ¬ (files file ≡ None) → (outcome : Outcome) × OfImage file Made files input outcome
@@ -77,15 +99,16 @@ script_some file limits files there = by (files file) refl where
   by None is = absurd (there is)
   by (Some text) is = (script_outcome limits text, (text, is, refl))
 
-pub some_outcome : (request : Option Request) (files : Names) (input : List ℕ) → AreThere (footprint request) files → (outcome : Outcome) × IsOutcome request files input outcome
-some_outcome None files input there = (answers Usage, refl)
-some_outcome (Some (Run file limits)) files input there = file_outcome file (Runs meant.left limits) files input (run_outcome meant.left limits input) (there file (0, omega arith, refl))
-some_outcome (Some (Slow file limits)) files input there = file_outcome file (Runs unsaid limits) files input (run_outcome unsaid limits input) (there file (0, omega arith, refl))
-some_outcome (Some (Compile from to)) files input there = file_outcome from (Compiles to) files input (λ text program accepted. (stores to (spelling Two (image_of_program program)), refl)) (there from (0, omega arith, refl))
-some_outcome (Some (Exec file limits)) files input there = image_outcome file (Executes limits) files input (execution limits input) (there file (0, omega arith, refl))
-some_outcome (Some (Listing file)) files input there = image_outcome file Lists files input (λ image. (reports (listing image), refl)) (there file (0, omega arith, refl))
-some_outcome (Some (Upgrade from to)) files input there = image_outcome from (Upgrades to) files input (λ image. (stores to (spelling Two image), refl)) (there from (0, omega arith, refl))
-some_outcome (Some (Script file limits)) files input there = script_some file limits files (there file (0, omega arith, refl))
+pub some_outcome : (request : Option Request) (files : Names) (input : List ℕ) → AreThere (footprint request) files → AreBytes request files → (outcome : Outcome) × IsOutcome request files input outcome
+some_outcome None files input there bytes = (answers Usage, refl)
+some_outcome (Some (Run file limits)) files input there bytes = file_outcome file (Runs meant.left limits) files input (λ text is. run_outcome meant.left limits input text) (there file (0, omega arith, refl))
+some_outcome (Some (Slow file limits)) files input there bytes = file_outcome file (Runs unsaid limits) files input (λ text is. run_outcome unsaid limits input text) (there file (0, omega arith, refl))
+some_outcome (Some (Compile from to)) files input there bytes = file_outcome from (Compiles to) files input (λ text is program accepted. (stores to (spelling Two (image_of_program program)), refl)) (there from (0, omega arith, refl))
+some_outcome (Some (Exec file limits)) files input there bytes = image_outcome file (Executes limits) files input (execution limits input) (there file (0, omega arith, refl))
+some_outcome (Some (Listing file)) files input there bytes = image_outcome file Lists files input (λ image. (reports (listing image), refl)) (there file (0, omega arith, refl))
+some_outcome (Some (Upgrade from to)) files input there bytes = image_outcome from (Upgrades to) files input (λ image. (stores to (spelling Two image), refl)) (there from (0, omega arith, refl))
+some_outcome (Some (Script file limits)) files input there bytes = script_some file limits files (there file (0, omega arith, refl))
+some_outcome (Some (Checks file)) files input there bytes = file_outcome file ReportsOn files input (λ text is. reported_outcome input text (bytes text is)) (there file (0, omega arith, refl))
 
 -- two outcomes of one text are one
 same_end : (program : Program) (input : List ℕ) (limits : Limits) (one other : End) → (meaning program input limits).end ≡ Ends one → (meaning program input limits).end ≡ Ends other → one ≡ other
@@ -126,6 +149,10 @@ one_execution limits input one other image (broken v a c) (broken w b d) = c ∙
 one_script : (file : List ℕ) (limits : Limits) (files : Names) (one other : Outcome) → OfScriptFile file limits files one → OfScriptFile file limits files other → one ≡ other
 one_script file limits files one other (text, is, so) (text', is', so') = so ∙ ap (script_outcome limits) (same_text files file text text' is is') ∙ sym so'
 
+one_reported : (input : List ℕ) (one other : Outcome) (program : Program) → ReportsOn input program one → ReportsOn input program other → one ≡ other
+one_reported input one other program is also =
+    is.comes ∙ ap (λ (all : List Entry). reports (report_text all)) (one_report (region_of_program program) is.entries also.entries is.report also.report) ∙ sym also.comes
+
 pub one_outcome : (request : Option Request) (files : Names) (input : List ℕ) (one other : Outcome) → IsOutcome request files input one → IsOutcome request files input other → one ≡ other
 one_outcome None files input one other is also = is ∙ sym also
 one_outcome (Some (Run file limits)) files input one other is also = one_of_file file (Runs meant.left limits) files input one other (one_run meant.left limits input one other) is also
@@ -135,6 +162,7 @@ one_outcome (Some (Exec file limits)) files input one other is also = one_of_ima
 one_outcome (Some (Listing file)) files input one other is also = one_of_image file Lists files input one other (λ image a b. a ∙ sym b) is also
 one_outcome (Some (Upgrade from to)) files input one other is also = one_of_image from (Upgrades to) files input one other (λ image a b. a ∙ sym b) is also
 one_outcome (Some (Script file limits)) files input one other is also = one_script file limits files one other is also
+one_outcome (Some (Checks file)) files input one other is also = one_of_file file ReportsOn files input one other (one_reported input one other) is also
 
 pub accepted_never : (text : List ℕ) (program : Program) (input : List ℕ) (limits : Limits) → Accepted text program → NeverTouchesDeleted program input limits
 accepted_never text program input limits accepted = never_touches_deleted program input limits (accepted_in_place text program accepted)

@@ -9,11 +9,12 @@ use Rattle.rc_outcomes.specs.Footprint.{Alone, footprint}
 use Rattle.rc_outcomes.specs.Outcome.{AnyHeap, Follows, HeapLeft, IsLeft, Outcome, Performed, StoppedShort, reports_leaving, writes}
 use Rattle.rc_outcomes.specs.Outside.{Outside, outside}
 use Rattle.rc_outcomes.specs.Performing.{Performs}
-use Rattle.rc_outcomes.specs.Reporting.{CutReport, WritesReport, WroteReport, at_byte, at_flush, no_memory, reported}
+use Rattle.rc_outcomes.specs.Reporting.{CutReport, WritesReport, WroteReport, MadeReport, at_byte, at_flush, no_memory, nothing, reported}
 use Rattle.rc_requests.specs.Request.{Request}
+use Rattle.rc_answers.specs.declared.answer.Done.{Done}
 use Rattle.rc_answers.specs.declared.answer.Fault.{Fault}
 use Rattle.rc_answers.specs.declared.answer.Fault.TheVariants.{ErrFault, FileFault, Memory, ReadFault, WriteFault}
-use Rattle.rc_outcomes.proofs.Ways.{HasRead, asks_some, is_not, same_fault}
+use Rattle.rc_outcomes.proofs.Ways.{HasRead, is_not, same_fault, stopped_before}
 use Rattle.rc_store.specs.Kept.{KeptStore}
 
 output_is : (bytes : List ℕ) → output (writes bytes) ≡ bytes
@@ -79,12 +80,14 @@ cut_short report input out out' fault (no_memory n took flushed) = record {
   flushed_at_read = λ e. cc;
   flushed_at_memory = λ e some none. flushed none;
 }
+cut_short report input out out' fault (nothing same) = stopped_before (writes report) Memory input input out out' (record { input_same = refl; out_same = same }) (inr refl)
 
 -- a report is cut short by the output or for want of memory alone
 cut_by : (report : List ℕ) (out out' : SinkState) (fault : Fault) → CutReport report out out' fault → (fault ≡ WriteFault) ⊎ (fault ≡ Memory)
 cut_by report out out' fault (at_byte n took unflushed) = inl refl
 cut_by report out out' fault (at_flush took) = inl refl
 cut_by report out out' fault (no_memory n took flushed) = inr refl
+cut_by report out out' fault (nothing same) = inr refl
 
 no_other : (fault other : Fault) → (fault ≡ WriteFault) ⊎ (fault ≡ Memory) → other ≢ WriteFault → other ≢ Memory → fault ≡ other → ⊥
 no_other fault other (inl e) a b is = a (sym is ∙ e)
@@ -108,7 +111,7 @@ module _ (request : Option Request) (before : Outside) (files' : ShelfState) (ou
   alone = record {
     others = λ tells name none. ap (λ (names : Names). names name) (has.only_reads.names tells);
     names = λ none tells. has.only_reads.names tells;
-    files = λ none. absurd (none has.only_reads.uses);
+    files = has.only_reads.unused;
     input = λ e. refl;
     out = λ e. absurd (is_not (footprint request).writes_out is.writes_out e);
     heap = spares;
@@ -132,7 +135,7 @@ module _ (request : Option Request) (before : Outside) (files' : ShelfState) (ou
     read_fault = λ e. cc;
     write_fault = λ e. cc;
     no_error = λ e. cc;
-    usage = λ none. absurd (asks_some request has.only_reads.uses none);
+    usage = λ none. absurd (has.only_reads.asks none);
   }
   writes_report (Err fault) wrote leaves = record {
     follows = λ outcome comes. subst (λ (o : Outcome). Follows o before behind (reported (Err fault))) (sym (is.only outcome comes)) (cut_short report before.input before.out out' fault wrote.cut);
@@ -151,7 +154,13 @@ module _ (request : Option Request) (before : Outside) (files' : ShelfState) (ou
     read_fault = λ e. absurd (no_other fault ReadFault which (λ x. cc) (λ x. cc) (same_fault fault ReadFault e));
     write_fault = λ e. record { writes = is.writes_out; rose = wrote.rose (ap Err (same_fault fault WriteFault e)); writing = λ outcome comes. subst (λ (o : Outcome). WritesOut o.done) (sym (is.only outcome comes)) tt };
     no_error = λ e. no_other fault ErrFault which (λ x. cc) (λ x. cc) (same_fault fault ErrFault e);
-    usage = λ none. absurd (asks_some request has.only_reads.uses none);
+    usage = λ none. absurd (has.only_reads.asks none);
   } where
     which : (fault ≡ WriteFault) ⊎ (fault ≡ Memory)
     which = cut_by report before.out out' fault wrote.cut
+
+  pub made_report : (result : Result Done Fault) → MadeReport report before.out out' result → OnOk result (IsLeft left heap') → Performs request before behind result
+  made_report (Ok done) made leaves = subst (λ (d : Done). Performs request before behind (Ok d)) (sym made.reported)
+      (writes_report (Ok tt) (record { tells = made.wrote.tells; wrote = made.wrote.wrote; flushed = made.wrote.flushed; cut = tt; never_falls = made.wrote.never_falls; kept = λ ok. made.wrote.kept refl; rose = λ is. cc }) leaves)
+  made_report (Err fault) made leaves =
+      writes_report (Err fault) (record { tells = made.wrote.tells; wrote = tt; flushed = tt; cut = made.wrote.cut; never_falls = made.wrote.never_falls; kept = λ ok. cc; rose = λ is. made.wrote.rose (ap Err (same_fault fault WriteFault is)) }) tt

@@ -9,18 +9,21 @@ use Rattle.rc_answers.specs.declared.answer.Done.{Done}
 use Rattle.rc_answers.specs.declared.answer.Done.TheVariants.{Wrote}
 use Rattle.rc_answers.specs.declared.answer.Fault.{Fault}
 use Rattle.rc_answers.specs.declared.answer.Fault.TheVariants.{FileFault, ReadFault, WriteFault, ErrFault, Memory}
-use Rattle.rc_outcomes.specs.Footprint.{Alone, footprint}
+use Rattle.rc_outcomes.specs.Footprint.{Alone, UsesFiles, footprint}
 use Rattle.rc_outcomes.specs.Outcome.{Follows, Outcome, stores}
 use Rattle.rc_outcomes.specs.Outside.{Outside, outside}
 use Rattle.rc_outcomes.specs.Performing.{Performs}
 use Rattle.rc_outcomes.specs.Storing.{MadeFile, StoresBytes, failed, no_bytes, no_memory, stored}
 use Rattle.rc_requests.specs.Request.{Request}
-use Rattle.rc_outcomes.proofs.Ways.{HasRead, asks_some, fails_before, no_memory as fails_by_memory, performed_nothing, same_fault, stopped_before, untouched}
+use Rattle.rc_outcomes.proofs.Ways.{HasRead, fails_before, no_memory as fails_by_memory, performed_nothing, same_fault, stopped_before, untouched}
 
 -- The fifth way in which a request ends: behind what it read, it stores bytes under a name.
 module _ (request : Option Request) (before : Outside) (files1 files' : ShelfState) (to bytes : List ℕ) (has : HasRead request before files1) (row : StoresBytes request before to bytes) where
   abbrev pub now : Outside
   now = outside files' before.input before.out before.err before.heap
+
+  uses : UsesFiles (footprint request)
+  uses = (to, inr row.stores_to)
 
   tells_still : IsTrue before.files.tells → IsTrue files1.tells
   tells_still t = has.only_reads.tells ∙ t
@@ -29,7 +32,7 @@ module _ (request : Option Request) (before : Outside) (files1 files' : ShelfSta
   alone result s = record {
     others = λ t name other. s.others (tells_still t) name (λ e. other (row.stores_to ∙ ap Some (sym e))) ∙ ap (λ (names : Names). names name) (has.only_reads.names t);
     names = λ none t. absurd (some_none (sym row.stores_to ∙ none));
-    files = λ none. absurd (none has.only_reads.uses);
+    files = λ none. absurd (none uses);
     input = λ e. refl;
     out = λ e. refl;
     heap = λ e. refl;
@@ -43,7 +46,7 @@ module _ (request : Option Request) (before : Outside) (files1 files' : ShelfSta
   pub was_stored : (value : Unit {0}) → StoresUnder to bytes files1 files' (Ok value) → Performs request before now (Ok Wrote)
   was_stored value s = record {
     follows = λ outcome comes. subst (λ (o : Outcome). Follows o before now (Ok Wrote)) (sym (row.only outcome comes))
-        (refl, performed_nothing before.input before.input before.out before.out (untouched before.input before.out), s.stored (tells_still (comes.told.files has.only_reads.uses)), tt);
+        (refl, performed_nothing before.input before.input before.out before.out (untouched before.input before.out), s.stored (tells_still (comes.told.files uses)), tt);
     settled = λ told ok. (stores to bytes, row.outcome told);
     missing = λ none. absurd (has.there none);
     may_answer = row.may_write;
@@ -59,7 +62,7 @@ module _ (request : Option Request) (before : Outside) (files1 files' : ShelfSta
     read_fault = λ e. cc;
     write_fault = λ e. cc;
     no_error = λ e. cc;
-    usage = λ none. absurd (asks_some request has.only_reads.uses none);
+    usage = λ none. absurd (has.only_reads.asks none);
   }
 
   -- or the shelf fails at the store
@@ -77,11 +80,11 @@ module _ (request : Option Request) (before : Outside) (files1 files' : ShelfSta
     tells = record { files = s.tells ∙ has.only_reads.tells; input = refl; out = refl; err = refl };
     no_count_falls = record { files = counts (Err error) s; input = omega arith; out = omega arith; err = omega arith };
     counts_stay = record { files = λ other. kept_by which other; input = λ other. refl; out = λ other. refl; err = λ ok. refl };
-    file_fault = λ e. record { uses = has.only_reads.uses; cause = inl (rose (same_fault fault FileFault e)) };
+    file_fault = λ e. record { uses = uses; cause = inl (rose (same_fault fault FileFault e)) };
     read_fault = λ e. absurd (neither ReadFault which (λ x. cc) (λ x. cc) (same_fault fault ReadFault e));
     write_fault = λ e. absurd (neither WriteFault which (λ x. cc) (λ x. cc) (same_fault fault WriteFault e));
     no_error = λ e. neither ErrFault which (λ x. cc) (λ x. cc) (same_fault fault ErrFault e);
-    usage = λ none. absurd (asks_some request has.only_reads.uses none);
+    usage = λ none. absurd (has.only_reads.asks none);
   } where
     neither : (other : Fault) → (fault ≡ FileFault) ⊎ (fault ≡ Memory) → (other ≡ FileFault → ⊥) → (other ≡ Memory → ⊥) → fault ≡ other → ⊥
     neither other (inl e) a b is = a (sym is ∙ e)

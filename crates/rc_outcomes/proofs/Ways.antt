@@ -24,9 +24,10 @@ use Rattle.rc_answers.specs.declared.answer.Done.TheVariants.{Ended, StaleImage,
 use Rattle.rc_answers.specs.declared.answer.Fault.{Fault}
 use Rattle.rc_answers.specs.declared.answer.Fault.TheVariants.{FileFault, ReadFault, WriteFault, ErrFault, Memory}
 
--- of the files only names that the request reads were asked for
+-- words that ask something, of which the files were asked only for names that the request reads
 pub record OnlyReads (request : Option Request) (before : Outside) (files' : ShelfState) : Type 0 where
-  pub uses : UsesFiles (footprint request)
+  pub asks : ¬ (request ≡ None)
+  pub unused : ¬ UsesFiles (footprint request) → files' ≡ before.files
   pub tells : files'.tells ≡ before.files.tells
   pub names : IsTrue before.files.tells → files'.names ≡ before.files.names
   pub never_falls : before.files.faults ≤ files'.faults
@@ -45,11 +46,19 @@ no_use (name, inr stored) = cc
 pub asks_some : (request : Option Request) → UsesFiles (footprint request) → request ≡ None → ⊥
 asks_some request uses none = no_use (subst (λ (r : Option Request). UsesFiles (footprint r)) none uses)
 
+-- of a request that uses no file nothing has to be read
+pub reads_nothing : (request : Option Request) (before : Outside) → ¬ (request ≡ None) → ¬ UsesFiles (footprint request) → HasRead request before before.files
+reads_nothing request before asks none = record {
+  only_reads = record { asks = asks; unused = λ unused. refl; tells = refl; names = λ told. refl; never_falls = omega arith };
+  there = λ missing. none (missing.0, inl missing.1);
+  kept = refl;
+}
+
 pub alone_of : (request : Option Request) (before : Outside) (files' : ShelfState) (input' : SourceState) (out' : SinkState) → OnlyReads request before files' → ((footprint request).takes_input ≡ false → input' ≡ before.input) → ((footprint request).writes_out ≡ false → out' ≡ before.out) → Alone (footprint request) before (outside files' input' out' before.err before.heap)
 alone_of request before files' input' out' reads takes writes = record {
   others = λ tells name none. ap (λ (names : Names). names name) (reads.names tells);
   names = λ none tells. reads.names tells;
-  files = λ none. absurd (none reads.uses);
+  files = reads.unused;
   input = takes;
   out = writes;
   heap = λ e. refl;
@@ -107,20 +116,24 @@ stopped_before acts fault input input' out out' same which = record {
 
 -- why a request fails before anything was done: a file is not there or can't be read, or there is no memory
 pub data FailsFirst (request : Option Request) (before : Outside) (files' : ShelfState) : Fault → Type 0 where
-  no_file : Rose before.files.faults files'.faults ⊎ IsMissing (footprint request) before → FailsFirst request before files' FileFault
+  no_file : UsesFiles (footprint request) → Rose before.files.faults files'.faults ⊎ IsMissing (footprint request) before → FailsFirst request before files' FileFault
   no_memory : files'.faults ≡ before.files.faults → FailsFirst request before files' Memory
 
 one_of_two : (request : Option Request) (before : Outside) (files' : ShelfState) (fault : Fault) → FailsFirst request before files' fault → (fault ≡ FileFault) ⊎ (fault ≡ Memory)
-one_of_two request before files' fault (no_file cause) = inl refl
+one_of_two request before files' fault (no_file uses cause) = inl refl
 one_of_two request before files' fault (no_memory kept) = inr refl
 
 kept_first : (request : Option Request) (before : Outside) (files' : ShelfState) (fault : Fault) → FailsFirst request before files' fault → fault ≢ FileFault → files'.faults ≡ before.files.faults
-kept_first request before files' fault (no_file cause) other = absurd (other refl)
+kept_first request before files' fault (no_file uses cause) other = absurd (other refl)
 kept_first request before files' fault (no_memory kept) other = kept
 
 cause_first : (request : Option Request) (before : Outside) (files' : ShelfState) (fault : Fault) → FailsFirst request before files' fault → fault ≡ FileFault → Rose before.files.faults files'.faults ⊎ IsMissing (footprint request) before
-cause_first request before files' fault (no_file cause) is = cause
+cause_first request before files' fault (no_file uses cause) is = cause
 cause_first request before files' fault (no_memory kept) is = cc
+
+uses_first : (request : Option Request) (before : Outside) (files' : ShelfState) (fault : Fault) → FailsFirst request before files' fault → fault ≡ FileFault → UsesFiles (footprint request)
+uses_first request before files' fault (no_file uses cause) is = uses
+uses_first request before files' fault (no_memory kept) is = cc
 
 pub same_fault : {T : Type 0} (fault other : Fault) → IsErrOf {T = T} (Err fault) other → fault ≡ other
 same_fault fault other is = cc
@@ -156,11 +169,11 @@ fails_before request before files' input' out' fault reads same first = record {
     out = λ other. out_count before.input input' before.out out' same;
     err = λ ok. refl;
   };
-  file_fault = λ is. record { uses = reads.uses; cause = cause_first request before files' fault first (same_fault fault FileFault is) };
+  file_fault = λ is. record { uses = uses_first request before files' fault first (same_fault fault FileFault is); cause = cause_first request before files' fault first (same_fault fault FileFault is) };
   read_fault = λ is. absurd (no_other fault ReadFault which (λ e. cc) (λ e. cc) (same_fault fault ReadFault is));
   write_fault = λ is. absurd (no_other fault WriteFault which (λ e. cc) (λ e. cc) (same_fault fault WriteFault is));
   no_error = λ is. no_other fault ErrFault which (λ e. cc) (λ e. cc) (same_fault fault ErrFault is);
-  usage = λ none. absurd (asks_some request reads.uses none);
+  usage = λ none. absurd (reads.asks none);
 } where
   which : (fault ≡ FileFault) ⊎ (fault ≡ Memory)
   which = one_of_two request before files' fault first
@@ -202,7 +215,7 @@ is_refused request before files' input' out' done has same quiet may outcome onl
   read_fault = λ is. cc;
   write_fault = λ is. cc;
   no_error = λ is. cc;
-  usage = λ none. absurd (asks_some request has.only_reads.uses none);
+  usage = λ none. absurd (has.only_reads.asks none);
 }
 
 -- a stop that is no touch of a deleted region is an end
@@ -262,7 +275,7 @@ module _ (request : Option Request) (before : Outside) (files' : ShelfState) (in
   alone_in_run = record {
     others = λ tells name none. ap (λ (names : Names). names name) (has.only_reads.names tells);
     names = λ none tells. has.only_reads.names tells;
-    files = λ none. absurd (none has.only_reads.uses);
+    files = has.only_reads.unused;
     input = λ e. absurd (is_not (footprint request).takes_input is.takes e);
     out = λ e. absurd (is_not (footprint request).writes_out is.writes e);
     heap = spares;
@@ -298,7 +311,7 @@ module _ (request : Option Request) (before : Outside) (files' : ShelfState) (in
     read_fault = λ is. cc;
     write_fault = λ is. cc;
     no_error = λ is. cc;
-    usage = λ none. absurd (asks_some request has.only_reads.uses none);
+    usage = λ none. absurd (has.only_reads.asks none);
   }
 
   -- and it is cut short there
@@ -325,7 +338,7 @@ module _ (request : Option Request) (before : Outside) (files' : ShelfState) (in
     read_fault = λ e. record { takes = is.takes; rose = ran.read (ap Err (same_fault fault ReadFault e)); in_run = λ outcome c. subst (λ (o : Outcome). IsRun o.done) (sym (is.only outcome c)) (is.is_run before.input.rest) };
     write_fault = λ e. record { writes = is.writes; rose = ran.write (ap Err (same_fault fault WriteFault e)); writing = λ outcome c. subst (λ (o : Outcome). WritesOut o.done) (sym (is.only outcome c)) (writes_out (comes before.input.rest).done (is.is_run before.input.rest)) };
     no_error = λ e. not_in_run fault ErrFault ran.fault (λ x. x) (same_fault fault ErrFault e);
-    usage = λ none. absurd (asks_some request has.only_reads.uses none);
+    usage = λ none. absurd (has.only_reads.asks none);
   }
 
 -- words that ask nothing

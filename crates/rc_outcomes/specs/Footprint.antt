@@ -4,7 +4,7 @@ use Rattle.std.specs.List.{AllByRecursion as Every}
 use Rattle.rc_base.specs.Shelves.{Lacks, Names}
 use Rattle.rc_core.specs.Numbers.{IsByte}
 use Rattle.rc_outcomes.specs.Outside.{Outside}
-use Rattle.rc_requests.specs.Request.{Request, Run, Slow, Compile, Exec, Listing, Upgrade, Script}
+use Rattle.rc_requests.specs.Request.{Request, Run, Slow, Compile, Exec, Listing, Upgrade, Script, Checks}
 
 -- the names that it reads, the name that it stores under, and whether it takes bytes of the input, writes to the output and runs over the
 -- heap
@@ -48,6 +48,7 @@ footprint (Some (Exec file limits)) = runs_in_heap file
 footprint (Some (Listing file)) = reports_on file
 footprint (Some (Upgrade from to)) = stores_from from to
 footprint (Some (Script file limits)) = reports_in_heap file
+footprint (Some (Checks file)) = reports_on file
 
 abbrev pub Reads : Footprint → List ℕ → Type 0
 Reads f name = Contains f.reads name

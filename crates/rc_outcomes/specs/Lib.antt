@@ -1,3 +1,4 @@
+pub mod Bytes
 pub mod FaultCauses
 pub mod Footprint
 pub mod Images

@@ -4,7 +4,7 @@ use Rattle.rc_answers.specs.Answers.{IsOfBytes}
 use Rattle.rc_answers.specs.declared.answer.Done.{Done}
 use Rattle.rc_answers.specs.declared.answer.Done.TheVariants.{Ended, StaleImage, Refused, ImageRefused, Wrote, Reported, Usage}
 use Rattle.rc_compile.specs.declared.refusal.Refusal.TheVariants.{TooLong}
-use Rattle.rc_requests.specs.Request.{Request, Run, Slow, Compile, Exec, Listing, Upgrade, Script}
+use Rattle.rc_requests.specs.Request.{Request, Run, Slow, Compile, Exec, Listing, Upgrade, Script, Checks}
 
 -- a text ends its run or is refused
 abbrev pub EndsOrIsRefused : Done → Type 0
@@ -43,6 +43,12 @@ ReportsOrIsTooLong Reported = Unit {0}
 ReportsOrIsTooLong (Refused TooLong) = Unit {0}
 ReportsOrIsTooLong _ = ⊥
 
+-- a text's program is reported on, or the text is refused
+abbrev pub ReportsOrRefusesText : Done → Type 0
+ReportsOrRefusesText Reported = Unit {0}
+ReportsOrRefusesText (Refused refusal) = Unit {0}
+ReportsOrRefusesText _ = ⊥
+
 -- the row of each request; words that ask nothing have the usage alone
 abbrev pub MayAnswer : Option Request → Done → Type 0
 MayAnswer None done = done ≡ Usage
@@ -53,3 +59,4 @@ MayAnswer (Some (Exec file limits)) done = RunsOrIsRefused done
 MayAnswer (Some (Listing file)) done = ReportsOrIsRefused done
 MayAnswer (Some (Upgrade from to)) done = WritesOrIsRefused done
 MayAnswer (Some (Script file limits)) done = ReportsOrIsTooLong done
+MayAnswer (Some (Checks file)) done = ReportsOrRefusesText done

@@ -32,7 +32,7 @@ use Rattle.rc_store.specs.Kept.{KeptStore}
 use Rattle.rc_outcomes.specs.Footprint.{TellsWhatIsUsed, footprint}
 use Rattle.rc_outcomes.specs.Images.{image_in}
 use Rattle.rc_outcomes.specs.Outside.{Outside}
-use Rattle.rc_requests.specs.Request.{Request, Run, Slow, Compile, Exec, Listing, Upgrade, Script}
+use Rattle.rc_requests.specs.Request.{Request, Run, Slow, Compile, Exec, Listing, Upgrade, Script, Checks}
 use Rattle.rc_answers.specs.declared.answer.Done.{Done}
 use Rattle.rc_answers.specs.declared.answer.Done.TheVariants.{Ended, StaleImage, Refused, ImageRefused, Wrote, Reported, Usage}
 use Rattle.rc_answers.specs.declared.answer.Fault.{Fault}
@@ -43,6 +43,9 @@ use Rattle.rc_image.specs.Spelling.{spelling}
 use Rattle.rc_image.specs.declared.version.Version.TheVariants.{Two}
 use Rattle.rc_listing.specs.Listing.{listing}
 use Rattle.rc_joined.specs.Programs.{image_of_program}
+use Rattle.rc_inspect.specs.Inspected.{IsReportOf}
+use Rattle.rc_reports.specs.Reports.{report_text}
+use Rattle.rc_reports.specs.declared.entry.Entry.{Entry}
 
 -- bytes that are stored under a name
 pub record Stored : Type 0 where
@@ -127,6 +130,12 @@ pub record Runs (leaves : Leaving) (limits : Limits) (input : List ℕ) (program
 abbrev pub Compiles : (to : List ℕ) → (input : List ℕ) → Program → Outcome → Type 0
 Compiles to input program outcome = outcome ≡ stores to (spelling Two (image_of_program program))
 
+-- the report on its checks is written
+pub record ReportsOn (input : List ℕ) (program : Program) (outcome : Outcome) : Type 0 where
+  pub entries : List Entry
+  pub report : IsReportOf program entries
+  pub comes : outcome ≡ reports (report_text entries)
+
 -- ---- images
 
 -- what comes of a file that is an image; bytes that are none are refused
@@ -179,6 +188,7 @@ IsOutcome (Some (Exec file limits)) files input outcome = OfImage file (Executes
 IsOutcome (Some (Listing file)) files input outcome = OfImage file Lists files input outcome
 IsOutcome (Some (Upgrade from to)) files input outcome = OfImage from (Upgrades to) files input outcome
 IsOutcome (Some (Script file limits)) files input outcome = OfScriptFile file limits files outcome
+IsOutcome (Some (Checks file)) files input outcome = OfTextFile file ReportsOn files input outcome
 
 -- the outcome, where what the request uses tells what it has
 pub record Comes (request : Option Request) (before : Outside) (outcome : Outcome) : Type 0 where

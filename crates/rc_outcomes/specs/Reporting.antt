@@ -1,5 +1,5 @@
 -- A report: bytes that a request writes to the output and flushes.
-use Rattle.std.specs.Prelude.{◌≡◌, ◌≤◌, ℕ, List, take, Option, Result, Ok, Err, IfErr, OnOk, IsErrOf, IsOk, IsTrue}
+use Rattle.std.specs.Prelude.{◌≡◌, ◌≤◌, ℕ, List, take, Option, Result, Ok, Err, IfErr, IfOk, OnOk, IsErrOf, IsOk, IsTrue}
 use Rattle.rc_base.specs.Causes.{Rose}
 use Rattle.rc_base.specs.Sinks.{IsFlushed, SinkState, Took}
 use Rattle.rc_outcomes.specs.MayAnswer.{MayAnswer}
@@ -13,11 +13,12 @@ use Rattle.rc_answers.specs.declared.answer.Fault.{Fault}
 use Rattle.rc_answers.specs.declared.answer.Fault.TheVariants.{WriteFault, Memory}
 
 -- a byte failed behind a front of the report, of which nothing was flushed, or the flush failed behind all of it; or there was memory
--- for a front alone, which was flushed
+-- for a front alone, which was flushed, or for nothing of it
 pub data CutReport (report : List ℕ) (out out' : SinkState) : Fault → Type 0 where
   at_byte : (n : ℕ) → Took (take n report) out out' → (IsTrue out.tells → out'.flushed ≡ out.flushed) → CutReport report out out' WriteFault
   at_flush : Took report out out' → CutReport report out out' WriteFault
   no_memory : (n : ℕ) → Took (take n report) out out' → (¬ Rose out.faults out'.faults → IsFlushed out') → CutReport report out out' Memory
+  nothing : out' ≡ out → CutReport report out out' Memory
 
 pub record WroteReport {T : Type 0} (report : List ℕ) (out out' : SinkState) (result : Result T Fault) : Type 0 where
   pub tells : out'.tells ≡ out.tells
@@ -27,6 +28,11 @@ pub record WroteReport {T : Type 0} (report : List ℕ) (out out' : SinkState) (
   pub never_falls : out.faults ≤ out'.faults
   pub kept : IsOk result → out'.faults ≡ out.faults
   pub rose : IsErrOf result WriteFault → Rose out.faults out'.faults
+
+-- it was written whole, and that is answered
+pub record MadeReport (report : List ℕ) (out out' : SinkState) (result : Result Done Fault) : Type 0 where
+  pub wrote : WroteReport report out out' result
+  pub reported : IfOk result (λ done. done ≡ Reported)
 
 abbrev pub reported : Result (Unit {0}) Fault → Result Done Fault
 reported (Ok value) = Ok Reported

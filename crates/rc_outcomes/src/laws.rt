@@ -8,6 +8,7 @@ ghost use Rattle.rc_code.specs.declared.image.Parts.{Parts};
 ghost use Rattle.rc_compile.specs.Acceptance.{Accepted};
 ghost use Rattle.rc_core.specs.Numbers.{IsByte};
 ghost use Rattle.rc_core.specs.Programs.{Program};
+ghost use Rattle.rc_outcomes.specs.Bytes.{AreBytes};
 ghost use Rattle.rc_outcomes.specs.Footprint.{AreThere, footprint};
 ghost use Rattle.rc_outcomes.specs.Images.{IsSpelled, image_in};
 ghost use Rattle.rc_outcomes.specs.Outcome.{IsOutcome, Outcome};
@@ -15,9 +16,10 @@ ghost use Rattle.rc_requests.specs.Request.{Request};
 ghost use Rattle.rc_safety.specs.Safety.{NeverTouchesDeleted};
 
 /// Whatever the words ask comes to one outcome where the names that it reads are there, and never to
-/// two, whatever bytes the files and the input have.
+/// two, whatever bytes the files and the input have. That a report on the checks of a file is one
+/// outcome needs that what the file has are bytes.
 pub fn a_request_has_one_outcome()
-    ensures some { (request : Option Request) (files : Names) (input : List ℕ) → AreThere (footprint request) files → (outcome : Outcome) × IsOutcome request files input outcome }
+    ensures some { (request : Option Request) (files : Names) (input : List ℕ) → AreThere (footprint request) files → AreBytes request files → (outcome : Outcome) × IsOutcome request files input outcome }
     ensures one { (request : Option Request) (files : Names) (input : List ℕ) (one other : Outcome) → IsOutcome request files input one → IsOutcome request files input other → one ≡ other }
 {}
 

@@ -5,7 +5,7 @@ use Rattle.rc_requests.specs.Request as request
 use Rattle.rc_requests.specs.Request.{Chosen}
 use Rattle.rc_requests.specs.declared.request.Chosen as code
 use Rattle.rc_requests.specs.declared.request.Request as code_request
-use Rattle.rc_requests.specs.declared.request.Request.TheVariants.{Run, Slow, Compile, Exec, Listing, Upgrade, Script}
+use Rattle.rc_requests.specs.declared.request.Request.TheVariants.{Run, Slow, Compile, Exec, Listing, Upgrade, Script, Checks}
 
 abbrev pub bytes_of : List (String Global) → List (List ℕ)
 bytes_of words = map string_bytes words
@@ -21,3 +21,4 @@ asks (Exec file limits) = request.Exec file.now limits
 asks (Listing file) = request.Listing file.now
 asks (Upgrade from to) = request.Upgrade from.now to.now
 asks (Script file limits) = request.Script file.now limits
+asks (Checks file) = request.Checks file.now

@@ -22,6 +22,8 @@ pub data Request : Type 0 where
   Upgrade : (from to : List ℕ) → Request
   -- to run the heap commands of this file within these limits; a script takes no turns
   Script : (file : List ℕ) → Limits → Request
+  -- to report on the checks of this file's program
+  Checks : (file : List ℕ) → Request
 
 -- the number of a word of decimal digits without a leading zero, where it is no more than `most`
 abbrev pub number_within : (most : ℕ) → List ℕ → Option ℕ
@@ -76,5 +78,6 @@ request_of (verb ∷ file ∷ rest) =
     if bytes_eq verb (codes "exec") then option_map (Exec file) (limits_of rest) else
     if bytes_eq verb (codes "list") then ending (Listing file) rest else
     if bytes_eq verb (codes "upgrade") then ending_in_name (Upgrade file) rest else
-    if bytes_eq verb (codes "heap") then option_map (Script file) (limits_within 0 rest) else None
+    if bytes_eq verb (codes "heap") then option_map (Script file) (limits_within 0 rest) else
+    if bytes_eq verb (codes "checks") then ending (Checks file) rest else None
 request_of _ = None

@@ -4,7 +4,7 @@ ghost use Rattle.std.specs.Option.{option_map};
 ghost use Rattle.std.specs.Fmt.{decimal};
 ghost use Rattle.std.specs.Str.{bytes_eq};
 ghost use Rattle.rc_requests.specs.Asking.{asks, bytes_of, chosen};
-ghost use Rattle.rc_requests.specs.Request.{Compile, Listing, Upgrade, ending, ending_in_name, limits_of, limits_within, number_within, option, request_of};
+ghost use Rattle.rc_requests.specs.Request.{Checks, Compile, Listing, Upgrade, ending, ending_in_name, limits_of, limits_within, number_within, option, request_of};
 
 use itoa::Buffer;
 use rc_base::{Limits, MOST_BLOCKS, MOST_REGIONS, MOST_TURNS, USUAL_TURNS};
@@ -26,6 +26,8 @@ pub enum Request<'a> {
     Upgrade(&'a str, &'a str),
     /// To run the heap commands of the file. A script takes no turns.
     Script(&'a str, Limits),
+    /// To report on the checks of the file's program.
+    Checks(&'a str),
 }
 
 /// The number of an option, and the words behind it.
@@ -142,6 +144,16 @@ fn upgrade<'a>(from: &'a str, rest: &'a [String]) -> Option<Request<'a>>
     }
 }
 
+/// To report on this file, where no word stands behind.
+fn checks<'a>(file: &'a str, rest: &[String]) -> Option<Request<'a>>
+    ensures { option_map asks result ≡ ending (Checks file.now) (bytes_of rest.now) }
+{
+    match rest {
+        [] => Some(Request::Checks(file)),
+        _ => None,
+    }
+}
+
 fn asking<'a>(verb: &str, file: &'a str, rest: &'a [String]) -> Option<Request<'a>>
     ensures { option_map asks result ≡ request_of (verb.now ∷ file.now ∷ bytes_of rest.now) }
 {
@@ -169,6 +181,9 @@ fn asking<'a>(verb: &str, file: &'a str, rest: &'a [String]) -> Option<Request<'
     if verb == "heap" {
         let limits = limits_within(0, rest)?;
         return Some(Request::Script(file, limits));
+    }
+    if verb == "checks" {
+        return checks(file, rest);
     }
     None
 }

@@ -35,7 +35,7 @@ use reading::rows_of;
 use std::process::ExitCode;
 use std::{env, fs, io};
 
-const FILES: [&str; 11] = [
+const FILES: [&str; 12] = [
     "words.rows",
     "programs.rows",
     "values.rows",
@@ -47,6 +47,7 @@ const FILES: [&str; 11] = [
     "exec.rows",
     "compile.rows",
     "heap.rows",
+    "checks.rows",
 ];
 
 /// Goes through the rows of a file, and answers how many calls differ.

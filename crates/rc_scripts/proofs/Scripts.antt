@@ -17,8 +17,8 @@ use Rattle.rc_outcomes.specs.Outcome.{Comes, IsOutcome, Outcome, SameAs, answers
 use Rattle.rc_outcomes.specs.Outside.{Outside, outside}
 use Rattle.rc_outcomes.specs.Performing.{Performs}
 use Rattle.rc_outcomes.proofs.Files as one_file
-use Rattle.rc_outcomes.proofs.Reports.{writes_report}
-use Rattle.rc_outcomes.proofs.Ways.{is_not, is_refused, same_fault, same_text, untouched}
+use Rattle.rc_outcomes.proofs.Reports.{made_report}
+use Rattle.rc_outcomes.proofs.Ways.{is_not, is_refused, same_text, untouched}
 use Rattle.rc_requests.specs.Request.{Request}
 use Rattle.rc_text_files.specs.Texts.{IsTooLong}
 use Rattle.rc_scripts.specs.Running.{AnsweredScript, AnsweredText, ScriptOf, ran, too_long}
@@ -56,24 +56,16 @@ module _ (request : Option Request) (name : List ℕ) (limits : Limits) (row : S
 
   module _ (text : List ℕ) (l : Loaded name before.files files' (λ bytes. bytes ≡ text)) (out' : SinkState) (heap' : KeptStore) where
     was_run : length text ≤ 1048576 → (result : Result Done Fault) → AnsweredScript text limits before.out out' heap' result → Performs request before (outside files' before.input out' before.err heap') result
-    was_run fits result s = by result s where
-      outcome : Outcome
-      outcome = reports_leaving (heap_text text limits) (SameAs (heap_store text limits))
+    was_run fits result s =
+        made_report request before files' out' heap' (heap_text text limits) (SameAs (heap_store text limits)) (one_file.has_read request name row.reads before files' (λ bytes. bytes ≡ text) l row.only)
+        (record { writes_out = row.writes_out; may_report = row.may_report; outcome = is_outcome (λ bytes. bytes ≡ text) l outcome says; only = the_outcome (λ bytes. bytes ≡ text) l outcome says })
+        (λ e. absurd (is_not (footprint request).uses_heap row.uses_heap e)) result (record { wrote = s.wrote; reported = s.reported }) s.left
+      where
+        outcome : Outcome
+        outcome = reports_leaving (heap_text text limits) (SameAs (heap_store text limits))
 
-      says : (bytes : List ℕ) → bytes ≡ text → script_outcome limits bytes ≡ outcome
-      says bytes is = ap (script_outcome limits) is ∙ fits_so limits text fits
-
-      by : (result : Result Done Fault) → AnsweredScript text limits before.out out' heap' result → Performs request before (outside files' before.input out' before.err heap') result
-      by (Ok done) s = subst (λ (d : Done). Performs request before (outside files' before.input out' before.err heap') (Ok d)) (sym s.reported)
-          (writes_report request before files' out' heap' (heap_text text limits) (SameAs (heap_store text limits)) (one_file.has_read request name row.reads before files' (λ bytes. bytes ≡ text) l row.only)
-          (record { writes_out = row.writes_out; may_report = row.may_report; outcome = is_outcome (λ bytes. bytes ≡ text) l outcome says; only = the_outcome (λ bytes. bytes ≡ text) l outcome says })
-          (λ e. absurd (is_not (footprint request).uses_heap row.uses_heap e))
-          (Ok tt) (record { tells = s.wrote.tells; wrote = s.wrote.wrote; flushed = s.wrote.flushed; cut = tt; never_falls = s.wrote.never_falls; kept = λ ok. s.wrote.kept refl; rose = λ is. cc }) s.left)
-      by (Err fault) s =
-          writes_report request before files' out' heap' (heap_text text limits) (SameAs (heap_store text limits)) (one_file.has_read request name row.reads before files' (λ bytes. bytes ≡ text) l row.only)
-          (record { writes_out = row.writes_out; may_report = row.may_report; outcome = is_outcome (λ bytes. bytes ≡ text) l outcome says; only = the_outcome (λ bytes. bytes ≡ text) l outcome says })
-          (λ e. absurd (is_not (footprint request).uses_heap row.uses_heap e))
-          (Err fault) (record { tells = s.wrote.tells; wrote = tt; flushed = tt; cut = s.wrote.cut; never_falls = s.wrote.never_falls; kept = λ ok. cc; rose = λ is. s.wrote.rose (ap Err (same_fault fault WriteFault is)) }) tt
+        says : (bytes : List ℕ) → bytes ≡ text → script_outcome limits bytes ≡ outcome
+        says bytes is = ap (script_outcome limits) is ∙ fits_so limits text fits
 
     pub answered : (result : Result Done Fault) → AnsweredText text limits before.out out' before.heap heap' result → Performs request before (outside files' before.input out' before.err heap') result
     answered result (ran done fits s) = was_run fits result s

@@ -2,7 +2,7 @@ use Rattle.std.proofs.Common.{◌∙◌, refl, subst, arith}
 use Rattle.rc_base.specs.Sinks.{Writes}
 use Rattle.rc_outcomes.specs.Reporting.{at_byte, at_flush}
 use Rattle.rc_outcomes.proofs.Flushing.{rose_later, took_flushed}
-use Rattle.rc_image_files.proofs.list.write_report.Goals as goal
+use Rattle.rc_outcomes.proofs.reporting.write_report.Goals as goal
 
 pub returns-in-Err-flush : goal.returns-in-Err-flush
 returns-in-Err-flush g c =
