@@ -1,8 +1,10 @@
--- When the marks of an image are right. A store with the mark makes no check; so on no input and limits may such a store meet a
--- value that doesn't fit.
+-- When the marks of an image are right. A store with the mark makes no check; so on no input of bytes and no limits may such a store meet
+-- a value that doesn't fit.
 use Rattle.std.specs.Prelude.{◌≡◌, ℕ, true, false, List, drop, Some}
 use Rattle.std.specs.Prelude.{slice_get}
+use Rattle.std.specs.List.{AllByRecursion as Every}
 use Rattle.rc_base.specs.declared.ends.Limits.{Limits}
+use Rattle.rc_core.specs.Numbers.{IsByte}
 use Rattle.rc_core.specs.Runs.{Go}
 use Rattle.rc_code.specs.declared.instruction.Instruction.TheVariants as instruction
 use Rattle.rc_code.specs.declared.image.Parts.{Parts}
@@ -19,7 +21,7 @@ MarkIsRight image path s w = (line : ℕ)
 
 -- of each marked store that a run comes to, after however many steps
 abbrev pub Faithful : Parts → Type 0
-Faithful parts = (input : List ℕ) (limits : Limits) (n : ℕ) (s : State Held) (w : Held) (path : ℕ)
+Faithful parts = (input : List ℕ) → Every IsByte input → (limits : Limits) (n : ℕ) (s : State Held) (w : Held) (path : ℕ)
     → first_steps stored (reading_of parts) n (first_held (reading_of parts) input limits) ≡ Go (goes s) w
     → slice_get (function_at (reading_of parts) s.function).code s.at ≡ Some (instruction.Store path true)
     → MarkIsRight (reading_of parts) path s w

@@ -57,4 +57,4 @@ module _ (r : Rlang) (numberable : IsNumberable r) where
       false≢true ((sound.fine at (instruction.Store path true) e).names.1 refl).0
 
   pub image_faithful : Faithful (image_of r)
-  image_faithful input limits n s w path comes there = absurd (no_mark s.function s.at path there)
+  image_faithful input bytes limits n s w path comes there = absurd (no_mark s.function s.at path there)

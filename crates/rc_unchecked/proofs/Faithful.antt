@@ -12,7 +12,7 @@ use Rattle.rc_rlang.specs.Bounds.{IsWithinBounds}
 use Rattle.rc_code.specs.declared.image.Path.{Path}
 use Rattle.rc_code.specs.declared.image.Parts.{Parts}
 use Rattle.rc_code.specs.declared.instruction.Instruction.TheVariants as instruction
-use Rattle.rc_code.specs.Faithful.{MarkIsRight}
+use Rattle.rc_code.specs.Faithful.{MarkIsRight, Faithful}
 use Rattle.rc_code.specs.ImageMeaning.{first_held}
 use Rattle.rc_code.specs.Running.{Reading, reading_of, path_at, function_at, cell_at, storage_of, value_at, kept, target_on}
 use Rattle.rc_code.specs.Steps.{State, Moved, goes, finished, steps_of, first_steps, main_state}
@@ -27,7 +27,7 @@ use Rattle.rc_worlds.proofs.Whole.{view_is_sound}
 use Rattle.rc_image_rules.specs.Small.{IsSmall}
 use Rattle.rc_joined.specs.Programs.{image_of_program}
 use Rattle.rc_joined.proofs.Joined as Joined
-use Rattle.rc_unchecked.specs.Right.{FaithfulOnBytes, MarksAreRight}
+use Rattle.rc_unchecked.specs.Right.{MarksAreRight}
 use Rattle.rc_unchecked.specs.Unchecked.{MayGo}
 use Rattle.rc_unchecked.proofs.Puts.{keeps_turns}
 use Rattle.rc_unchecked.proofs.Following.{Follows, first_follow, none_fails}
@@ -85,7 +85,7 @@ module _ (program : Program) (well : IsWellTyped program) (bounds : IsWithinBoun
         by (Go (finished v) w0) is suit s w e = absurd cc
         by (Stopped t w0) is suit s w e = absurd cc
 
-  pub faithful : FaithfulOnBytes parts
+  pub faithful : Faithful parts
   faithful input bytes limits n s w p comes =
       by input bytes limits n p (first_steps (watched image) image.code n (first input bytes limits)) refl (follows input bytes limits n).suits s w
       (sym (follows input bytes limits n).same ∙ as_written input bytes limits n ∙ comes)
