@@ -8,8 +8,8 @@ use Rattle.rc_deletes.specs.Scopes.{Context}
 use Rattle.rc_deletes.specs.Values.{Typed}
 use Rattle.rc_deletes.specs.Expressions.{base_rule}
 use Rattle.rc_deletes.specs.Statements.{Here, with_local, local, local_type, declared, behind_option, behind_local, new_name, value_option, declaration}
-use Rattle.rc_operators.specs.declared.stop.Stop.{Stop}
-use Rattle.rc_operators.specs.Stops.{StopsAt}
+use Rattle.rc_typed_values.specs.declared.stop.Stop.{Stop}
+use Rattle.rc_typed_values.specs.Stops.{StopsAt}
 use Rattle.rc_defined.proofs.Stops.{all_ruled, third_stops}
 
 module _ (context : Context) (here now : Here) (l : t.Local) (ty : Ty) (number : ℕ)

@@ -10,9 +10,9 @@ use Rattle.rc_core.specs.Shapes.{stmts_listed}
 use Rattle.rc_deletes.specs.Judged.{Judged, Holds, Faulty, with_parts}
 use Rattle.rc_deletes.specs.Scopes.{Context}
 use Rattle.rc_deletes.specs.Statements.{Here, stmt, stmts, local, locals, behind_stmt, behind_stmts, behind_local, behind_locals}
-use Rattle.rc_operators.specs.declared.stop.Stop.{Stop}
-use Rattle.rc_operators.specs.declared.stop.Stop.TheVariants.{Rule, Memory}
-use Rattle.rc_operators.specs.Stops.{StopsAt}
+use Rattle.rc_typed_values.specs.declared.stop.Stop.{Stop}
+use Rattle.rc_typed_values.specs.declared.stop.Stop.TheVariants.{Rule, Memory}
+use Rattle.rc_typed_values.specs.Stops.{StopsAt}
 use Rattle.rc_defined.proofs.Stops.{left_stops}
 use Rattle.rc_defined.proofs.Walks.{front, none_left}
 

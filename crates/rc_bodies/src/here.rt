@@ -6,9 +6,9 @@ ghost use Rattle.rc_defined.specs.Contexts.{scope_of};
 ghost use Rattle.rc_bodies.specs.Here.{here_of, outer_of};
 
 use rc_core::ty::Ty;
-use rc_operators::Stop;
 use rc_rules::Meaning;
 use rc_scope::Scopes;
+use rc_typed_values::Stop;
 
 /// Where a node of a function stands.
 #[derive(Drop)]

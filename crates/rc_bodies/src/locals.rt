@@ -4,7 +4,7 @@ ghost use Rattle.rc_core.specs.Shapes.{ty_of, stmt_of, stmts_of};
 ghost use Rattle.rc_deletes.specs.Judged.{Holds};
 ghost use Rattle.rc_deletes.specs.Scopes.{a_local};
 ghost use Rattle.rc_deletes.specs.Statements as rule;
-ghost use Rattle.rc_operators.specs.Stops.{StopsAt};
+ghost use Rattle.rc_typed_values.specs.Stops.{StopsAt};
 ghost use Rattle.rc_syntax.specs.Shape as written;
 ghost use Rattle.rc_defined.specs.Contexts.{context_of, scope_of};
 ghost use Rattle.rc_bodies.specs.Here.{here_of};
@@ -17,10 +17,10 @@ use rc_core::ty::Ty;
 use rc_defined::{Context, defined_type, meaning};
 use rc_deletes::Refusal;
 use rc_item_rules::{declaration, fitting, is_twice};
-use rc_operators::{Stop, add, copy_of, fails};
 use rc_rules::Meaning;
 use rc_scope::Scopes;
 use rc_syntax::tree::{ForStart, Local, Name};
+use rc_typed_values::{Stop, add, copy_of, fails};
 use std::alloc::Global;
 
 /// A declared name is new in its scope.

@@ -5,7 +5,7 @@ ghost use Rattle.rc_core.specs.Shapes.{expr_of, stmt_of, stmts_of};
 
 use rc_core::expr::Expr as Value;
 use rc_core::stmt::Stmt as Step;
-use rc_operators::{Stop, boxed};
+use rc_typed_values::{Stop, boxed};
 use std::alloc::Global;
 
 /// A block of these statements.

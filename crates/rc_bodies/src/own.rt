@@ -3,8 +3,8 @@ ghost use Rattle.std.specs.Prelude.{◌≡◌, option_map, IfOk, IfErr, OnOk};
 ghost use Rattle.rc_core.specs.Shapes.{expr_of, stmt_of};
 ghost use Rattle.rc_deletes.specs.Judged.{Holds};
 ghost use Rattle.rc_deletes.specs.Statements as rule;
-ghost use Rattle.rc_operators.specs.Shapes.{typed_of};
-ghost use Rattle.rc_operators.specs.Stops.{StopsAt};
+ghost use Rattle.rc_typed_values.specs.Shapes.{typed_of};
+ghost use Rattle.rc_typed_values.specs.Stops.{StopsAt};
 ghost use Rattle.rc_syntax.specs.Shape as written;
 ghost use Rattle.rc_defined.specs.Contexts.{context_of};
 ghost use Rattle.rc_bodies.specs.Here.{here_of};
@@ -14,8 +14,8 @@ use crate::steps::{condition, condition_option, simple, simple_option, value_opt
 use rc_core::expr::Expr as Value;
 use rc_core::stmt::Stmt as Step;
 use rc_defined::{Context, Environment};
-use rc_operators::{Stop, Typed};
 use rc_syntax::tree::{Expr, Simple};
+use rc_typed_values::{Stop, Typed};
 use std::alloc::Global;
 
 #[tactic(auto, using(crate::proofs::Kept::more_strings))]

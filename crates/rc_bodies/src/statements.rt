@@ -5,7 +5,7 @@ ghost use Rattle.rc_core.specs.Programs as p;
 ghost use Rattle.rc_core.specs.Shapes.{stmt_of, stmts_of};
 ghost use Rattle.rc_deletes.specs.Judged.{Holds, with_part};
 ghost use Rattle.rc_deletes.specs.Statements as rule;
-ghost use Rattle.rc_operators.specs.Stops.{StopsAt};
+ghost use Rattle.rc_typed_values.specs.Stops.{StopsAt};
 ghost use Rattle.rc_syntax.specs.Shape as written;
 ghost use Rattle.rc_syntax.specs.Tree as t;
 ghost use Rattle.rc_bodies.specs.Enclosing.{context_at, gives_at};
@@ -19,8 +19,8 @@ use crate::own::{own_condition, own_condition_option, own_simple, own_simple_opt
 use rc_core::stmt::Stmt as Step;
 use rc_deletes::Refusal;
 use rc_item_rules::{fitting, returned};
-use rc_operators::{Stop, add, boxed, fails};
 use rc_syntax::tree::{Expr, ForStart, Simple, Spot, Stmt};
+use rc_typed_values::{Stop, add, boxed, fails};
 use std::alloc::Global;
 
 /// A statement that stands in loops alone.

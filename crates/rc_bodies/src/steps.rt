@@ -4,8 +4,8 @@ ghost use Rattle.rc_core.specs.Shapes.{bytes_of, expr_of, stmt_of};
 ghost use Rattle.rc_deletes.specs.Judged.{Holds};
 ghost use Rattle.rc_deletes.specs.Expressions.{strings_in, strings_in_all};
 ghost use Rattle.rc_deletes.specs.Statements as rule;
-ghost use Rattle.rc_operators.specs.Shapes.{typed_of};
-ghost use Rattle.rc_operators.specs.Stops.{StopsAt};
+ghost use Rattle.rc_typed_values.specs.Shapes.{typed_of};
+ghost use Rattle.rc_typed_values.specs.Stops.{StopsAt};
 ghost use Rattle.rc_syntax.specs.Shape as written;
 ghost use Rattle.rc_syntax.specs.Tree.{call, assign, update, step_after};
 ghost use Rattle.rc_defined.specs.Contexts.{context_in, scope_in};
@@ -15,10 +15,10 @@ use rc_core::expr::Expr as Value;
 use rc_core::stmt::Stmt as Step;
 use rc_defined::{Environment, meaning};
 use rc_item_rules::{alone_rule, assignment, fitting, one, right_side, step_operator, update_of};
-use rc_operators::{Stop, Typed, condition_rule};
 use rc_rules::{call_statement, callee_rule};
 use rc_syntax::tree::{BinaryOp, Expr, Name, Simple, Spot, StepOp};
 use rc_terms::{arguments, meant, spot_of, value};
+use rc_typed_values::{Stop, Typed, condition_rule};
 
 /// A value that may be absent.
 #[tactic(auto, using(rc_defined::proofs::Stops::part_stops, rc_defined::proofs::Stops::part_held, rc_defined::proofs::Lists::no_strings))]

@@ -1,9 +1,9 @@
 -- A walk that stops at the first violation inside a node stops at the node's first.
 use Rattle.std.proofs.Common.{◌≡◌}
 use Rattle.rc_deletes.specs.Judged.{Judged, Holds, Faulty, with_part, with_parts, both}
-use Rattle.rc_operators.specs.declared.stop.Stop.{Stop}
-use Rattle.rc_operators.specs.declared.stop.Stop.TheVariants.{Rule, Memory}
-use Rattle.rc_operators.specs.Stops.{StopsAt}
+use Rattle.rc_typed_values.specs.declared.stop.Stop.{Stop}
+use Rattle.rc_typed_values.specs.declared.stop.Stop.TheVariants.{Rule, Memory}
+use Rattle.rc_typed_values.specs.Stops.{StopsAt}
 
 pub part_stops : {A B : Type 0} (x : Judged A) (rule : A → Judged B) (s : Stop) → StopsAt x s → StopsAt (with_part x rule) s
 part_stops x rule Memory h = tt

@@ -8,9 +8,9 @@ use Rattle.rc_deletes.specs.Judged.{Judged, Holds, Faulty, with_parts}
 use Rattle.rc_deletes.specs.Scopes.{Context, Scope}
 use Rattle.rc_deletes.specs.Values.{Typed}
 use Rattle.rc_deletes.specs.Expressions.{value, values, strings_in, strings_in_all}
-use Rattle.rc_operators.specs.declared.stop.Stop.{Stop}
-use Rattle.rc_operators.specs.declared.stop.Stop.TheVariants.{Rule, Memory}
-use Rattle.rc_operators.specs.Stops.{StopsAt}
+use Rattle.rc_typed_values.specs.declared.stop.Stop.{Stop}
+use Rattle.rc_typed_values.specs.declared.stop.Stop.TheVariants.{Rule, Memory}
+use Rattle.rc_typed_values.specs.Stops.{StopsAt}
 use Rattle.rc_defined.proofs.Stops.{left_stops}
 
 -- the element at the front of what is left

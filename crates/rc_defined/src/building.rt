@@ -14,9 +14,9 @@ use crate::names::add_name;
 use crate::sizes::sizes_of;
 use rc_core::parts::Field;
 use rc_core::ty::Ty;
-use rc_operators::{Stop, add, starred};
 use rc_scope::Names;
 use rc_syntax::tree::{Base, Field as WrittenField, Item, Name, Param, TypeName};
+use rc_typed_values::{Stop, add, starred};
 use std::alloc::Global;
 
 /// Puts the name of the struct that an item defines after those before it.

@@ -5,7 +5,7 @@ ghost use Rattle.rc_core.specs.Shapes.{ty_of};
 ghost use Rattle.rc_deletes.specs.Items as rule;
 ghost use Rattle.rc_deletes.specs.Judged.{Holds};
 ghost use Rattle.rc_deletes.specs.Kinds.{base_type, written_type};
-ghost use Rattle.rc_operators.specs.Stops.{StopsAt};
+ghost use Rattle.rc_typed_values.specs.Stops.{StopsAt};
 ghost use Rattle.rc_syntax.specs.Shape as written;
 ghost use Rattle.rc_syntax.specs.declared.tree.Base.TheVariants as base;
 ghost use Rattle.rc_defined.specs.Contexts.{context_of};
@@ -15,8 +15,8 @@ use crate::context::Context;
 use crate::defined::defined_type;
 use rc_core::ty::Ty;
 use rc_deletes::Refusal;
-use rc_operators::{Stop, fails};
 use rc_syntax::tree::{Base, Field, Item, Name, TypeName};
+use rc_typed_values::{Stop, fails};
 use std::alloc::Global;
 
 /// The number of the struct of this name, if it is among the first `count` definitions.

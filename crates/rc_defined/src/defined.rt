@@ -6,16 +6,16 @@ ghost use Rattle.rc_deletes.specs.Judged.{Holds};
 ghost use Rattle.rc_deletes.specs.Kinds.{place_of, base_type, written_type};
 ghost use Rattle.rc_deletes.specs.Scopes.{struct_names};
 ghost use Rattle.rc_rules.specs.Shapes.{found_of};
-ghost use Rattle.rc_operators.specs.Stops.{StopsAt};
+ghost use Rattle.rc_typed_values.specs.Stops.{StopsAt};
 ghost use Rattle.rc_syntax.specs.Shape as written;
 ghost use Rattle.rc_defined.specs.Contexts.{context_of};
 
 use crate::context::Context;
 use rc_core::ty::Ty;
 use rc_deletes::Refusal;
-use rc_operators::{Stop, fails, starred};
 use rc_rules::Found;
 use rc_syntax::tree::{Base, Name, TypeName};
+use rc_typed_values::{Stop, fails, starred};
 use std::alloc::Global;
 
 impl Context {

@@ -5,10 +5,10 @@ ghost use Rattle.rc_deletes.specs.Scopes.{meaning_in};
 ghost use Rattle.rc_rules.specs.Shapes.{meaning_of};
 ghost use Rattle.rc_defined.specs.Contexts.{scope_of};
 
-use rc_operators::Stop;
 use rc_rules::Meaning;
 use rc_scope::{Names, Scopes};
 use rc_syntax::tree::Name;
+use rc_typed_values::Stop;
 
 /// What a name stands for here.
 #[tactic(auto, using(crate::proofs::Meanings::meaning_is))]

@@ -9,7 +9,7 @@ ghost use Rattle.rc_defined.specs.Sizes.{capped, HasSizes};
 use crate::fields::{Fields, NamedField};
 use rc_base::MOST_GLOBAL_CELLS;
 use rc_core::ty::Ty;
-use rc_operators::{Stop, add};
+use rc_typed_values::{Stop, add};
 use std::alloc::Global;
 
 /// The most that is told of a number of cells.

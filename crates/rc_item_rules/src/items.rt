@@ -7,7 +7,7 @@ ghost use Rattle.rc_deletes.specs.Items as rule;
 ghost use Rattle.rc_deletes.specs.Judged.{Holds, failing, ruled};
 ghost use Rattle.rc_deletes.specs.Scopes.{Context};
 ghost use Rattle.rc_deletes.specs.declared.fault.Refusal.TheVariants.{Mistyped, TooBig};
-ghost use Rattle.rc_operators.specs.Stops.{StopsAt, IsRule};
+ghost use Rattle.rc_typed_values.specs.Stops.{StopsAt, IsRule};
 ghost use Rattle.rc_rules.specs.Shapes.{meaning_of, signature_of};
 ghost use Rattle.rc_syntax.specs.Shape as written;
 ghost use Rattle.rc_syntax.specs.Tree as t;
@@ -15,9 +15,9 @@ ghost use Rattle.rc_syntax.specs.Tree as t;
 use rc_core::converted;
 use rc_core::ty::Ty;
 use rc_deletes::{Builtin, Parameter, Refusal, Sort};
-use rc_operators::{Stop, fails, is_struct, same_type, sort_of_type};
 use rc_rules::{Meaning, Signature};
 use rc_syntax::tree::{Base, Constant, Name, Param, Spot, TypeName};
+use rc_typed_values::{Stop, fails, is_struct, same_type, sort_of_type};
 
 /// A name that is declared once.
 ///

@@ -1,7 +1,7 @@
 // What stands on the right of an assignment.
 
 use rc_core::expr::Place;
-use rc_operators::Typed;
+use rc_typed_values::Typed;
 
 /// The right side of `=`: a value, or a place whose type is the struct of this number.
 #[derive(Drop)]

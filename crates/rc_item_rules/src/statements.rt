@@ -9,8 +9,8 @@ ghost use Rattle.rc_deletes.specs.Scopes.{Context};
 ghost use Rattle.rc_deletes.specs.Statements as rule;
 ghost use Rattle.rc_deletes.specs.Values as values;
 ghost use Rattle.rc_deletes.specs.Values.{fitted as fitted_value};
-ghost use Rattle.rc_operators.specs.Shapes.{typed_of, meant_of};
-ghost use Rattle.rc_operators.specs.Stops.{StopsAt};
+ghost use Rattle.rc_typed_values.specs.Shapes.{typed_of, meant_of};
+ghost use Rattle.rc_typed_values.specs.Stops.{StopsAt};
 ghost use Rattle.rc_rules.specs.Shapes.{meaning_of};
 ghost use Rattle.rc_item_rules.specs.Sides.{right_of};
 ghost use Rattle.rc_item_rules.specs.Sizes.{TellSmall};
@@ -21,12 +21,12 @@ use rc_core::expr::{Expr, Place};
 use rc_core::stmt::Stmt;
 use rc_core::ty::{Signedness, Ty};
 use rc_deletes::Refusal;
-use rc_operators::{
-    Meant, Stop, Typed, as_value, boxed, change_of, changed, fails, fitted, is_struct, typed,
-    value_type,
-};
+use rc_operators::{change_of, changed};
 use rc_rules::Meaning;
 use rc_syntax::tree::{BinaryOp, Spot, StepOp};
+use rc_typed_values::{
+    Meant, Stop, Typed, as_value, boxed, fails, fitted, is_struct, typed, value_type,
+};
 use std::alloc::Global;
 
 /// A statement whose types fit.

@@ -11,8 +11,8 @@ use Rattle.rc_deletes.specs.Kinds.{place_of}
 use Rattle.rc_deletes.specs.Scopes.{Context, meaning_in}
 use Rattle.rc_deletes.specs.Statements.{Here, outside, stmts, behind_stmts}
 use Rattle.rc_deletes.specs.Items.{Outside, Made, nothing_made, behind_item, behind_definition, result_rule, function_name, signature_of, params_rule, head_rule, before_params, with_function, with_params, item, type_option, is_struct_option, function_made, behind_body}
-use Rattle.rc_operators.specs.declared.stop.Stop.{Stop}
-use Rattle.rc_operators.specs.Stops.{StopsAt}
+use Rattle.rc_typed_values.specs.declared.stop.Stop.{Stop}
+use Rattle.rc_typed_values.specs.Stops.{StopsAt}
 use Rattle.rc_defined.proofs.Stops.{part_stops, left_stops, both_ruled, third_stops, all_ruled}
 use Rattle.rc_items.proofs.Ruled.{ruled_kept}
 use Rattle.rc_bodies.proofs.Kept.{Grown, on_stmts}

@@ -12,8 +12,8 @@ use Rattle.rc_deletes.specs.Judged.{Judged, Holds, ruled, failing}
 use Rattle.rc_deletes.specs.Kinds.{written_type}
 use Rattle.rc_deletes.specs.Scopes.{Context, Scope, a_global, meaning_in}
 use Rattle.rc_deletes.specs.Items.{Outside, Made, item, behind_item, with_name, cell_type, once, cells_of_global, global_made, global_of, initial_of, is_empty, value_or_zero}
-use Rattle.rc_operators.specs.declared.stop.Stop.{Stop}
-use Rattle.rc_operators.specs.Stops.{StopsAt}
+use Rattle.rc_typed_values.specs.declared.stop.Stop.{Stop}
+use Rattle.rc_typed_values.specs.Stops.{StopsAt}
 use Rattle.rc_rules.specs.declared.meanings.Meaning.{Meaning as CodeMeaning}
 use Rattle.rc_rules.specs.Shapes.{meaning_of}
 use Rattle.rc_defined.specs.Contexts.{scope_of}

@@ -7,8 +7,8 @@ use Rattle.rc_syntax.specs.Tree as t
 use Rattle.rc_deletes.specs.Judged.{Judged, Holds, with_parts, in_front}
 use Rattle.rc_deletes.specs.Scopes.{Context}
 use Rattle.rc_deletes.specs.Items.{field_rule, fields_rule, before_fields}
-use Rattle.rc_operators.specs.declared.stop.Stop.{Stop}
-use Rattle.rc_operators.specs.Stops.{StopsAt}
+use Rattle.rc_typed_values.specs.declared.stop.Stop.{Stop}
+use Rattle.rc_typed_values.specs.Stops.{StopsAt}
 use Rattle.rc_defined.specs.Groups.{shares_with_next}
 use Rattle.rc_items.proofs.Ruled.{front_stop, unit_part}
 use Rattle.rc_defined.proofs.Stops.{left_stops}

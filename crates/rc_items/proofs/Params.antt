@@ -19,9 +19,9 @@ use Rattle.rc_deletes.specs.Scopes.{Context}
 use Rattle.rc_deletes.specs.Statements.{Here}
 use Rattle.rc_deletes.specs.Expressions.{base_rule}
 use Rattle.rc_deletes.specs.Items.{param_name, param_rule, params_rule, with_param, with_params, type_option}
-use Rattle.rc_operators.specs.declared.stop.Stop.{Stop}
-use Rattle.rc_operators.specs.declared.stop.Stop.TheVariants.{Rule}
-use Rattle.rc_operators.specs.Stops.{StopsAt}
+use Rattle.rc_typed_values.specs.declared.stop.Stop.{Stop}
+use Rattle.rc_typed_values.specs.declared.stop.Stop.TheVariants.{Rule}
+use Rattle.rc_typed_values.specs.Stops.{StopsAt}
 use Rattle.rc_defined.specs.declared.context.Context.{Context as CodeContext}
 use Rattle.rc_defined.specs.Contexts.{context_of}
 use Rattle.rc_items.proofs.Ruled.{ruled_broken, unit_part}

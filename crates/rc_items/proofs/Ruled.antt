@@ -3,9 +3,9 @@ use Rattle.std.proofs.Common.{◌≡◌, refl, Bool, true, false}
 use Rattle.rc_syntax.specs.declared.tree.Spot.{Spot}
 use Rattle.rc_deletes.specs.declared.fault.Refusal.{Refusal}
 use Rattle.rc_deletes.specs.Judged.{Judged, Holds, Faulty, failing, in_front, ruled, with_part}
-use Rattle.rc_operators.specs.declared.stop.Stop.{Stop}
-use Rattle.rc_operators.specs.declared.stop.Stop.TheVariants.{Rule, Memory}
-use Rattle.rc_operators.specs.Stops.{StopsAt}
+use Rattle.rc_typed_values.specs.declared.stop.Stop.{Stop}
+use Rattle.rc_typed_values.specs.declared.stop.Stop.TheVariants.{Rule, Memory}
+use Rattle.rc_typed_values.specs.Stops.{StopsAt}
 
 pub ruled_kept : {A : Type 0} (at : Spot) (b : Bool) (k : Refusal) (a : A) → b ≡ false → ruled at (failing b k) a ≡ Holds a
 ruled_kept at b k a h = rw h refl

@@ -9,9 +9,9 @@ use Rattle.rc_core.specs.Programs as p
 use Rattle.rc_deletes.specs.Judged.{Judged, Holds, Faulty, with_parts, in_front}
 use Rattle.rc_deletes.specs.Scopes.{Context}
 use Rattle.rc_deletes.specs.Items.{Outside, Made, nothing_made, made_both, item, items, before_globals, behind_item, behind_items}
-use Rattle.rc_operators.specs.declared.stop.Stop.{Stop}
-use Rattle.rc_operators.specs.declared.stop.Stop.TheVariants.{Rule, Memory}
-use Rattle.rc_operators.specs.Stops.{StopsAt}
+use Rattle.rc_typed_values.specs.declared.stop.Stop.{Stop}
+use Rattle.rc_typed_values.specs.declared.stop.Stop.TheVariants.{Rule, Memory}
+use Rattle.rc_typed_values.specs.Stops.{StopsAt}
 use Rattle.rc_defined.specs.Groups.{goes_on}
 use Rattle.rc_defined.proofs.Stops.{left_stops}
 use Rattle.rc_items.proofs.Ruled.{front_stop}

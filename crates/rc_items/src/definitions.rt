@@ -7,7 +7,7 @@ ghost use Rattle.rc_deletes.specs.Judged.{Holds};
 ghost use Rattle.rc_deletes.specs.Kinds.{written_type};
 ghost use Rattle.rc_deletes.specs.Scopes.{meaning_in};
 ghost use Rattle.rc_rules.specs.Shapes.{meaning_of};
-ghost use Rattle.rc_operators.specs.Stops.{StopsAt};
+ghost use Rattle.rc_typed_values.specs.Stops.{StopsAt};
 ghost use Rattle.rc_syntax.specs.Shape as written;
 ghost use Rattle.rc_syntax.specs.Tree as t;
 ghost use Rattle.rc_defined.specs.Contexts.{context_of, scope_of};
@@ -25,10 +25,10 @@ use rc_defined::{
 };
 use rc_deletes::Refusal;
 use rc_item_rules::{global_rule, initial_of, is_defined_before, is_empty, once};
-use rc_operators::{Stop, copy_of, refuse_where};
 use rc_rules::Meaning;
 use rc_scope::{Names, Scopes};
 use rc_syntax::tree::{Field, Name, Spot};
+use rc_typed_values::{Stop, copy_of, refuse_where};
 use std::alloc::Global;
 
 /// Whether a name is among others.

@@ -7,7 +7,7 @@ ghost use Rattle.rc_deletes.specs.Judged.{Holds};
 ghost use Rattle.rc_deletes.specs.Kinds.{written_type};
 ghost use Rattle.rc_deletes.specs.Scopes.{meaning_in};
 ghost use Rattle.rc_rules.specs.Shapes.{signature_of};
-ghost use Rattle.rc_operators.specs.Stops.{StopsAt};
+ghost use Rattle.rc_typed_values.specs.Stops.{StopsAt};
 ghost use Rattle.rc_syntax.specs.Shape as written;
 ghost use Rattle.rc_defined.specs.Contexts.{context_of, scope_of};
 ghost use Rattle.rc_bodies.specs.Here.{here_of};
@@ -22,9 +22,9 @@ use rc_core::ty::Ty;
 use rc_defined::{Context, defined_type, meaning, type_in};
 use rc_deletes::Refusal;
 use rc_item_rules::function_name;
-use rc_operators::{Stop, add, is_struct, refuse_where};
 use rc_rules::{Meaning, Signature};
 use rc_syntax::tree::{Name, Param, TypeName};
+use rc_typed_values::{Stop, add, is_struct, refuse_where};
 use std::alloc::Global;
 
 /// The types of parameters.

@@ -6,7 +6,7 @@ ghost use Rattle.rc_deletes.specs.Items as rule;
 ghost use Rattle.rc_deletes.specs.Judged.{Holds, with_parts};
 ghost use Rattle.rc_deletes.specs.Scopes.{a_builtin};
 ghost use Rattle.rc_deletes.specs.Statements as statements;
-ghost use Rattle.rc_operators.specs.Stops.{StopsAt};
+ghost use Rattle.rc_typed_values.specs.Stops.{StopsAt};
 ghost use Rattle.rc_syntax.specs.Shape as written;
 ghost use Rattle.rc_syntax.specs.Tree as t;
 ghost use Rattle.rc_defined.specs.Contexts.{context_of, scope_of};
@@ -26,10 +26,10 @@ use rc_core::ty::Ty;
 use rc_defined::{Context, before_global, goes_on};
 use rc_deletes::{Builtin, Refusal};
 use rc_item_rules::is_struct_option;
-use rc_operators::{Stop, add, refuse_where};
 use rc_rules::Meaning;
 use rc_scope::Scopes;
 use rc_syntax::tree::{Field, Item, Name, Param, Spot, Stmt};
+use rc_typed_values::{Stop, add, refuse_where};
 use std::alloc::Global;
 
 /// A struct.

@@ -7,19 +7,18 @@ ghost use Rattle.rc_deletes.specs.Judged.{Holds};
 ghost use Rattle.rc_deletes.specs.Kinds.{sort_of};
 ghost use Rattle.rc_deletes.specs.Operators as rule;
 ghost use Rattle.rc_deletes.specs.Values as values;
-ghost use Rattle.rc_operators.specs.Shapes.{typed_of};
-ghost use Rattle.rc_operators.specs.Stops.{StopsAt};
+ghost use Rattle.rc_typed_values.specs.Shapes.{typed_of};
+ghost use Rattle.rc_typed_values.specs.Stops.{StopsAt};
 
-use crate::kinds;
-use crate::meanings::Typed;
-use crate::stop::{Stop, fails};
-use crate::values::{converted, in_arithmetic, met, promoted, promoted_value, typed};
 use rc_core::expr::Expr;
 use rc_core::operators::{Operator, UnaryOperator};
 use rc_core::ty::{NumberType, Signedness, Ty};
 use rc_core::type_of;
 use rc_deletes::{Refusal, Sort};
 use rc_syntax::tree::{CastType, Spot};
+use rc_typed_values::{
+    Stop, Typed, converted, fails, in_arithmetic, met, promoted, promoted_value, sort_of, typed,
+};
 use std::alloc::Global;
 
 /// A number's type as a type.
@@ -130,7 +129,7 @@ pub(crate) fn numbers(
     ensures ok { IfOk result (λ t. rule.numbers_of at operator (typed_of v) (typed_of w) ≡ Holds (typed_of t)) }
     ensures err { IfErr result (StopsAt (rule.numbers_of at operator (typed_of v) (typed_of w))) }
 {
-    match (kinds::sort_of(&v.ty), kinds::sort_of(&w.ty)) {
+    match (sort_of(&v.ty), sort_of(&w.ty)) {
         (Sort::Number(a), Sort::Number(b)) => computation(alloc, at.line, operator, a, v, b, w),
         (_, _) => fails(at, Refusal::Mistyped),
     }
@@ -168,7 +167,7 @@ pub(crate) fn sign_rule(
     ensures ok { IfOk result (λ t. rule.sign_rule at operator (sort_of (typed_of v).ty) (typed_of v) ≡ Holds (typed_of t)) }
     ensures err { IfErr result (StopsAt (rule.sign_rule at operator (sort_of (typed_of v).ty) (typed_of v))) }
 {
-    match kinds::sort_of(&v.ty) {
+    match sort_of(&v.ty) {
         Sort::Number(a) => signed(alloc, at.line, operator, a, v),
         _ => fails(at, Refusal::Mistyped),
     }
@@ -194,7 +193,7 @@ pub fn cast_rule(alloc: Global, at: Spot, to: NumberType, v: Typed) -> Result<Ty
     ensures ok { IfOk result (λ t. rule.cast_rule at to (sort_of (typed_of v).ty) (typed_of v) ≡ Holds (typed_of t)) }
     ensures err { IfErr result (StopsAt (rule.cast_rule at to (sort_of (typed_of v).ty) (typed_of v))) }
 {
-    match kinds::sort_of(&v.ty) {
+    match sort_of(&v.ty) {
         Sort::Number(from) => {
             let code = converted(alloc, from, to, v)?;
             Ok(Typed {

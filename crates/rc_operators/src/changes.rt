@@ -3,13 +3,9 @@ ghost use Rattle.std.specs.Prelude.{◌≡◌, option_map, IfOk, IfErr, Some};
 ghost use Rattle.rc_core.specs.Shapes.{ty_of, expr_of};
 ghost use Rattle.rc_deletes.specs.Operators as rule;
 ghost use Rattle.rc_deletes.specs.declared.sort.Sort.TheVariants.{Number, Pointer};
-ghost use Rattle.rc_operators.specs.Shapes.{typed_of};
+ghost use Rattle.rc_typed_values.specs.Shapes.{typed_of};
 
 use crate::arithmetic::{computed_in, is_shift, right_in};
-use crate::kinds;
-use crate::meanings::Typed;
-use crate::stop::{Stop, boxed};
-use crate::values::{converted, in_arithmetic, promoted_value, typed};
 use rc_core::expr::Expr;
 use rc_core::operators::{Direction, Operator};
 use rc_core::stmt::Change;
@@ -17,6 +13,9 @@ use rc_core::ty::{NumberType, Signedness, Ty};
 use rc_core::type_of;
 use rc_deletes::Sort;
 use rc_syntax::tree::BinaryOp;
+use rc_typed_values::{
+    Stop, Typed, boxed, converted, in_arithmetic, promoted_value, sort_of, sort_of_type, typed,
+};
 use std::alloc::Global;
 
 /// The operator on numbers that stands before `=`, where one may.
@@ -106,7 +105,7 @@ pub fn change_of(
     let Some(operator) = changing(op) else {
         return Ok(None);
     };
-    match (kinds::sort_of_type(ty), kinds::sort_of(&w.ty)) {
+    match (sort_of_type(ty), sort_of(&w.ty)) {
         (Sort::Number(a), Sort::Number(b)) => computed_change(alloc, operator, a, b, w),
         (Sort::Pointer, Sort::Number(b)) => pointer_change(alloc, operator, b, w),
         (_, _) => Ok(None),

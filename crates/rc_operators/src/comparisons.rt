@@ -6,19 +6,16 @@ ghost use Rattle.rc_deletes.specs.Judged.{Holds};
 ghost use Rattle.rc_deletes.specs.Kinds.{sort_of, same_types};
 ghost use Rattle.rc_deletes.specs.Operators as rule;
 ghost use Rattle.rc_deletes.specs.declared.sort.Sort.TheVariants.{Pointer};
-ghost use Rattle.rc_operators.specs.Shapes.{typed_of};
-ghost use Rattle.rc_operators.specs.Stops.{StopsAt};
+ghost use Rattle.rc_typed_values.specs.Shapes.{typed_of};
+ghost use Rattle.rc_typed_values.specs.Stops.{StopsAt};
 
 use crate::arithmetic::computation;
-use crate::kinds;
-use crate::meanings::Typed;
-use crate::stop::{Stop, fails};
-use crate::values::typed;
 use rc_core::expr::Expr;
 use rc_core::operators::Operator;
 use rc_core::ty::Ty;
 use rc_deletes::{Refusal, Sort};
 use rc_syntax::tree::Spot;
+use rc_typed_values::{Stop, Typed, fails, same_types, sort_of, typed};
 use std::alloc::Global;
 
 /// The operator `==` or `!=` on numbers, as `wanted` says.
@@ -63,7 +60,7 @@ fn same_pointers(alloc: Global, at: Spot, wanted: bool, v: Typed, w: Typed) -> R
     ensures ok { IfOk result (λ t. rule.equality at wanted (same_types (typed_of v).ty (typed_of w).ty) Pointer (typed_of v) Pointer (typed_of w) ≡ Holds (typed_of t)) }
     ensures err { IfErr result (StopsAt (rule.equality at wanted (same_types (typed_of v).ty (typed_of w).ty) Pointer (typed_of v) Pointer (typed_of w))) }
 {
-    if kinds::same_types(&v.ty, &w.ty) {
+    if same_types(&v.ty, &w.ty) {
         return same(alloc, at.line, wanted, v, w);
     }
     fails(at, Refusal::Mistyped)
@@ -82,7 +79,7 @@ pub(crate) fn equality(
     ensures err { IfErr result (StopsAt (rule.equality_of at wanted (typed_of v) (typed_of w))) }
 {
     let line = at.line;
-    match (kinds::sort_of(&v.ty), kinds::sort_of(&w.ty)) {
+    match (sort_of(&v.ty), sort_of(&w.ty)) {
         (Sort::Number(a), Sort::Number(b)) => {
             computation(alloc, line, equality_operator(wanted), a, v, b, w)
         }

@@ -8,26 +8,23 @@ ghost use Rattle.rc_deletes.specs.Judged.{Holds};
 ghost use Rattle.rc_deletes.specs.Kinds.{sort_of};
 ghost use Rattle.rc_deletes.specs.Operators as rule;
 ghost use Rattle.rc_deletes.specs.Values as values;
-ghost use Rattle.rc_operators.specs.Shapes.{typed_of};
-ghost use Rattle.rc_operators.specs.Stops.{StopsAt};
+ghost use Rattle.rc_typed_values.specs.Shapes.{typed_of};
+ghost use Rattle.rc_typed_values.specs.Stops.{StopsAt};
 
 use crate::arithmetic::arithmetic_type;
 use crate::comparisons::null_test;
-use crate::kinds;
-use crate::meanings::Typed;
-use crate::stop::{Stop, fails};
-use crate::values::{in_arithmetic, is_truthy, met, typed};
 use rc_core::expr::Expr;
 use rc_core::ty::{NumberType, Ty};
 use rc_deletes::{Refusal, Sort};
 use rc_syntax::tree::Spot;
+use rc_typed_values::{Stop, Typed, fails, in_arithmetic, is_truthy, met, sort_of, typed};
 use std::alloc::Global;
 
 /// Whether conditions may look at both values.
 fn are_truthy(v: &Typed, w: &Typed) -> bool
     ensures { result ≡ (values.is_truthy (sort_of (typed_of v.now).ty) && values.is_truthy (sort_of (typed_of w.now).ty)) }
 {
-    is_truthy(kinds::sort_of(&v.ty)) && is_truthy(kinds::sort_of(&w.ty))
+    is_truthy(sort_of(&v.ty)) && is_truthy(sort_of(&w.ty))
 }
 
 /// `&&` of two conditions.
@@ -94,7 +91,7 @@ fn choice(alloc: Global, at: Spot, test: Box<Expr>, v: Typed, w: Typed) -> Resul
     ensures ok { IfOk result (λ t. rule.choice at true (expr_of test.value) (sort_of (typed_of v).ty) (typed_of v) (sort_of (typed_of w).ty) (typed_of w) ≡ Holds (typed_of t)) }
     ensures err { IfErr result (StopsAt (rule.choice at true (expr_of test.value) (sort_of (typed_of v).ty) (typed_of v) (sort_of (typed_of w).ty) (typed_of w))) }
 {
-    match (kinds::sort_of(&v.ty), kinds::sort_of(&w.ty)) {
+    match (sort_of(&v.ty), sort_of(&w.ty)) {
         (Sort::Number(a), Sort::Number(b)) => chosen(alloc, at.line, test, a, v, b, w),
         (_, _) => fails(at, Refusal::Mistyped),
     }
@@ -115,7 +112,7 @@ pub fn conditional_rule(
     ensures ok { IfOk result (λ t. rule.conditional_rule at (typed_of test) (typed_of v) (typed_of w) ≡ Holds (typed_of t)) }
     ensures err { IfErr result (StopsAt (rule.conditional_rule at (typed_of test) (typed_of v) (typed_of w))) }
 {
-    if is_truthy(kinds::sort_of(&test.ty)) {
+    if is_truthy(sort_of(&test.ty)) {
         return choice(alloc, at, test.code, v, w);
     }
     fails(at, Refusal::Mistyped)
@@ -138,7 +135,7 @@ pub(crate) fn not_rule(alloc: Global, at: Spot, v: Typed) -> Result<Typed, Stop>
     ensures ok { IfOk result (λ t. rule.not_rule at (sort_of (typed_of v).ty) (typed_of v) ≡ Holds (typed_of t)) }
     ensures err { IfErr result (StopsAt (rule.not_rule at (sort_of (typed_of v).ty) (typed_of v))) }
 {
-    match kinds::sort_of(&v.ty) {
+    match sort_of(&v.ty) {
         Sort::Number(_) => is_zero(alloc, at.line, v),
         Sort::Region => null_test(alloc, at.line, true, v),
         Sort::Pointer => null_test(alloc, at.line, true, v),

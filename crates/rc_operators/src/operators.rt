@@ -2,18 +2,17 @@
 ghost use Rattle.std.specs.Prelude.{◌≡◌, IfOk, IfErr};
 ghost use Rattle.rc_deletes.specs.Judged.{Holds};
 ghost use Rattle.rc_deletes.specs.Operators as rule;
-ghost use Rattle.rc_operators.specs.Shapes.{typed_of, meant_of};
-ghost use Rattle.rc_operators.specs.Stops.{StopsAt};
+ghost use Rattle.rc_typed_values.specs.Shapes.{typed_of, meant_of};
+ghost use Rattle.rc_typed_values.specs.Stops.{StopsAt};
 
 use crate::arithmetic::{numbers, sign_rule};
 use crate::comparisons::equality;
 use crate::conditions::{conjunction, disjunction, not_rule};
-use crate::meanings::{Meant, Typed};
 use crate::pointers::{dereference_rule, difference, sum};
-use crate::stop::{Stop, fails};
 use rc_core::operators::{Operator, UnaryOperator};
 use rc_deletes::Refusal;
 use rc_syntax::tree::{BinaryOp, Spot, UnaryOp};
+use rc_typed_values::{Meant, Stop, Typed, fails};
 use std::alloc::Global;
 
 /// An operator between two values (ISO C 6.5.5 to 6.5.14).

@@ -9,19 +9,16 @@ ghost use Rattle.rc_deletes.specs.Judged.{Holds};
 ghost use Rattle.rc_deletes.specs.Kinds.{sort_of};
 ghost use Rattle.rc_deletes.specs.Operators as rule;
 ghost use Rattle.rc_deletes.specs.Values as values;
-ghost use Rattle.rc_operators.specs.Shapes.{typed_of, meant_of};
-ghost use Rattle.rc_operators.specs.Stops.{StopsAt};
+ghost use Rattle.rc_typed_values.specs.Shapes.{typed_of, meant_of};
+ghost use Rattle.rc_typed_values.specs.Stops.{StopsAt};
 
 use crate::arithmetic::computation;
-use crate::kinds;
-use crate::meanings::{Meant, Typed};
-use crate::stop::{Stop, boxed, fails};
-use crate::values::{promoted_value, typed};
 use rc_core::expr::{Expr, Place};
 use rc_core::operators::{Direction, Operator};
 use rc_core::ty::{Note, NumberType, Ty};
 use rc_deletes::{Refusal, Sort};
 use rc_syntax::tree::Spot;
+use rc_typed_values::{Meant, Stop, Typed, boxed, fails, promoted_value, sort_of, typed};
 use std::alloc::Global;
 
 /// A pointer that is stepped by a number, which keeps the pointer's type.
@@ -67,7 +64,7 @@ pub(crate) fn sum(alloc: Global, at: Spot, v: Typed, w: Typed) -> Result<Typed, 
     ensures ok { IfOk result (λ t. rule.sum at (sort_of (typed_of v).ty) (typed_of v) (sort_of (typed_of w).ty) (typed_of w) ≡ Holds (typed_of t)) }
     ensures err { IfErr result (StopsAt (rule.sum at (sort_of (typed_of v).ty) (typed_of v) (sort_of (typed_of w).ty) (typed_of w))) }
 {
-    match (kinds::sort_of(&v.ty), kinds::sort_of(&w.ty)) {
+    match (sort_of(&v.ty), sort_of(&w.ty)) {
         (Sort::Number(a), Sort::Number(b)) => computation(
             alloc,
             at.line,
@@ -88,7 +85,7 @@ pub(crate) fn difference(alloc: Global, at: Spot, v: Typed, w: Typed) -> Result<
     ensures ok { IfOk result (λ t. rule.difference at (sort_of (typed_of v).ty) (typed_of v) (sort_of (typed_of w).ty) (typed_of w) ≡ Holds (typed_of t)) }
     ensures err { IfErr result (StopsAt (rule.difference at (sort_of (typed_of v).ty) (typed_of v) (sort_of (typed_of w).ty) (typed_of w))) }
 {
-    match (kinds::sort_of(&v.ty), kinds::sort_of(&w.ty)) {
+    match (sort_of(&v.ty), sort_of(&w.ty)) {
         (Sort::Number(a), Sort::Number(b)) => computation(
             alloc,
             at.line,

@@ -10,8 +10,8 @@ ghost use Rattle.rc_deletes.specs.Calls as rule;
 ghost use Rattle.rc_deletes.specs.Judged.{Holds};
 ghost use Rattle.rc_deletes.specs.Values.{fitted as fitted_value};
 ghost use Rattle.rc_deletes.specs.Kinds.{sort_of, number_or};
-ghost use Rattle.rc_operators.specs.Shapes.{typed_of};
-ghost use Rattle.rc_operators.specs.Stops.{StopsAt, IsRule};
+ghost use Rattle.rc_typed_values.specs.Shapes.{typed_of};
+ghost use Rattle.rc_typed_values.specs.Stops.{StopsAt, IsRule};
 ghost use Rattle.rc_rules.specs.Parameters.{parameters_of, fitted_at};
 ghost use Rattle.rc_rules.specs.Shapes.{meaning_of, callee_of, code_of};
 
@@ -20,8 +20,10 @@ use rc_core::expr::Expr;
 use rc_core::stmt::Stmt;
 use rc_core::ty::{Note, Ty};
 use rc_deletes::{Builtin, Parameter, Refusal, Sort};
-use rc_operators::{Stop, Typed, add, boxed, copy_of, fails, fitted, sort_of, typed, value_type};
 use rc_syntax::tree::Spot;
+use rc_typed_values::{
+    Stop, Typed, add, boxed, copy_of, fails, fitted, sort_of, typed, value_type,
+};
 use std::alloc::Global;
 
 /// What the parameters of a function take.

@@ -9,8 +9,8 @@ ghost use Rattle.rc_deletes.specs.Judged.{Holds, with_part};
 ghost use Rattle.rc_deletes.specs.Operators as operator;
 ghost use Rattle.rc_deletes.specs.Scopes.{a_global};
 ghost use Rattle.rc_deletes.specs.Values as values;
-ghost use Rattle.rc_operators.specs.Shapes.{typed_of, meant_of};
-ghost use Rattle.rc_operators.specs.Stops.{StopsAt};
+ghost use Rattle.rc_typed_values.specs.Shapes.{typed_of, meant_of};
+ghost use Rattle.rc_typed_values.specs.Stops.{StopsAt};
 ghost use Rattle.rc_rules.specs.Shapes.{meaning_of};
 
 use crate::meanings::Meaning;
@@ -18,11 +18,11 @@ use crate::places::step_inward;
 use rc_core::expr::{Expr, PathStep, Place};
 use rc_core::ty::{Note, Signedness, Ty};
 use rc_deletes::{Refusal, Sort};
-use rc_operators::{
-    Meant, Stop, Typed, address_rule, arithmetic_type, as_value, boxed, copy_of, fails,
-    promoted_value, sort_of, typed, unary_rule,
-};
+use rc_operators::{address_rule, arithmetic_type, unary_rule};
 use rc_syntax::tree::{Spot, UnaryOp};
+use rc_typed_values::{
+    Meant, Stop, Typed, as_value, boxed, copy_of, fails, promoted_value, sort_of, typed,
+};
 use std::alloc::Global;
 
 /// Whether a number is `unsigned`: it says so, or is past the greatest `int`.

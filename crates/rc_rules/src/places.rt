@@ -4,15 +4,15 @@ ghost use Rattle.rc_core.specs.Programs as p;
 ghost use Rattle.rc_core.specs.Shapes.{place_of, inward as inward_step};
 ghost use Rattle.rc_deletes.specs.Expressions as rule;
 ghost use Rattle.rc_deletes.specs.Judged.{Holds};
-ghost use Rattle.rc_operators.specs.Shapes.{meant_of};
-ghost use Rattle.rc_operators.specs.Stops.{StopsAt};
+ghost use Rattle.rc_typed_values.specs.Shapes.{meant_of};
+ghost use Rattle.rc_typed_values.specs.Stops.{StopsAt};
 ghost use Rattle.rc_rules.specs.Shapes.{found_of};
 
 use crate::meanings::Found;
 use rc_core::expr::{PathStep, Place};
 use rc_deletes::Refusal;
-use rc_operators::{Meant, Stop, add, boxed, copy_of, fails};
 use rc_syntax::tree::Name;
+use rc_typed_values::{Meant, Stop, add, boxed, copy_of, fails};
 use std::alloc::Global;
 
 /// A place one step further in.

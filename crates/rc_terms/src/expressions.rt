@@ -5,8 +5,8 @@ ghost use Rattle.rc_core.specs.Shapes.{bytes_of};
 ghost use Rattle.rc_deletes.specs.Expressions as rule;
 ghost use Rattle.rc_deletes.specs.Judged.{Holds};
 ghost use Rattle.rc_deletes.specs.Values as values;
-ghost use Rattle.rc_operators.specs.Shapes.{typed_of, meant_of};
-ghost use Rattle.rc_operators.specs.Stops.{StopsAt};
+ghost use Rattle.rc_typed_values.specs.Shapes.{typed_of, meant_of};
+ghost use Rattle.rc_typed_values.specs.Stops.{StopsAt};
 ghost use Rattle.rc_syntax.specs.Shape as written;
 ghost use Rattle.rc_syntax.specs.Tree as t;
 ghost use Rattle.rc_defined.specs.Contexts.{context_in, scope_in};
@@ -17,9 +17,10 @@ use crate::nodes::{
 };
 use rc_core::ty::Signedness;
 use rc_defined::{Environment, meaning};
-use rc_operators::{Meant, Stop, Typed, add, as_value, cast_type};
+use rc_operators::cast_type;
 use rc_rules::{callee_rule, index_rule, indexed_part, name_rule, signedness, unary_meant};
 use rc_syntax::tree::{BinaryOp, CastType, Expr, Name, Spot, TypeName, UnaryOp};
+use rc_typed_values::{Meant, Stop, Typed, add, as_value};
 
 /// Where an expression begins.
 pub fn spot_of(e: &Expr) -> Spot

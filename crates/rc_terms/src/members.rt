@@ -4,8 +4,8 @@ ghost use Rattle.rc_core.specs.Shapes.{ty_of, place_of};
 ghost use Rattle.rc_deletes.specs.Expressions as rule;
 ghost use Rattle.rc_deletes.specs.Judged.{Holds};
 ghost use Rattle.rc_deletes.specs.Values.{a_place};
-ghost use Rattle.rc_operators.specs.Shapes.{typed_of, meant_of};
-ghost use Rattle.rc_operators.specs.Stops.{StopsAt};
+ghost use Rattle.rc_typed_values.specs.Shapes.{typed_of, meant_of};
+ghost use Rattle.rc_typed_values.specs.Stops.{StopsAt};
 ghost use Rattle.rc_defined.specs.Contexts.{context_of};
 ghost use Rattle.rc_terms.specs.Pointed.{struct_of, struct_behind};
 
@@ -13,9 +13,10 @@ use rc_core::expr::Place;
 use rc_core::ty::Ty;
 use rc_defined::Context;
 use rc_deletes::Refusal;
-use rc_operators::{Meant, Stop, Typed, fails, pointed};
+use rc_operators::pointed;
 use rc_rules::field_rule;
 use rc_syntax::tree::{Name, Spot};
+use rc_typed_values::{Meant, Stop, Typed, fails};
 use std::alloc::Global;
 
 /// The number of a struct.

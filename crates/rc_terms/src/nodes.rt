@@ -11,21 +11,22 @@ ghost use Rattle.rc_deletes.specs.Kinds.{sort_of};
 ghost use Rattle.rc_deletes.specs.Operators as operators;
 ghost use Rattle.rc_deletes.specs.Operators.{result as computed, meaning_of_value};
 ghost use Rattle.rc_deletes.specs.Values as values;
-ghost use Rattle.rc_operators.specs.Shapes.{typed_of, meant_of};
-ghost use Rattle.rc_operators.specs.Stops.{StopsAt};
+ghost use Rattle.rc_typed_values.specs.Shapes.{typed_of, meant_of};
+ghost use Rattle.rc_typed_values.specs.Stops.{StopsAt};
 ghost use Rattle.rc_rules.specs.Shapes.{callee_of};
 ghost use Rattle.rc_syntax.specs.Shape as written;
 ghost use Rattle.rc_defined.specs.Contexts.{context_of};
 
 use rc_core::ty::{NumberType, Signedness, Ty};
 use rc_defined::{Context, defined_type};
-use rc_operators::{Meant, Stop, Typed, add, binary_rule, cast_rule, conditional_rule};
+use rc_operators::{binary_rule, cast_rule, conditional_rule};
 use rc_rules::{
     Callee, allocation, array_allocation, call_value, eof_value, null_value, number_value,
     string_value,
 };
 use rc_syntax::tree::{BinaryOp, Spot, TypeName};
 use rc_syntax::word::Text;
+use rc_typed_values::{Meant, Stop, Typed, add};
 use std::alloc::Global;
 
 /// A number.

@@ -11,9 +11,7 @@ use rc_item_rules::{
     step_operator, takes_nothing, update_of,
 };
 use rc_operators::{
-    Meant, Stop, Typed, add, as_value, binary_rule, boxed, cast_rule, cast_type, change_of,
-    changed, condition_rule, conditional_rule, copy_of, fitted, refuse_where, same_type, starred,
-    unary_rule,
+    binary_rule, cast_rule, cast_type, change_of, changed, conditional_rule, unary_rule,
 };
 use rc_rules::{
     Callee, Found, Meaning, Signature, allocation, array_allocation, call_statement, call_value,
@@ -24,6 +22,10 @@ use rc_syntax::tree::{
     BinaryOp, CastType, Constant, Name, Note as WrittenNote, Spot, StepOp, UnaryOp,
 };
 use rc_syntax::word::Text;
+use rc_typed_values::{
+    Meant, Stop, Typed, add, as_value, boxed, condition_rule, copy_of, fitted, refuse_where,
+    same_type, starred,
+};
 use std::alloc::{AllocError, Global};
 use std::test::Fail;
 

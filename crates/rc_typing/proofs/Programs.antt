@@ -12,8 +12,8 @@ use Rattle.rc_deletes.specs.Judged.{Judged, Holds, with_part}
 use Rattle.rc_deletes.specs.Kinds.{place_of, number_or}
 use Rattle.rc_deletes.specs.Places.{deletes_faults}
 use Rattle.rc_deletes.specs.Scopes.{Context, structs_in}
-use Rattle.rc_operators.specs.declared.stop.Stop.{Stop}
-use Rattle.rc_operators.specs.Stops.{StopsAt}
+use Rattle.rc_typed_values.specs.declared.stop.Stop.{Stop}
+use Rattle.rc_typed_values.specs.Stops.{StopsAt}
 use Rattle.rc_defined.specs.declared.fields.NamedField.{NamedField}
 use Rattle.rc_defined.specs.Fields.{named_of}
 use Rattle.rc_items.specs.Outside.{all_made}

@@ -8,7 +8,7 @@ ghost use Rattle.rc_deletes.specs.Items.{main_name, judged};
 ghost use Rattle.rc_deletes.specs.Judged.{Holds};
 ghost use Rattle.rc_deletes.specs.Kinds.{place_of, number_or};
 ghost use Rattle.rc_deletes.specs.Scopes.{structs_in};
-ghost use Rattle.rc_operators.specs.Stops.{StopsAt};
+ghost use Rattle.rc_typed_values.specs.Stops.{StopsAt};
 ghost use Rattle.rc_syntax.specs.Shape as written;
 ghost use Rattle.rc_syntax.specs.Shape.{tree_of};
 ghost use Rattle.rc_syntax.specs.Tree as t;
@@ -25,8 +25,8 @@ use rc_deletes::{DeletesFault, Fault, Refusal, check_deletes};
 use rc_item_rules::{gives_int, main_shape, takes_nothing};
 use rc_items::{Whole, items};
 use rc_judgements::{fits_together, keeps_limits};
-use rc_operators::{Stop, add, copy_of};
 use rc_syntax::tree::{Item, Name, Param, Spot, Tree, TypeName};
+use rc_typed_values::{Stop, add, copy_of};
 use std::alloc::Global;
 
 const MAIN: &[u8] = b"main";

@@ -3,8 +3,8 @@ use Rattle.rc_syntax.specs.Shape.{local_of}
 use Rattle.rc_core.specs.Shapes.{ty_of, stmt_of}
 use Rattle.rc_core.specs.Programs as p
 use Rattle.rc_deletes.specs.Judged.{Judged, Holds, fitting}
-use Rattle.rc_operators.specs.Shapes.{typed_of}
-use Rattle.rc_operators.specs.Stops.{StopsAt}
+use Rattle.rc_typed_values.specs.Shapes.{typed_of}
+use Rattle.rc_typed_values.specs.Stops.{StopsAt}
 use Rattle.rc_defined.specs.Contexts.{context_of}
 use Rattle.rc_bodies.specs.Here.{here_of}
 use Rattle.rc_defined.proofs.Lists.{on_any}

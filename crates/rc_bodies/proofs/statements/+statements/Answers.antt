@@ -5,7 +5,7 @@ use Rattle.rc_syntax.specs.Tree as tree
 use Rattle.rc_syntax.proofs.Rows.{block_is}
 use Rattle.rc_deletes.specs.Judged.{Holds}
 use Rattle.rc_deletes.specs.Statements.{outside, behind_stmts, behind_stmt, stmt}
-use Rattle.rc_operators.specs.Stops.{StopsAt}
+use Rattle.rc_typed_values.specs.Stops.{StopsAt}
 use Rattle.rc_bodies.specs.Enclosing.{context_at, gives_at}
 use Rattle.rc_bodies.specs.declared.enclosing.Enclosing.{Enclosing}
 use Rattle.rc_bodies.specs.Here.{here_of}

@@ -4,10 +4,10 @@ use Rattle.rc_core.specs.Shapes.{bytes_of, stmt_of}
 use Rattle.rc_core.specs.Programs as p
 use Rattle.rc_deletes.specs.Judged.{Judged, Holds, fitting}
 use Rattle.rc_deletes.specs.Statements.{right_side}
-use Rattle.rc_operators.specs.Shapes.{meant_of}
+use Rattle.rc_typed_values.specs.Shapes.{meant_of}
 use Rattle.rc_item_rules.specs.Sides.{right_of}
 use Rattle.rc_item_rules.specs.Sizes.{TellSmall}
-use Rattle.rc_operators.specs.Stops.{StopsAt}
+use Rattle.rc_typed_values.specs.Stops.{StopsAt}
 use Rattle.rc_defined.specs.Contexts.{context_in, scope_in}
 use Rattle.rc_bodies.proofs.Assigned.{assign_is}
 use Rattle.rc_bodies.proofs.Cells.{tell_small}

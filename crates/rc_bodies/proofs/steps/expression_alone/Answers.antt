@@ -6,7 +6,7 @@ use Rattle.rc_core.specs.Programs as p
 use Rattle.rc_core.specs.Shapes.{bytes_of, stmt_of}
 use Rattle.rc_deletes.specs.Judged.{Judged, Holds}
 use Rattle.rc_deletes.specs.Statements.{expression_alone}
-use Rattle.rc_operators.specs.Stops.{StopsAt}
+use Rattle.rc_typed_values.specs.Stops.{StopsAt}
 use Rattle.rc_defined.specs.Contexts.{context_in, scope_in}
 use Rattle.rc_bodies.proofs.Alones.{alone_is}
 use Rattle.rc_bodies.proofs.steps.expression_alone.Goals as goal

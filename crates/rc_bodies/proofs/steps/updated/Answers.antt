@@ -5,8 +5,8 @@ use Rattle.rc_core.specs.Shapes.{bytes_of}
 use Rattle.rc_core.specs.Programs as p
 use Rattle.rc_deletes.specs.Judged.{Judged, fitting}
 use Rattle.rc_deletes.specs.Statements.{update_of}
-use Rattle.rc_operators.specs.Shapes.{typed_of, meant_of}
-use Rattle.rc_operators.specs.Stops.{StopsAt}
+use Rattle.rc_typed_values.specs.Shapes.{typed_of, meant_of}
+use Rattle.rc_typed_values.specs.Stops.{StopsAt}
 use Rattle.rc_defined.specs.Contexts.{context_in, scope_in}
 use Rattle.rc_bodies.proofs.Assigned.{update_is}
 use Rattle.rc_bodies.proofs.steps.updated.Goals as goal

@@ -1,6 +1,6 @@
 use Rattle.std.proofs.Common.{subst, sym, IfErr}
 use Rattle.rc_deletes.specs.Items as rule
-use Rattle.rc_operators.specs.Stops.{StopsAt}
+use Rattle.rc_typed_values.specs.Stops.{StopsAt}
 use Rattle.rc_defined.specs.Contexts.{context_of}
 use Rattle.rc_defined.proofs.by_value.value_base.Goals as goal
 

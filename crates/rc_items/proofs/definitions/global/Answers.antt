@@ -3,7 +3,7 @@ use Rattle.rc_syntax.specs.Shape as written
 use Rattle.rc_core.specs.Shapes.{ty_of}
 use Rattle.rc_deletes.specs.Judged.{Holds}
 use Rattle.rc_deletes.specs.Items as rule
-use Rattle.rc_operators.specs.Stops.{StopsAt}
+use Rattle.rc_typed_values.specs.Stops.{StopsAt}
 use Rattle.rc_defined.specs.Contexts.{context_of, scope_of}
 use Rattle.rc_items.specs.Outside.{outside_of}
 use Rattle.rc_items.proofs.Globals.{known_new, total_few, global_stops, global_held, global_behind}

@@ -2,7 +2,7 @@ use Rattle.std.proofs.Common.{sym, subst, rules, map}
 use Rattle.rc_syntax.specs.Shape.{param_of}
 use Rattle.rc_deletes.specs.Judged.{Judged}
 use Rattle.rc_deletes.specs.Items.{params_rule}
-use Rattle.rc_operators.specs.Stops.{StopsAt}
+use Rattle.rc_typed_values.specs.Stops.{StopsAt}
 use Rattle.rc_defined.specs.Contexts.{context_of}
 use Rattle.rc_bodies.specs.Here.{here_of}
 use Rattle.rc_items.proofs.Params.{param_stops}

@@ -1,7 +1,7 @@
 use Rattle.std.proofs.Common.{◌≡◌, ◌≤◌, length, drop, map}
 use Rattle.std.specs.Vec.Iter.{into_iter_items}
 use Rattle.rc_deletes.specs.Calls.{fitted_arguments}
-use Rattle.rc_operators.specs.Shapes.{typed_of}
+use Rattle.rc_typed_values.specs.Shapes.{typed_of}
 use Rattle.rc_rules.specs.Parameters.{parameters_of}
 use Rattle.rc_rules.specs.Shapes.{code_of}
 use Rattle.rc_rules.proofs.Arguments.{after}

@@ -5,8 +5,8 @@ use Rattle.rc_syntax.specs.Tree as tree
 use Rattle.rc_deletes.specs.Judged.{Judged, Holds}
 use Rattle.rc_deletes.specs.Expressions as rule
 use Rattle.rc_deletes.specs.Values.{Meant}
-use Rattle.rc_operators.specs.Shapes.{typed_of, meant_of}
-use Rattle.rc_operators.specs.Stops.{StopsAt}
+use Rattle.rc_typed_values.specs.Shapes.{typed_of, meant_of}
+use Rattle.rc_typed_values.specs.Stops.{StopsAt}
 use Rattle.rc_defined.specs.Contexts.{context_in, scope_in}
 use Rattle.rc_terms.proofs.Arms.{call_written, array_is, choice_is}
 use Rattle.rc_terms.proofs.expressions.+expressions.Goals as goal

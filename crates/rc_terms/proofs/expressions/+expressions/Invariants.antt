@@ -4,7 +4,7 @@ use Rattle.rc_syntax.specs.declared.tree.Expr.{size-Expr}
 use Rattle.rc_syntax.specs.Shape.{exprs_of}
 use Rattle.rc_core.specs.Shapes.{bytes_of}
 use Rattle.rc_deletes.specs.Expressions.{values, strings_in_all}
-use Rattle.rc_operators.specs.Shapes.{typed_of}
+use Rattle.rc_typed_values.specs.Shapes.{typed_of}
 use Rattle.rc_defined.specs.Contexts.{context_in, scope_in}
 use Rattle.rc_defined.proofs.Walks.{after}
 use Rattle.rc_terms.proofs.expressions.+expressions.Given as goal

@@ -2,7 +2,7 @@ use Rattle.std.proofs.Common.{◌≡◌, ap, sym, ◌∙◌, subst, map, rules}
 use Rattle.rc_core.specs.declared.parts.Parts.{Parts}
 use Rattle.rc_syntax.specs.Shape.{item_of, tree_of}
 use Rattle.rc_deletes.specs.Items as rule
-use Rattle.rc_operators.specs.Stops.{StopsAt}
+use Rattle.rc_typed_values.specs.Stops.{StopsAt}
 use Rattle.rc_defined.specs.Contexts.{context_of}
 use Rattle.rc_typing.proofs.Programs.{whole, items_stop}
 use Rattle.rc_typing.proofs.checking.parts_of.Goals as goal

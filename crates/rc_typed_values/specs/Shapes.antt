@@ -1,9 +1,9 @@
 -- What the parts that the rules of operators work on stand for in definitions.
 use Rattle.std.specs.Prelude.{option_map}
 use Rattle.rc_core.specs.Shapes.{ty_of, expr_of, place_of}
-use Rattle.rc_operators.specs.declared.meanings.Typed.{Typed as CodeTyped}
-use Rattle.rc_operators.specs.declared.meanings.Meant.{Meant as CodeMeant}
-use Rattle.rc_operators.specs.declared.meanings.Meant.TheVariants.{Value, Variable, Place, Array}
+use Rattle.rc_typed_values.specs.declared.meanings.Typed.{Typed as CodeTyped}
+use Rattle.rc_typed_values.specs.declared.meanings.Meant.{Meant as CodeMeant}
+use Rattle.rc_typed_values.specs.declared.meanings.Meant.TheVariants.{Value, Variable, Place, Array}
 use Rattle.rc_deletes.specs.Values.{Typed, Meant, a_value, a_variable, a_place, an_array}
 
 abbrev pub typed_of : CodeTyped → Typed

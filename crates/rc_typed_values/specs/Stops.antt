@@ -1,8 +1,8 @@
 -- Where a walk stops, that visits the parts of a node before the node.
 use Rattle.std.specs.Prelude.{◌≡◌, Some}
 use Rattle.rc_deletes.specs.Judged.{Judged, first_fault}
-use Rattle.rc_operators.specs.declared.stop.Stop.{Stop}
-use Rattle.rc_operators.specs.declared.stop.Stop.TheVariants.{Rule, Memory}
+use Rattle.rc_typed_values.specs.declared.stop.Stop.{Stop}
+use Rattle.rc_typed_values.specs.declared.stop.Stop.TheVariants.{Rule, Memory}
 
 -- at the first violation, or out of memory
 abbrev pub StopsAt : {A : Type 0} → Judged A → Stop → Type 0

@@ -74,7 +74,7 @@ fn same_value_type(a: &Ty, b: &Ty) -> bool
 }
 
 /// Whether two values have one type. The word `NULL` has none.
-pub(crate) fn same_types(a: &Option<Ty>, b: &Option<Ty>) -> bool
+pub fn same_types(a: &Option<Ty>, b: &Option<Ty>) -> bool
     ensures { result ≡ rule.same_types (option_map ty_of a.now) (option_map ty_of b.now) }
 {
     match (a, b) {

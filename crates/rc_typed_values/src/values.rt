@@ -6,8 +6,8 @@ ghost use Rattle.rc_core.specs.Typing as typing;
 ghost use Rattle.rc_deletes.specs.Judged.{Holds};
 ghost use Rattle.rc_deletes.specs.Kinds.{sort_of_type};
 ghost use Rattle.rc_deletes.specs.Values as rule;
-ghost use Rattle.rc_operators.specs.Shapes.{typed_of, meant_of};
-ghost use Rattle.rc_operators.specs.Stops.{StopsAt, IsRule};
+ghost use Rattle.rc_typed_values.specs.Shapes.{typed_of, meant_of};
+ghost use Rattle.rc_typed_values.specs.Stops.{StopsAt, IsRule};
 
 use crate::kinds;
 use crate::meanings::{Meant, Typed};
@@ -80,7 +80,7 @@ pub fn as_value(alloc: Global, at: Spot, meant: Meant) -> Result<Typed, Stop>
 /// # Errors
 ///
 /// Out of memory.
-pub(crate) fn converted(
+pub fn converted(
     alloc: Global,
     from: NumberType,
     to: NumberType,
@@ -106,7 +106,7 @@ pub(crate) fn converted(
 }
 
 /// What a number is computed in by itself (ISO C 6.3.1.1).
-pub(crate) fn promoted(from: NumberType) -> Signedness
+pub fn promoted(from: NumberType) -> Signedness
     ensures { result ≡ typing.promoted from }
 {
     match from {
@@ -117,7 +117,7 @@ pub(crate) fn promoted(from: NumberType) -> Signedness
 }
 
 /// What two numbers are computed in (ISO C 6.3.1.8).
-pub(crate) fn met(a: NumberType, b: NumberType) -> Signedness
+pub fn met(a: NumberType, b: NumberType) -> Signedness
     ensures { result ≡ rule.met a b }
 {
     match promoted(a) {
@@ -131,7 +131,7 @@ pub(crate) fn met(a: NumberType, b: NumberType) -> Signedness
 /// # Errors
 ///
 /// Out of memory.
-pub(crate) fn in_arithmetic(
+pub fn in_arithmetic(
     alloc: Global,
     from: NumberType,
     signedness: Signedness,
@@ -181,7 +181,7 @@ pub fn fitted(alloc: Global, wanted: &Ty, v: Typed) -> Result<Option<Box<Expr>>,
 }
 
 /// Whether a condition may look at values of a sort.
-pub(crate) fn is_truthy(sort: Sort) -> bool
+pub fn is_truthy(sort: Sort) -> bool
     ensures { result ≡ rule.is_truthy sort }
 {
     matches!(sort, Sort::Number(_) | Sort::Region | Sort::Pointer)

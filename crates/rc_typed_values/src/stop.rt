@@ -14,7 +14,7 @@ pub enum Stop {
 }
 
 impl From<AllocError> for Stop {
-    ghost use Rattle.rc_operators.specs.declared.stop.Stop.TheVariants.{Memory};
+    ghost use Rattle.rc_typed_values.specs.declared.stop.Stop.TheVariants.{Memory};
 
     ghost from_gives = { λ _ stop. stop ≡ Memory };
 
@@ -24,7 +24,7 @@ impl From<AllocError> for Stop {
 }
 
 impl<T: Drop> From<AllocFailed<T>> for Stop {
-    ghost use Rattle.rc_operators.specs.declared.stop.Stop.TheVariants.{Memory};
+    ghost use Rattle.rc_typed_values.specs.declared.stop.Stop.TheVariants.{Memory};
 
     ghost from_gives = { λ _ stop. stop ≡ Memory };
 
@@ -34,7 +34,7 @@ impl<T: Drop> From<AllocFailed<T>> for Stop {
 }
 
 impl From<NoMemory> for Stop {
-    ghost use Rattle.rc_operators.specs.declared.stop.Stop.TheVariants.{Memory};
+    ghost use Rattle.rc_typed_values.specs.declared.stop.Stop.TheVariants.{Memory};
 
     ghost from_gives = { λ _ stop. stop ≡ Memory };
 
