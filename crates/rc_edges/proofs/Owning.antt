@@ -139,7 +139,7 @@ module _ (f : Routine) (temporaries points : ℕ) where
   given_below false h l = tt {0}
 
   module _ (r : Rlang) where
-    operation_below : (h : ℕ) (ty : Ty) (op : Operation) → h < temporaries → h + length (operands ty op) ≤ temporaries → OperationStands r f.locals f.result op → OperationKinded f.locals (object_type r) (result_type r) ty op → EffectBelow top (operation_effect f h ty op)
+    operation_below : (h : ℕ) (ty : Ty) (op : Operation) → h < temporaries → h + length (operands ty op) ≤ temporaries → OperationStands r f.locals f.result ty op → OperationKinded f.locals (object_type r) (result_type r) ty op → EffectBelow top (operation_effect f h ty op)
     operation_below h ty null l m s k = temporary_less h l
     operation_below h ty (static object) l m s k = temporary_less h l
     operation_below h ty (copy x) l m s k = by_kind (is_regional ty) (moved (temporary_variable f h) (local_variable f x)) (λ e. (temporary_less h l, local_less x s (sym (regional_kind (get_or f.locals x int)) ∙ ap is_regional (sym k) ∙ regional_kind ty ∙ e)))

@@ -62,7 +62,7 @@ module _ (r : Rlang) (f : Routine) where
   called_fits : (g : ℕ) (tys : List Ty) (gives : Bool) (h : ℕ) → IsCalled r g tys gives → CallOf r g (regional_arguments f tys h)
   called_fits g tys gives h is = record { routine = is.0; there = is.1.0; each = regional_count tys h ∙ ap (count_by is_regional) is.1.1 }
 
-  operation_fits : (h : ℕ) (ty : Ty) (op : Operation) → OperationStands r f.locals f.result op → EffectFits (operation_effect f h ty op)
+  operation_fits : (h : ℕ) (ty : Ty) (op : Operation) → OperationStands r f.locals f.result ty op → EffectFits (operation_effect f h ty op)
   operation_fits h ty null s = tt {0}
   operation_fits h ty (static object) s = tt {0}
   operation_fits h ty (copy x) s = by_kind (is_regional ty) (moved (temporary_variable f h) (local_variable f x)) (tt {0})

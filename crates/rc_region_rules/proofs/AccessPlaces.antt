@@ -13,6 +13,7 @@ use Rattle.rc_kinds.proofs.Zips.{Stands, stands_itself, stands_within}
 use Rattle.rc_kinds.proofs.Paths.{field_stands, element_stands}
 use Rattle.rc_translation.specs.Translation.{pointee, expression_type, signedness, global_type, place_type, path_access, first_access, access, region_of_program}
 use Rattle.rc_translation.proofs.TypesFound.{types_are, place_is}
+use Rattle.rc_region_rules.proofs.Nesting.{place_nested}
 
 behind_front : {A : Type 0} (xs ys : List A) → drop (length xs) (xs ++ ys) ≡ ys
 behind_front [] ys = refl
@@ -97,7 +98,10 @@ module _ (program : Program) (locals : List Ty) (fit : StructsFit program.struct
   cell_type place t w = cell_is place ∙ place_is program locals place t w
 
   pub access_stands : (place : Place) (t : Ty) → IsPlace program locals place t → AccessStands (region_of_program program) (access program locals place)
-  access_stands place t w chosen ok =
-      let s = place_leads place t w chosen ok in
-      let a = access program locals place in
-      subst (λ v. HasThere program.structs (cells program.structs a.element) (a.offset + cells_before a.indices chosen) v) (sym (cell_type place t w)) (has_there _ _ _ s)
+  access_stands place t w = record {
+    nested = place_nested program locals fit place t w;
+    there = λ chosen ok.
+        let s = place_leads place t w chosen ok in
+        let a = access program locals place in
+        subst (λ v. HasThere program.structs (cells program.structs a.element) (a.offset + cells_before a.indices chosen) v) (sym (cell_type place t w)) (has_there _ _ _ s);
+  }

@@ -10,6 +10,7 @@ use Rattle.rc_core.specs.WellTyped.{IsWellTyped}
 use Rattle.rc_rlang.specs.Bounds.{IsWithinBounds}
 use Rattle.rc_rlang.specs.IsRlang.{RoutineFits}
 use Rattle.rc_rlang.specs.RegionCode.{Routine}
+use Rattle.rc_rlang.specs.RegionVariables.{routine_variables}
 use Rattle.rc_rlang.specs.RegionNames.{object_type, given_type, routine_type, result_type}
 use Rattle.rc_translation.specs.Translation.{routine_of, region_of_program}
 use Rattle.rc_translation.proofs.Counted.{points_are_counted}
@@ -18,6 +19,7 @@ use Rattle.rc_region_rules.specs.Keeps.{FitsTogether}
 use Rattle.rc_region_rules.proofs.Kinding.{statement_agrees}
 use Rattle.rc_region_rules.proofs.Standing.{statement_stands}
 use Rattle.rc_region_rules.proofs.VariablesCounted.{has_its_variables}
+use Rattle.rc_region_rules.proofs.Whole.{IsWholeRoutine, IsWhole}
 
 pub global_there : (gs : List Global) (ys : List Ty) (g : ℕ) (d : Global) → slice_get gs g ≡ Some d → get_or (map (λ (d : Global). d.ty) gs ++ ys) g int ≡ d.ty
 global_there [] ys g d e = absurd (cc e)
@@ -54,9 +56,9 @@ origin program [] k r e = absurd (cc e)
 origin program (f ∷ fs) zero r e = (f, (refl, cc))
 origin program (f ∷ fs) (suc k) r e = origin program fs k r e
 
-module _ (program : Program) (well : IsWellTyped program) (bounds : IsWithinBounds program) where
-  function_fits : (k : ℕ) (f : Function) → slice_get program.functions k ≡ Some f → RoutineFits (region_of_program program) (routine_of program f)
-  function_fits k f there =
+module _ (program : Program) (well : IsWellTyped program) where
+  function_whole : (k : ℕ) (f : Function) → slice_get program.functions k ≡ Some f → IsWholeRoutine (region_of_program program) (routine_of program f)
+  function_whole k f there =
       let fits = well.functions k f there in
       record {
         parameters = fits.parameters;
@@ -68,22 +70,41 @@ module _ (program : Program) (well : IsWellTyped program) (bounds : IsWithinBoun
             (global_there program.globals (map (λ (bytes : List ℕ). char) program.strings))
             (λ k lt. behind_globals program.globals (map (λ (bytes : List ℕ). char) program.strings) k ∙ all_char program.strings k lt)
             (result_there program) false f.body fits.body;
-        stands = statement_stands program f well.structs false f.body fits.body;
-        narrow = subst (λ n. n ≤ most_variables) (sym (has_its_variables program f)) (bounds.narrow k f there);
+        stands = statement_stands program well f fits false f.body fits.body;
       }
 
-  routine_fits : (k : ℕ) (r : Routine) → slice_get (map (routine_of program) program.functions) k ≡ Some r → RoutineFits (region_of_program program) r
-  routine_fits k r e = let o = origin program program.functions k r e in subst (RoutineFits (region_of_program program)) o.1.1 (function_fits k o.0 o.1.0)
+  routine_whole : (k : ℕ) (r : Routine) → slice_get (map (routine_of program) program.functions) k ≡ Some r → IsWholeRoutine (region_of_program program) r
+  routine_whole k r e = let o = origin program program.functions k r e in subst (IsWholeRoutine (region_of_program program)) o.1.1 (function_whole k o.0 o.1.0)
 
-  pub fits_together : FitsTogether program
-  fits_together = record {
+  -- within bounds or not
+  pub program_is_whole : IsWhole (region_of_program program)
+  program_is_whole = record {
     structs = well.structs;
     globals = well.globals;
-    all_globals = well.all_globals;
-    number_of_strings = well.number_of_strings;
-    strings = well.strings;
-    bytes = well.bytes;
-    functions = routine_fits;
+    functions = routine_whole;
     main = (routine_of program well.main.0, (routine_there program program.main well.main.0 well.main.1.0, well.main.1.1, well.main.1.2));
-    few_points = subst (λ n. n ≤ most_points) (sym (points_are_counted program)) bounds.few_points;
   }
+
+  module _ (bounds : IsWithinBounds program) where
+    routine_narrow : (k : ℕ) (r : Routine) → slice_get (map (routine_of program) program.functions) k ≡ Some r → routine_variables r ≤ most_variables
+    routine_narrow k r e =
+        let o = origin program program.functions k r e in
+        subst (λ (f : Routine). routine_variables f ≤ most_variables) o.1.1 (subst (λ n. n ≤ most_variables) (sym (has_its_variables program o.0)) (bounds.narrow k o.0 o.1.0))
+
+    routine_fits : (k : ℕ) (r : Routine) → slice_get (map (routine_of program) program.functions) k ≡ Some r → RoutineFits (region_of_program program) r
+    routine_fits k r e =
+        let whole = routine_whole k r e in
+        record { parameters = whole.parameters; locals = whole.locals; result = whole.result; in_order = whole.in_order; kinded = whole.kinded; stands = whole.stands; narrow = routine_narrow k r e }
+
+    pub fits_together : FitsTogether program
+    fits_together = record {
+      structs = well.structs;
+      globals = well.globals;
+      all_globals = well.all_globals;
+      number_of_strings = well.number_of_strings;
+      strings = well.strings;
+      bytes = well.bytes;
+      functions = routine_fits;
+      main = program_is_whole.main;
+      few_points = subst (λ n. n ≤ most_points) (sym (points_are_counted program)) bounds.few_points;
+    }

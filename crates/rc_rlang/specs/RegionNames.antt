@@ -1,11 +1,14 @@
--- What region code names is there. A local, a function, an object of region 0 and a struct have the numbers of such as there are; a
--- constant is of its type; a call names the types of its function's parameters, and a call for a value is of a function that gives one.
--- What is loaded or stored is one cell of the element that the pointer points to: whichever elements of its array fields are chosen, the
--- cells there are those of the type that is named, annotations included. What is compared with null or looked up is a pointer or a
--- region, and what is negated a number. A break and a continue stand in a loop, and none stands in what runs behind a loop's body.
+-- What region code names is there. A local, a function, an object of region 0 and a struct have the numbers of such as there are, also
+-- where only the type of a NULL names them; a constant is of its type; a call names the types of its function's parameters, and a call for
+-- a value is of a function that gives one. What is loaded or stored is one cell of the element that the pointer points to: its array
+-- fields have elements and cells, and lie in the element, each in one element of that before it; and whichever elements are chosen, the
+-- cells there are those of the type that is named, annotations included. What is compared with null or looked up is a pointer or a region,
+-- what is negated a number, and a unary `+` is no operation. A break and a continue stand in a loop, and none stands in what runs behind a
+-- loop's body.
 use Rattle.std.specs.Prelude.{◌≡◌, ◌<◌, ◌≤◌, ℕ, ◌+◌, ◌*◌, Bool, true, false, not, IsTrue, List, [], ◌∷◌, ◌++◌, length, map, take, drop as behind, get_or, slice_get, Option, Some, None, is_some, option_map}
 use Rattle.rc_base.specs.Limits.{most_copied_cells}
 use Rattle.rc_core.specs.declared.ty.NumberType.{NumberType}
+use Rattle.rc_core.specs.declared.operators.UnaryOperator.TheVariants.{Plus}
 use Rattle.rc_core.specs.declared.stmt.Change.{Change}
 use Rattle.rc_core.specs.declared.stmt.Change.TheVariants.{Compute, Step as Stepping}
 use Rattle.rc_core.specs.Arithmetic.{type_of}
@@ -13,7 +16,12 @@ use Rattle.rc_core.specs.Types.{Ty, int, char, struct}
 use Rattle.rc_core.specs.Layout.{Layout, cells, size}
 use Rattle.rc_core.specs.Typing.{fits, number, value_type, is_pointer, is_reference, is_struct, IsDefined}
 use Rattle.rc_core.specs.Programs.{Struct, Global}
-use Rattle.rc_rlang.specs.RegionCode.{Index, Access, Operation, constant, static, copy, load, step, step_from, convert, not_zero, is_null, same, call, region_of, allocate, allocate_array, Step, set, fork, Steps, none, more, Act, drop, perform, assign, store, update, move, delete, leave, Code, simple, clear, block, branch, loop, repeat, break, continue, Codes, done, then, Routine, Rlang}
+use Rattle.rc_rlang.specs.RegionCode.{Index, Access, Operation, constant, null, static, copy, load, step, step_from, unary, convert, not_zero, is_null, same, call, region_of, allocate, allocate_array, Step, set, fork, Steps, none, more, Act, drop, perform, assign, store, update, move, delete, leave, Code, simple, clear, block, branch, loop, repeat, break, continue, Codes, done, then, Routine, Rlang}
+
+-- array fields one within another, the outermost first: each has elements, these have cells, and all of them lie in so many
+abbrev pub AreNested : (room : ℕ) → List Index → Type 0
+AreNested room [] = Unit {0}
+AreNested room (i ∷ is) = (1 ≤ i.count) × (1 ≤ i.stride) × (i.count * i.stride ≤ room) × AreNested i.stride is
 
 -- an element of each array field
 abbrev pub AreElements : List Index → List ℕ → Type 0
@@ -48,8 +56,9 @@ abbrev pub result_type : Rlang → ℕ → Ty
 result_type r f = routine_type (slice_get r.functions f)
 
 module _ (r : Rlang) where
-  abbrev pub AccessStands : Access → Type 0
-  AccessStands a = (chosen : List ℕ) → AreElements a.indices chosen → HasThere r.structs (cells r.structs a.element) (a.offset + cells_before a.indices chosen) a.cell
+  pub record AccessStands (a : Access) : Type 0 where
+    pub nested : AreNested (size r.structs a.element) a.indices
+    pub there : (chosen : List ℕ) → AreElements a.indices chosen → HasThere r.structs (cells r.structs a.element) (a.offset + cells_before a.indices chosen) a.cell
 
   -- of one cell
   abbrev pub CellStands : Access → Type 0
@@ -61,26 +70,28 @@ module _ (r : Rlang) where
 
   -- of a function with these locals and this result
   module _ (locals : List Ty) (result : Option Ty) where
-    abbrev pub OperationStands : Operation → Type 0
-    OperationStands (constant s n) = IsTrue (fits (type_of s) n)
-    OperationStands (static g) = g < length r.globals + length r.strings
-    OperationStands (copy x) = x < length locals
-    OperationStands (load a) = CellStands a
-    OperationStands (step direction pointed n) = IsTrue (is_pointer pointed)
-    OperationStands (step_from n pointed) = IsTrue (is_pointer pointed)
-    OperationStands (convert from to) = ¬ (from ≡ to)
-    OperationStands (not_zero of) = (k : NumberType) × (of ≡ number k)
-    OperationStands (is_null wanted of) = IsTrue (is_reference of)
-    OperationStands (same wanted of) = IsTrue (is_reference of)
-    OperationStands (call f tys) = IsCalled f tys true
-    OperationStands (region_of of) = IsTrue (is_pointer of)
-    OperationStands (allocate made layout) = IsDefined r.structs made × (layout ≡ cells r.structs made)
-    OperationStands (allocate_array made layout) = IsDefined r.structs made × (layout ≡ cells r.structs made)
-    OperationStands op = Unit {0}
+    abbrev pub OperationStands : (value : Ty) → Operation → Type 0
+    OperationStands ty (constant s n) = IsTrue (fits (type_of s) n)
+    OperationStands ty null = IsDefined r.structs ty
+    OperationStands ty (static g) = g < length r.globals + length r.strings
+    OperationStands ty (copy x) = x < length locals
+    OperationStands ty (load a) = CellStands a
+    OperationStands ty (step direction pointed n) = IsTrue (is_pointer pointed)
+    OperationStands ty (step_from n pointed) = IsTrue (is_pointer pointed)
+    OperationStands ty (unary operator s) = ¬ (operator ≡ Plus)
+    OperationStands ty (convert from to) = ¬ (from ≡ to)
+    OperationStands ty (not_zero of) = (k : NumberType) × (of ≡ number k)
+    OperationStands ty (is_null wanted of) = IsTrue (is_reference of)
+    OperationStands ty (same wanted of) = IsTrue (is_reference of)
+    OperationStands ty (call f tys) = IsCalled f tys true
+    OperationStands ty (region_of of) = IsTrue (is_pointer of)
+    OperationStands ty (allocate made layout) = IsDefined r.structs made × (layout ≡ cells r.structs made)
+    OperationStands ty (allocate_array made layout) = IsDefined r.structs made × (layout ≡ cells r.structs made)
+    OperationStands ty op = Unit {0}
 
     abbrev mutual
       pub StepStands : Step → Type 0
-      StepStands (set line h ty op) = OperationStands op
+      StepStands (set line h ty op) = OperationStands ty op
       StepStands (fork line h test result a b) = StepsStand a × StepsStand b
 
       pub StepsStand : Steps → Type 0

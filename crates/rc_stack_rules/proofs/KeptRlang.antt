@@ -1,17 +1,19 @@
 -- What region code whose parts fit together becomes keeps a loader's rules: its locals are there, and its types agree also beside the
 -- locals that emission adds.
-use Rattle.std.proofs.Common.{◌≡◌, ◌<◌, ℕ, zero, suc, Bool, false, true, List, [], ◌∷◌, ◌++◌, length, Some, refl, sym, ap, ◌∙◌, arith}
-use Rattle.std.specs.Prelude.{Option, slice_get, get_or}
+use Rattle.std.proofs.Common.{◌≡◌, ◌<◌, ℕ, zero, suc, Bool, false, true, List, [], ◌∷◌, ◌++◌, length, refl, sym, ap, ◌∙◌, arith}
+use Rattle.std.specs.Prelude.{Option, get_or}
 use Rattle.rc_core.specs.declared.stmt.Change.TheVariants.{Compute, Step as Stepping}
 use Rattle.rc_core.specs.Types.{Ty, int}
 use Rattle.rc_kinds.proofs.Zips.{below_slice}
 use Rattle.rc_rlang.specs.IsRlang.{IsRlang}
 use Rattle.rc_rlang.specs.RegionCode as From
 use Rattle.rc_rlang.specs.RegionCode.{Operation, Step, Steps, Act, Code, Codes, Routine, Rlang}
+use Rattle.rc_rlang.specs.RegionFits.{CodeFits}
 use Rattle.rc_rlang.specs.RegionKinds.{kind_ty, OperationKinded, StepKinded, StepsKinded, ActKinded, CodeKinded, CodesKinded}
 use Rattle.rc_rlang.specs.RegionNames.{object_type, result_type, OperationStands, StepStands, StepsStand, ActStands, CodeStands, CodesStand}
 use Rattle.rc_emission.specs.Served.{OperationServed, StepNames, StepsName, CodeNames, CodesName}
 use Rattle.rc_emission.specs.KeptOperands.{slots_of}
+use Rattle.rc_stack_rules.specs.Loadable.{IsInOrder}
 use Rattle.rc_stack_rules.specs.Named.{RlangKeepsRules}
 use Rattle.rc_stack_rules.specs.Named.{ActSets, CodeSets, CodesSet}
 use Rattle.rc_stack_rules.proofs.Loading.{keeps_rules}
@@ -23,7 +25,7 @@ in_front (t ∷ xs) ys zero lt = refl
 in_front (t ∷ xs) ys (suc x) lt = in_front xs ys x (omega (arith, lt))
 
 module _ (r : Rlang) (locals : List Ty) (result : Option Ty) where
-  operation_served : (op : Operation) (ty : Ty) → OperationStands r locals result op → OperationServed locals ty op
+  operation_served : (op : Operation) (ty : Ty) → OperationStands r locals result ty op → OperationServed locals ty op
   operation_served (From.constant sign n) ty s = tt
   operation_served From.null ty s = tt
   operation_served (From.static g) ty s = tt
@@ -97,7 +99,7 @@ module _ (r : Rlang) (locals : List Ty) (result : Option Ty) where
     codes_set looping (From.then c rest) s = (code_sets looping c s.0, codes_set looping rest s.1)
 
 module _ (r : Rlang) (locals more : List Ty) (result : Option Ty) (global_ty result_ty : ℕ → Ty) where
-  operation_kinded : (op : Operation) (ty : Ty) → OperationStands r locals result op → OperationKinded locals global_ty result_ty ty op → OperationKinded (locals ++ more) global_ty result_ty ty op
+  operation_kinded : (op : Operation) (ty : Ty) → OperationStands r locals result ty op → OperationKinded locals global_ty result_ty ty op → OperationKinded (locals ++ more) global_ty result_ty ty op
   operation_kinded (From.constant sign n) ty s k = k
   operation_kinded From.null ty s k = k
   operation_kinded (From.static g) ty s k = k
@@ -156,10 +158,15 @@ module _ (r : Rlang) (locals more : List Ty) (result : Option Ty) (global_ty res
     codes_kinded looping From.done s k = tt
     codes_kinded looping (From.then c rest) s k = (code_kinded looping c s.0 k.0, codes_kinded looping rest s.1 k.1)
 
+module _ (r : Rlang) (f : Routine) (stands : CodeStands r f.locals f.result false f.body) where
+  pub routine_in_order : CodeFits f.body → CodeKinded f.locals (object_type r) (result_type r) f.body → IsInOrder (object_type r) (result_type r) f
+  routine_in_order fits kinded = (fits, code_names r f.locals f.result false f.body stands, code_kinded r f.locals (slots_of f).types f.result (object_type r) (result_type r) false f.body stands kinded)
+
+  pub routine_sets : CodeSets f.locals f.body
+  routine_sets = code_sets r f.locals f.result false f.body stands
+
 pub rlang_keeps_rules : (r : Rlang) → IsRlang r → RlangKeepsRules r
 rlang_keeps_rules r fits k f there =
     let own = fits.functions k f there in
-    let names = code_names r f.locals f.result false f.body own.stands in (
-      keeps_rules (object_type r) (result_type r) f (own.in_order, names, code_kinded r f.locals (slots_of f).types f.result (object_type r) (result_type r) false f.body own.stands own.kinded),
-      names_locals f (own.in_order, names, code_sets r f.locals f.result false f.body own.stands),
-    )
+    let ordered = routine_in_order r f own.stands own.in_order own.kinded in
+    (keeps_rules (object_type r) (result_type r) f ordered, names_locals f (ordered.0, ordered.1, routine_sets r f own.stands))
