@@ -16,7 +16,7 @@ use Rattle.rc_core.specs.Types.{Ty, int, unsigned, char, region, struct, pointer
 use Rattle.rc_core.specs.Layout.{Layout, cells, size}
 use Rattle.rc_core.specs.Typing.{fits}
 use Rattle.rc_core.specs.Programs.{Global}
-use Rattle.rc_core.specs.WellTyped.{IsVariable, IsInitial, GlobalFits as SourceGlobalFits, elements, global_size}
+use Rattle.rc_core.specs.WellTyped.{IsInitial, GlobalFits as SourceGlobalFits, elements, global_size}
 use Rattle.rc_kinds.proofs.InRange.{less_is}
 use Rattle.rc_safety.proofs.Lists.{every_append}
 use Rattle.rc_rlang.specs.RegionCode.{Access, Routine, Rlang}
@@ -45,7 +45,8 @@ use Rattle.rc_numbering.specs.Sayable.{AccessFits, Sayable, AllSayable}
 use Rattle.rc_numbering.specs.Means.{IsNumberable}
 use Rattle.rc_numbering.proofs.Tabled.{path_self, every_entry, every_before, every_behind, every_of_one, get_mapped}
 use Rattle.rc_numbering.proofs.Rights.{layout_found}
-use Rattle.rc_numbering.proofs.Placed.{some_cell, few_cells}
+use Rattle.rc_region_rules.proofs.Nesting.{some_cell}
+use Rattle.rc_numbering.proofs.Placed.{few_cells}
 use Rattle.rc_numbering.proofs.Programs.{routine_in, code_in, function_said}
 use Rattle.rc_image_rules.specs.Small.{FunctionIsSmall, IsSmall}
 use Rattle.rc_image_rules.proofs.Rows.{length_mapped, F, objects_count}

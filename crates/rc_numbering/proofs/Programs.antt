@@ -1,32 +1,31 @@
 -- The image of region code does what its stack code does, and that of a typed program's region code what the program does.
-use Rattle.std.proofs.Common.{◌≡◌, ◌<◌, ◌≤◌, ℕ, zero, suc, ◌+◌, false, List, [], ◌∷◌, ◌++◌, length, map, flat_map, get_or, Option, Some, None, inl, refl, sym, ap, ◌∙◌, subst, arith}
+use Rattle.std.proofs.Common.{◌≡◌, ◌≤◌, ℕ, zero, suc, ◌+◌, false, List, [], ◌∷◌, ◌++◌, length, map, flat_map, get_or, Option, Some, None, inl, refl, sym, ap, ◌∙◌, subst, arith}
 use Rattle.std.specs.Prelude.{IfSome, slice_get, take}
 use Rattle.std.specs.Option.{option_map}
 use Rattle.std.specs.List.{AllByRecursion as Every}
 use Rattle.std.proofs.lemmas.Option.{slice_get-map}
 use Rattle.rc_base.specs.declared.ends.Limits.{Limits}
-use Rattle.rc_core.specs.Types.{Ty, int, char}
+use Rattle.rc_core.specs.Types.{Ty, char}
 use Rattle.rc_core.specs.Heap.{Value}
-use Rattle.rc_core.specs.Typing.{value_type}
-use Rattle.rc_core.specs.Programs.{Function, Global, Program}
+use Rattle.rc_core.specs.Programs.{Global, Program}
 use Rattle.rc_core.specs.WellTyped.{IsVariable, IsWellTyped}
 use Rattle.rc_core.specs.Runs.{Run, Go, Stopped, bind}
 use Rattle.rc_core.specs.Meaning.{first_world, meaning_of_run, left_by_run}
+use Rattle.rc_rlang.specs.IsRlang.{IsRlang}
 use Rattle.rc_rlang.specs.RegionCode.{Routine, Rlang}
 use Rattle.rc_rlang.specs.RegionRuns.{deletes, sized}
 use Rattle.rc_rlang.specs.RegionRuns as Source
-use Rattle.rc_translation.specs.Translation.{routine_of, region_of_program}
-use Rattle.rc_translation.proofs.StatementFitting.{statement_fits}
+use Rattle.rc_translation.specs.Translation.{region_of_program}
 use Rattle.rc_emission.specs.StackCode.{Line, run_function, stack_calls}
 use Rattle.rc_emission.specs.KeptOperands.{same_type, slots_of, stack_code}
 use Rattle.rc_emission.specs.ProgramsMean.{stack_run}
-use Rattle.rc_emission.proofs.Naming.{statement_names}
 use Rattle.rc_emission.proofs.Programs.{program_means, program_leaves}
 use Rattle.rc_stack_rules.specs.LoaderRules.{IsLoadable}
 use Rattle.rc_stack_rules.specs.Loadable.{all_locals}
-use Rattle.rc_region_rules.proofs.Kinding.{statement_agrees}
+use Rattle.rc_region_rules.proofs.Whole.{IsWholeRoutine, IsWhole, rlang_is_whole}
+use Rattle.rc_region_rules.proofs.Theorem.{program_is_whole}
 use Rattle.rc_stack_rules.proofs.Loading.{keeps_rules}
-use Rattle.rc_stack_rules.proofs.NamedLocals.{has_locals}
+use Rattle.rc_stack_rules.proofs.KeptRlang.{routine_in_order, routine_sets}
 use Rattle.rc_code.specs.Running.{Doing, function_at, first_locals, rounds, calls_within}
 use Rattle.rc_code.specs.declared.image.Function.{Function as ImageFunction}
 use Rattle.rc_numbering.specs.Tables.{IsIn}
@@ -34,12 +33,12 @@ use Rattle.rc_numbering.specs.Names.{types_of, program_names, code_names, routin
 use Rattle.rc_numbering.specs.Numbered.{function_of, type_in, path_in}
 use Rattle.rc_numbering.specs.Sayable.{IsCalled, AllSayable}
 use Rattle.rc_numbering.specs.Waits.{Waiting}
-use Rattle.rc_rlang.specs.RegionNames.{object_type, given_type, routine_type, result_type}
+use Rattle.rc_rlang.specs.RegionNames.{object_type, result_type}
 use Rattle.rc_numbering.specs.Means.{view_of, ResultDefined, FunctionFits, IsNumberable, IsPlain, ImageMeansTheSame, without_marks, view_run, ViewMeansTheSame, ViewLeavesTheSame}
 use Rattle.rc_numbering.proofs.Kept.{calls_keep}
 use Rattle.rc_numbering.proofs.Same.{code_same}
 use Rattle.rc_numbering.proofs.Lines.{body_said}
-use Rattle.rc_numbering.proofs.Said.{statement_said}
+use Rattle.rc_numbering.proofs.Said.{code_said}
 use Rattle.rc_numbering.proofs.Tabled.{type_self, path_self, all_in, every_behind, every_of_one}
 use Rattle.rc_numbering.proofs.Rights.{function_found, parameters_found, locals_same, all_right}
 use Rattle.rc_numbering.proofs.SourceWaits.{waiting, source_waits}
@@ -117,80 +116,44 @@ module _ {W V : Type 0} (does : Doing W) (plain : IsPlain does) (kept : W → V)
   pub image_same : ImageMeansTheSame does r
   image_same w = sym (calls_same (suc (does.ops.turns_left w)) r.main [] numberable.main [] w refl)
 
--- ---- programs
+-- ---- region code whose parts fit together
 
 abbrev routine_result : Option Routine → Option Ty
 routine_result None = None
 routine_result (Some f) = f.result
 
+result_defined : (r : Rlang) (o : Option Ty) → IfSome o (IsVariable r.structs) → ResultDefined r o
+result_defined r None v = tt
+result_defined r (Some t) v = v.0
+
+routine_fits : (r : Rlang) → IsWhole r → (f : Routine) → IsWholeRoutine r f → FunctionFits r f
+routine_fits r whole f own = record {
+  in_order = routine_in_order r f own.stands own.in_order own.kinded;
+  sets = routine_sets r f own.stands;
+  sayable = code_said r whole f own false f.body own.in_order own.stands own.kinded;
+  result = result_defined r f.result own.result;
+}
+
+is_numberable : (r : Rlang) → IsWhole r → IsNumberable r
+is_numberable r whole = record {
+  functions = λ k f there. routine_fits r whole f (whole.functions k f there);
+  main = record {
+    routine = whole.main.0;
+    there = whole.main.1.0;
+    parameters_are = ap (λ n. take n whole.main.0.locals) (sym whole.main.1.1);
+    few = let e = whole.main.1.1 in omega (arith, e);
+  };
+  gives = ap routine_result whole.main.1.0 ∙ whole.main.1.2;
+}
+
+pub rlang_is_numberable : (r : Rlang) → IsRlang r → IsNumberable r
+rlang_is_numberable r fits = is_numberable r (rlang_is_whole r fits)
+
+-- ---- programs
+
 module _ (program : Program) (well : IsWellTyped program) where
-  local_there : (xs ys : List Ty) (x : ℕ) (u : Ty) → slice_get xs x ≡ Some u → get_or (xs ++ ys) x int ≡ u
-  local_there [] ys x u e = absurd (cc e)
-  local_there (t ∷ xs) ys zero u e = cc
-  local_there (t ∷ xs) ys (suc x) u e = local_there xs ys x u e
-
-  global_there : (gs : List Global) (ys : List Ty) (g : ℕ) (d : Global) → slice_get gs g ≡ Some d → get_or (map (λ (d : Global). d.ty) gs ++ ys) g int ≡ d.ty
-  global_there [] ys g d e = absurd (cc e)
-  global_there (t ∷ gs) ys zero d e = let q : t ≡ d = cc in ap (λ (x : Global). x.ty) q
-  global_there (t ∷ gs) ys (suc g) d e = global_there gs ys g d e
-
-  behind_globals : (gs : List Global) (ys : List Ty) (k : ℕ) → get_or (map (λ (d : Global). d.ty) gs ++ ys) (length gs + k) int ≡ get_or ys k int
-  behind_globals [] ys k = let e : 0 + k ≡ k = omega arith in ap (λ n. get_or ys n int) e
-  behind_globals (t ∷ gs) ys k =
-      let e : length (t ∷ gs) + k ≡ suc (length gs + k) = omega arith in
-      ap (λ n. get_or (t.ty ∷ (map (λ (d : Global). d.ty) gs ++ ys)) n int) e ∙ behind_globals gs ys k
-
-  all_char : (strings : List (List ℕ)) (k : ℕ) → k < length strings → get_or (map (λ (bytes : List ℕ). char) strings) k int ≡ char
-  all_char [] k lt = absurd (omega (arith, lt))
-  all_char (s ∷ strings) zero lt = refl
-  all_char (s ∷ strings) (suc k) lt = all_char strings k (omega (arith, lt))
-
-  given_there : (f : ℕ) (g : Function) (t : Ty) → slice_get program.functions f ≡ Some g → option_map value_type g.result ≡ Some t → result_type (region_of_program program) f ≡ t
-  given_there f g t e q = ap routine_type (slice_get-map (routine_of program) program.functions f ∙ ap (option_map (routine_of program)) e) ∙ by g.result q
-    where
-      by : (o : Option Ty) → option_map value_type o ≡ Some t → given_type o ≡ t
-      by None q = absurd (cc q)
-      by (Some u) q = cc
-
-  fits : (k : ℕ) (g : Function) → slice_get program.functions k ≡ Some g → FunctionFits (region_of_program program) (routine_of program g)
-  fits k g e =
-      let own = well.functions k g e in
-      record {
-        in_order = (
-          statement_fits program g false g.body own.body,
-          statement_names program g false g.body own.body,
-          statement_agrees program g (all_locals (routine_of program g)) (object_type (region_of_program program)) (result_type (region_of_program program)) (local_there g.locals (slots_of (routine_of program g)).types)
-              (global_there program.globals (map (λ (bytes : List ℕ). char) program.strings))
-              (λ k lt. behind_globals program.globals (map (λ (bytes : List ℕ). char) program.strings) k ∙ all_char program.strings k lt)
-              given_there false g.body own.body,
-        );
-        sets = (has_locals program g own.body).2;
-        sayable = statement_said program well g own.locals own.result false g.body own.body;
-        result = by g.result own.result;
-      }
-    where
-      by : (o : Option Ty) → IfSome o (IsVariable program.structs) → ResultDefined (region_of_program program) o
-      by None v = tt
-      by (Some t) v = v.0
-
   pub program_is_numberable : IsNumberable (region_of_program program)
-  program_is_numberable = record {
-    functions = λ k f there. by k f (slice_get program.functions k) refl (sym (slice_get-map (routine_of program) program.functions k) ∙ there);
-    gives = ap routine_result (slice_get-map (routine_of program) program.functions program.main ∙ ap (option_map (routine_of program)) well.main.1.0) ∙ well.main.1.2;
-    main = record {
-      routine = routine_of program well.main.0;
-      there = slice_get-map (routine_of program) program.functions program.main ∙ ap (option_map (routine_of program)) well.main.1.0;
-      parameters_are = ap (λ n. take n well.main.0.locals) (sym well.main.1.1);
-      few = let e = well.main.1.1 in omega (arith, e);
-    };
-  }
-    where
-      by : (k : ℕ) (f : Routine) (o : Option Function) → slice_get program.functions k ≡ o → option_map (routine_of program) o ≡ Some f → FunctionFits (region_of_program program) f
-      by k f None e is = absurd (cc is)
-      by k f (Some g) e is = subst (FunctionFits (region_of_program program)) (inner (routine_of program g) f is) (fits k g e)
-        where
-          inner : (a b : Routine) → Some a ≡ Some b → a ≡ b
-          inner a b e = cc
+  program_is_numberable = is_numberable (region_of_program program) (program_is_whole program well)
 
   view_same : (input : List ℕ) (limits : Limits) → view_run program input limits ≡ stack_run program input limits
   view_same input limits = image_same without_marks (λ line t v w. refl) waiting source_waits (region_of_program program) program_is_numberable (first_world program input limits)

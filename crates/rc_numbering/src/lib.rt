@@ -7,6 +7,7 @@ ghost use Rattle.rc_core.specs.Source.{World, source};
 ghost use Rattle.rc_core.specs.WellTyped.{IsWellTyped};
 ghost use Rattle.std.specs.Prelude.{List};
 ghost use Rattle.rc_core.specs.Heap.{Value};
+ghost use Rattle.rc_rlang.specs.IsRlang.{IsRlang};
 ghost use Rattle.rc_rlang.specs.RegionCode.{Rlang};
 ghost use Rattle.rc_translation.specs.Translation.{region_of_program};
 ghost use Rattle.rc_code.specs.Running.{Doing};
@@ -19,7 +20,13 @@ pub fn images_mean_what_stack_code_means<W, V>()
     ensures { (does : Doing W) (waiting : W → V) (r : Rlang) → IsPlain does → Waiting does.ops waiting → IsNumberable r → ImageMeansTheSame does r }
 {}
 
-/// The region code of a program whose parts fit together may be numbered.
+/// Region code whose parts fit together may be numbered: an image can say whatever it says.
+pub fn every_rlang_is_numberable()
+    ensures { (r : Rlang) → IsRlang r → IsNumberable r }
+{}
+
+/// The region code of a program whose parts fit together may be numbered, also where it has more
+/// region variables or points than region code is given.
 pub fn region_code_is_numberable()
     ensures { (program : Program) → IsWellTyped program → IsNumberable (region_of_program program) }
 {}
