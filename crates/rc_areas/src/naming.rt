@@ -1,5 +1,5 @@
 // The names of shapes.
-ghost use Rattle.std.specs.Prelude.{◌≡◌, map, IfOk};
+ghost use Rattle.std.specs.Prelude.{◌≡◌, ◌↔◌, map, IfOk, IsTrue};
 ghost use Rattle.rc_core.specs.Laid.{kind_of};
 ghost use Rattle.rc_core.specs.Shapes.{kinds_in};
 ghost use Rattle.rc_areas.specs.Naming.{kind_byte, name_of, note_byte};
@@ -44,4 +44,20 @@ pub(crate) fn name_of(alloc: Global, layout: &Layout) -> Result<Vec<u8>, NoMemor
         }
     }
     Ok(name)
+}
+
+/// Whether a shape is that of a layout.
+pub(crate) fn is_of(shape: &[Kind], layout: &Layout) -> bool
+    ensures { IsTrue result ↔ (shape.now ≡ map kind_of (kinds_in layout.now)) }
+{
+    let cells = layout.cells.as_slice();
+    if shape.len() != cells.len() {
+        return false;
+    }
+    for i in 0..cells.len() {
+        if kind_byte(shape[i]) != kind_byte(kind_of(&cells[i])) {
+            return false;
+        }
+    }
+    true
 }

@@ -7,7 +7,7 @@ ghost use Rattle.rc_scope.specs.Names.{place_of};
 ghost use Rattle.rc_areas.specs.Naming.{name_of};
 ghost use Rattle.rc_areas.specs.Shapes.{with_shape};
 
-use crate::naming::name_of;
+use crate::naming::{is_of, name_of};
 use rc_base::NoMemory;
 use rc_core::Kind;
 use rc_core::layout::Layout;
@@ -27,6 +27,8 @@ pub struct Shapes {
     shapes: Vec<Vec<Kind>>,
     /// Of each shape its name, by the same number.
     names: Names,
+    /// That which was asked for last: mostly it is asked for again, and then no name is made.
+    last: u32,
 }
 
 impl Model for Shapes {
@@ -58,6 +60,7 @@ impl Shapes {
             alloc,
             shapes: Vec::new(alloc),
             names: Names::new(alloc),
+            last: 0,
         }
     }
 
@@ -76,6 +79,21 @@ impl Shapes {
     ///
     /// Out of memory: nothing has changed.
     pub fn number(&mut self, layout: &Layout) -> Result<u32, NoMemory>
+        ensures number { IfOk result (λ n. slice_get self.new n ≡ Some (map kind_of (kinds_in layout.now))) }
+        ensures shapes { OnOk result (self.new ≡ with_shape (map kind_of (kinds_in layout.now)) self.old) }
+        ensures err { OnErr result (self.new ≡ self.old) }
+    {
+        let last = self.last;
+        if (last as usize) < self.shapes.len() && is_of(self.get(last), layout) {
+            return Ok(last);
+        }
+        let number = self.find_or_add(layout)?;
+        self.last = number;
+        Ok(number)
+    }
+
+    /// The same, by the shape's name.
+    fn find_or_add(&mut self, layout: &Layout) -> Result<u32, NoMemory>
         ensures number { IfOk result (λ n. slice_get self.new n ≡ Some (map kind_of (kinds_in layout.now))) }
         ensures shapes { OnOk result (self.new ≡ with_shape (map kind_of (kinds_in layout.now)) self.old) }
         ensures err { OnErr result (self.new ≡ self.old) }

@@ -1,30 +1,20 @@
-use Rattle.std.proofs.Common.{◌≡◌, ◌∙◌, ◌++◌, ◌∷◌, [], ap, cond, map, refl, subst, sym}
-use Rattle.std.specs.Prelude.{Contains, OnOk, Some, slice_get}
+use Rattle.std.proofs.Common.{◌≡◌, ◌∙◌, ◌++◌, ◌∷◌, [], Some, ap, arith, cond, length, map, refl, sym}
+use Rattle.std.specs.Prelude.{slice_get}
+use Rattle.std.proofs.lemmas.List.{length-map}
+use Rattle.std.proofs.lemmas.Option.{slice_get-get_or}
 use Rattle.rc_core.specs.Laid.{kind_of}
 use Rattle.rc_core.specs.Shapes.{kinds_in}
-use Rattle.rc_areas.specs.Naming.{name_of}
-use Rattle.rc_areas.proofs.Named.{known, named, unknown}
+use Rattle.rc_areas.specs.Shapes.{items_of}
+use Rattle.rc_areas.proofs.Named.{known}
 use Rattle.rc_areas.proofs.shapes.Shapes.number.Goals as goal
 
-pub returns-in-Some-clause-number : goal.returns-in-Some-clause-number
-returns-in-Some-clause-number c =
-    let shape = map kind_of (kinds_in c.args.layout.now) in
-    let names : c.self.inside.names ≡ map name_of c.args.self.now = c.self.invariant.1 ∙ ap (map name_of) c.self.view_is in
-    let is : c.deref.result.now ≡ name_of shape = c.deref.ensures.value ∙ c.in_ok-name.ensures in
-    named c.args.self.now c.in-Some.number shape (ap (λ ns. slice_get ns c.in-Some.number) (sym names) ∙ c.in-Some.ensures.stands ∙ ap Some is)
-
-pub returns-in-Some-clause-shapes : goal.returns-in-Some-clause-shapes
-returns-in-Some-clause-shapes c =
+pub returns-then-is_of-clause-shapes : goal.returns-then-is_of-clause-shapes
+returns-then-is_of-clause-shapes c =
     let shape = map kind_of (kinds_in c.args.layout.now) in
     let shapes = c.args.self.now in
-    sym (ap (λ b. cond b shapes (shapes ++ shape ∷ [])) (known shapes c.in-Some.number shape (returns-in-Some-clause-number c)))
-
-pub returns-clause-shapes : goal.returns-clause-shapes
-returns-clause-shapes c =
-    let shape = map kind_of (kinds_in c.args.layout.now) in
-    let shapes = c.args.self.now in
-    let names : c.self.inside.names ≡ map name_of shapes = c.self.invariant.1 ∙ ap (map name_of) c.self.view_is in
-    let is : c.deref.result.now ≡ name_of shape = c.deref.ensures.value ∙ c.in_ok-name.ensures in
-    let none : ¬ Contains (map name_of shapes) (name_of shape)
-    = subst (λ ns. ¬ Contains ns (name_of shape)) names (subst (λ n. ¬ Contains c.self.inside.names n) is (c.in-None.ensures.none.0 refl)) in
-    subst (λ xs. OnOk c.add.result (c.add.new.self ≡ xs)) (sym (ap (λ b. cond b shapes (shapes ++ shape ∷ [])) (unknown shapes shape none))) c.add.ensures.shapes
+    let last = c.self.inside.last in
+    let below = c.if-last-len.true in
+    let count = c.len.ensures in
+    let long : length shapes ≡ length c.self.inside.shapes.items = ap length (sym c.self.view_is) ∙ length-map c.self.inside.shapes.items items_of in
+    let there : slice_get shapes last ≡ Some shape = slice_get-get_or shapes last [] (omega (arith, below, count, long)) ∙ ap Some (sym c.get.ensures ∙ c.if-is_of.ensures.0 refl) in
+    sym (ap (λ b. cond b shapes (shapes ++ shape ∷ [])) (known shapes last shape there))
