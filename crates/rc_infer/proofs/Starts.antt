@@ -1,5 +1,5 @@
 -- The search begins with all facts, function by function.
-use Rattle.std.proofs.Common.{◌≡◌, ℕ, zero, suc, ◌+◌, ◌<◌, ◌≤◌, ◌++◌, ◌⊎◌, inl, inr, Bool, true, false, ◌&&◌, not, cond, nat_eq, List, [], ◌∷◌, length, map, get_or, Some, refl, sym, ap, ◌∙◌, subst, arith}
+use Rattle.std.proofs.Common.{◌≡◌, ℕ, zero, suc, ◌+◌, ◌<◌, ◌≤◌, ◌++◌, ◌⊎◌, inl, inr, Bool, true, false, ◌&&◌, not, cond, nat_eq, List, [], ◌∷◌, length, get_or, Some, refl, sym, ap, ◌∙◌, subst, arith}
 use Rattle.std.specs.Prelude.{slice_get}
 use Rattle.std.proofs.lemmas.Bool.{eqb-true, eq-eqb}
 use Rattle.std.proofs.lemmas.List.{length-append, length-map}
@@ -8,8 +8,6 @@ use Rattle.rc_facts.specs.declared.fact.Fact.{Fact}
 use Rattle.rc_facts.specs.Facts.{Known, holds, is_over, names}
 use Rattle.rc_rlang.specs.IsRlang.{IsRlang}
 use Rattle.rc_rlang.specs.RegionCode.{Routine, Rlang}
-use Rattle.rc_rlang.specs.RegionFlow.{copies, routine_nodes}
-use Rattle.rc_rlang.specs.RegionVariables.{routine_temporaries}
 use Rattle.rc_annotations.specs.Heights.{temporaries_in, temporaries_of}
 use Rattle.rc_flow.specs.Flow.{HaveVariables, no_set, set_at}
 use Rattle.rc_edges.specs.Edges.{spare}

@@ -1,11 +1,10 @@
 -- What the steps through a function need and do, as steps of the search.
-use Rattle.std.proofs.Common.{◌≡◌, ℕ, zero, suc, ◌+◌, ◌<◌, ◌≤◌, Bool, true, false, ◌||◌, IsTrue, List, [], ◌∷◌, ◌++◌, length, get_or, map, Option, Some, None, refl, sym, ap, ◌∙◌, subst, arith, ◌⊎◌, inl, inr}
+use Rattle.std.proofs.Common.{◌≡◌, ℕ, suc, ◌+◌, ◌<◌, ◌≤◌, Bool, true, false, ◌||◌, IsTrue, List, [], ◌∷◌, length, get_or, Option, Some, None, refl, sym, ap, ◌∙◌, subst, arith, ◌⊎◌, inl, inr}
 use Rattle.std.specs.Prelude.{MatchBool, slice_get}
 use Rattle.std.specs.List.{All}
 use Rattle.std.proofs.lemmas.List.{length-map, length-append}
-use Rattle.std.proofs.lemmas.List.Elements.{All-get_or, All-nil, All-cons}
+use Rattle.std.proofs.lemmas.List.Elements.{All-nil, All-cons}
 use Rattle.std.proofs.lemmas.Option.{slice_get_within}
-use Rattle.rc_facts.specs.declared.fact.Fact.{Fact}
 use Rattle.rc_facts.specs.Facts.{Known}
 use Rattle.rc_rlang.specs.RegionCode.{Routine, Rlang}
 use Rattle.rc_rlang.specs.IsRlang.{IsRlang}
@@ -13,7 +12,7 @@ use Rattle.rc_rlang.specs.RegionFlow.{Effect, nothing, nulled, moved, fixed, bes
 use Rattle.rc_rlang.specs.RegionVariables.{routine_temporaries}
 use Rattle.rc_annotations.specs.Heights.{temporaries_in, temporaries_of}
 use Rattle.rc_flow.specs.Flow.{AreShut, HaveVariables, facts_in, no_set, set_at}
-use Rattle.rc_edges.specs.Edges.{EffectBelow, NodeEdge, all_below, kept, spare}
+use Rattle.rc_edges.specs.Edges.{EffectBelow, NodeEdge, all_below, spare}
 use Rattle.rc_edges.specs.Families.{Family, Owned, Settled, annotation_in}
 use Rattle.rc_edges.specs.News.{places_of}
 use Rattle.rc_edges.proofs.Owning.{functions_own}
@@ -23,10 +22,10 @@ use Rattle.rc_news.specs.Given.{CallFits}
 use Rattle.rc_region_facts.specs.Calls.{CallOf}
 use Rattle.rc_region_facts.proofs.Fitting.{calls_fit, returns_fit}
 use Rattle.rc_searching.specs.Reading.{Loses}
-use Rattle.rc_searching.specs.Boundaries.{CallsGive, ReturnsGive, Callable}
-use Rattle.rc_searching.specs.Searching.{Searching, EdgeOf, Passed, Visited, Gone, facts_between, with_points, with_entries, with_exits}
+use Rattle.rc_searching.specs.Boundaries.{CallsGive, ReturnsGive}
+use Rattle.rc_searching.specs.Searching.{Searching, Passed, Visited, Gone, facts_between, with_points, with_entries, with_exits}
 use Rattle.rc_searching.proofs.Steps.{pass_step, call_step, leave_step, settled_here, settled_stays}
-use Rattle.rc_passing.specs.Passing.{NodeFits}
+use Rattle.rc_infer.specs.Sweeping.{Swept}
 use Rattle.rc_infer.specs.Visiting.{Ready, PassedAt, CalledAt, LeftAt}
 use Rattle.rc_infer.proofs.Places.{order, some_is}
 
@@ -239,3 +238,12 @@ module _ (r : Rlang) (is : IsRlang r) where
           each g f1 lt th (inl below) = subst (λ z. Settled r (temporaries_of r) (annotation_in z) g f1) (family_is b.0 b.1) (settled_stays r is m1 m2.points g f1 (visit.others g (apart g below)) (a.2 g f1 below th))
           each g f1 lt th (inr (inl e)) = subst (λ i. Settled r (temporaries_of r) (annotation_in m2) i f1) (sym e) (subst (Settled r (temporaries_of r) (annotation_in m2) k) (some_is f f1 (sym there ∙ ap (slice_get r.functions) (sym e) ∙ th)) b.2)
           each g f1 lt th (inr (inr over)) = absurd (omega (arith, lt, over))
+
+-- sweeps
+
+pub swept_more : (r : Rlang) (k : ℕ) (f : Routine) (m m1 m2 : Family) (lost : Bool) → Swept r m m1 → Visited r k f m1 m2 lost → Swept r m m2
+swept_more r k f m m1 m2 lost swept visit = record { searching = visit.searching; fewer = by lost visit.still }
+  where
+    by : (b : Bool) → MatchBool b (facts_between m2 < facts_between m1) ((m2.entries ≡ m1.entries) × (m2.exits ≡ m1.exits) × Settled r (temporaries_of r) (annotation_in m2) k f) → facts_between m2 ≤ facts_between m
+    by true less = (let before = swept.fewer in omega (arith, less, before))
+    by false same = (let q = ap facts_in same.0 in let w = ap facts_in same.1 in let before = swept.fewer in omega (arith, q, w, before))

@@ -1,7 +1,5 @@
 -- The steps through a function, of the facts of all functions: what each needs, and what it does.
-use Rattle.std.specs.Prelude.{◌≡◌, ℕ, suc, ◌<◌, ◌≤◌, Bool, List, [], length, get_or, slice_get, Some}
-use Rattle.rc_facts.specs.declared.fact.Fact.{Fact}
-use Rattle.rc_facts.specs.Facts.{Known}
+use Rattle.std.specs.Prelude.{◌≡◌, ℕ, suc, ◌<◌, ◌≤◌, Bool, [], length, get_or, slice_get, Some}
 use Rattle.rc_rlang.specs.RegionFlow.{Edge, Node}
 use Rattle.rc_flow.specs.Flow.{AreShut, HaveVariables, no_set}
 use Rattle.rc_edges.specs.Families.{Family}

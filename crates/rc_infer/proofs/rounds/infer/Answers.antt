@@ -1,11 +1,10 @@
-use Rattle.std.proofs.Common.{◌≡◌, ◌∙◌, ◌<◌, Bool, false, length, map, sym, ap, subst, arith}
-use Rattle.std.specs.Prelude.{slice_get}
+use Rattle.std.proofs.Common.{◌∙◌, length, map, sym, ap, subst, arith}
 use Rattle.std.proofs.lemmas.List.{length-map}
 use Rattle.std.proofs.lemmas.Option.{slice_get_within}
 use Rattle.rc_core.specs.Shapes.{struct_of}
 use Rattle.rc_core.specs.WellTyped.{StructsFit}
 use Rattle.rc_rlang.specs.Shapes.{rlang_of, routine_in}
-use Rattle.rc_region_facts.specs.Inferred.{Inferred, family_of}
+use Rattle.rc_region_facts.specs.Inferred.{family_of}
 use Rattle.rc_searching.specs.Searching.{Gone}
 use Rattle.rc_searching.proofs.Steps.{begun, ended}
 use Rattle.rc_infer.proofs.rounds.infer.Goals as goal
@@ -21,7 +20,7 @@ returns-then-not-lost c =
     let r = rlang_of c.args.code.now in
     let items = c.args.code.now.functions.items in
     let m1 = family_of c.round.new.facts in
-    let gone = subst (Gone r (length items) (family_of c.rounds.facts) m1) c.if-not-lost.true c.in_ok-lost.ensures in
+    let gone = subst (Gone r (length items) (family_of c.sweep_back.new.facts) m1) c.if-not-lost.true c.in_ok-lost.ensures in
     let long = length-map items (routine_in r.structs) in
     record {
       shaped = gone.searching.shaped;

@@ -1,4 +1,4 @@
-use Rattle.std.proofs.Common.{◌≡◌, ◌∙◌, ◌+◌, ◌++◌, ◌∷◌, [], ◌&&◌, not, length, suc, ap, arith}
+use Rattle.std.proofs.Common.{◌≡◌, ◌∙◌, ◌∷◌, [], ◌&&◌, not, length, suc, ap, arith}
 use Rattle.std.proofs.lemmas.List.{length-append}
 use Rattle.rc_facts.specs.Facts.{is_over, names}
 use Rattle.rc_infer.proofs.Starts.{more_variables, more_whole, plus_one}

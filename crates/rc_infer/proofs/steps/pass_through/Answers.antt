@@ -1,6 +1,3 @@
-use Rattle.rc_searching.specs.Searching.{Passed}
-use Rattle.rc_infer.specs.Visiting.{PassedAt}
-use Rattle.rc_region_facts.specs.Inferred.{family_of}
 use Rattle.rc_infer.proofs.Places.{if_ok, passed_at}
 use Rattle.rc_infer.proofs.steps.pass_through.Goals as goal
 
