@@ -10,7 +10,7 @@ use rc_core::program::Program;
 use rc_emit::compile_program;
 use std::alloc::Global;
 
-/// The image of a program, without marks. Where the program keeps within the bounds of points and region
+/// The image of a program, in which exactly the checks are left out that facts prove needless. Where the program keeps within the bounds of points and region
 /// variables, as that of a text does, it is refused for want of memory alone.
 ///
 /// # Errors
@@ -26,7 +26,7 @@ pub fn image(alloc: Global, program: &Program) -> Result<Image, NoMemory>
     }
 }
 
-/// The image of a text's program, without marks.
+/// The image of a text's program, in which exactly the checks are left out that facts prove needless.
 ///
 /// # Errors
 ///

@@ -1,1 +1,2 @@
+pub mod OneMask
 pub mod Removing

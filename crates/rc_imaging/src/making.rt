@@ -2,7 +2,6 @@
 ghost use Rattle.std.specs.Prelude.{◌≡◌, IfOk};
 ghost use Rattle.rc_function_code.specs.ProgramCode.{IsProgramCode};
 ghost use Rattle.rc_image_rules.specs.Small.{IsSmall};
-ghost use Rattle.rc_numbering.specs.Means.{IsNumberable};
 ghost use Rattle.rc_numbering.specs.Numbered.{image_of};
 ghost use Rattle.rc_rlang.specs.Shapes.{rlang_of};
 
@@ -27,7 +26,6 @@ pub fn image(
     code: &Rlang,
     functions: Vec<FunctionCode<'_>>,
 ) -> Result<Image, NoMemory>
-    requires numberable { IsNumberable (rlang_of code.now) }
     requires functions { IsProgramCode (rlang_of code.now) functions.items }
     ensures image { IfOk result (λ image. image ≡ image_of (rlang_of code.now)) }
     ensures small { IfOk result (λ image. IsSmall image) }

@@ -2,7 +2,6 @@
 ghost use Rattle.std.specs.Prelude.{◌≡◌, IfOk};
 ghost use Rattle.rc_elim.specs.Masks.{marks_in};
 ghost use Rattle.rc_marks.specs.Marked.{marked_image};
-ghost use Rattle.rc_numbering.specs.Means.{IsNumberable};
 ghost use Rattle.rc_numbering.specs.Numbered.{image_of};
 ghost use Rattle.rc_rlang.specs.Shapes.{rlang_of};
 ghost use Rattle.rc_marks.specs.InOrder.{mask_of};
@@ -22,10 +21,10 @@ use std::alloc::Global;
 ///
 /// Out of memory.
 pub fn marked(alloc: Global, code: &Rlang, mask: &Mask, image: Image) -> Result<Image, NoMemory>
-    requires numberable { IsNumberable (rlang_of code.now) }
     requires image { image ≡ image_of (rlang_of code.now) }
     ensures { IfOk result (λ marked. marked ≡ marked_image (mask_of (marks_in mask.now) (rlang_of code.now)) (rlang_of code.now)) }
 {
+    let _parts = code.parts();
     let bits = marks_of(alloc, code, mask)?;
     Ok(mark(alloc, image, bits.as_slice()))
 }

@@ -4,5 +4,6 @@ pub mod OneOutcome
 pub mod Reports
 pub mod Storing
 pub mod SpelledImages
+pub mod StoredImages
 pub mod TextLaws
 pub mod Ways

@@ -27,7 +27,6 @@ use Rattle.rc_loader.proofs.Totals.{sound_or_first}
 use Rattle.rc_answers.specs.declared.image_refusal.ImageRefusal.{ImageRefusal}
 use Rattle.rc_outcomes.specs.Images.{image_in}
 use Rattle.rc_outcomes.specs.Footprint.{AreThere, footprint}
-use Rattle.rc_joined.specs.Programs.{image_of_program}
 use Rattle.rc_outcomes.specs.Bytes.{AreBytes}
 use Rattle.rc_outcomes.specs.Outcome.{Executes, IsOutcome, Lists, OfImage, OfRead, OfScriptFile, OfText, OfTextFile, Leaving, ReportsOn, Runs, Compiles, Outcome, Upgrades, unpinned, unsaid, accepts, answers, broken, came, refusal_of_code, refuses, reports, reports_leaving, runs, script_outcome, sound, stores}
 use Rattle.rc_requests.specs.Request.{Request, Run, Slow, Compile, Exec, Listing, Upgrade, Script, Checks}
@@ -45,6 +44,7 @@ use Rattle.rc_reports.specs.Reports.{entries, report_text}
 use Rattle.rc_reports.specs.declared.entry.Entry.{Entry}
 use Rattle.rc_reports.proofs.One.{one_report}
 use Rattle.rc_translation.specs.Translation.{region_of_program}
+use Rattle.rc_unchecked.proofs.Compiled.{one_image, some_image}
 
 -- what comes of a text, where something comes of each program
 text_outcome : (Made : Program → Outcome → Type 0) → (text : List ℕ) → ((program : Program) → Accepted text program → (outcome : Outcome) × Made program outcome) → (outcome : Outcome) × OfText Made text outcome
@@ -60,7 +60,7 @@ file_outcome file Made files input some there = by (files file) refl where
   by (Some text) is = let found = text_outcome (Made input) text (some text is) in (found.0, (text, is, found.1))
 
 -- a program that is accepted comes to an end
-run_outcome : (leaves : Leaving) (limits : Limits) (input text : List ℕ) (program : Program) → Accepted text program → (outcome : Outcome) × Runs leaves limits input program outcome
+pub run_outcome : (leaves : Leaving) (limits : Limits) (input text : List ℕ) (program : Program) → Accepted text program → (outcome : Outcome) × Runs leaves limits input program outcome
 run_outcome leaves limits input text program accepted =
     let e = an_end (meaning program input limits).end (never_touches_deleted program input limits (accepted_in_place text program accepted)) in
     (runs (meaning program input limits).acts e.0 (leaves program input limits), record { end = e.0; ends = e.1; comes = refl })
@@ -70,6 +70,11 @@ report_of : (text : List ℕ) → Every IsByte text → (program : Program) → 
 report_of text bytes program accepted =
     let decided = marks_decided (region_of_program program) (fits_together program (well_typed text program bytes accepted) accepted.bounds) in
     (entries decided.0 (region_of_program program), record { marks = decided.0; removable = decided.1; are = refl })
+
+compiled_outcome : (to input text : List ℕ) → Every IsByte text → (program : Program) → Accepted text program → (outcome : Outcome) × Compiles to input program outcome
+compiled_outcome to input text bytes program accepted =
+    let found = some_image program (well_typed text program bytes accepted) accepted.bounds in
+    (stores to (spelling Two found.0), record { image = found.0; compiled = found.1; comes = refl })
 
 reported_outcome : (input text : List ℕ) → Every IsByte text → (program : Program) → Accepted text program → (outcome : Outcome) × ReportsOn input program outcome
 reported_outcome input text bytes program accepted =
@@ -103,7 +108,7 @@ pub some_outcome : (request : Option Request) (files : Names) (input : List ℕ)
 some_outcome None files input there bytes = (answers Usage, refl)
 some_outcome (Some (Run file limits)) files input there bytes = file_outcome file (Runs meant.left limits) files input (λ text is. run_outcome meant.left limits input text) (there file (0, omega arith, refl))
 some_outcome (Some (Slow file limits)) files input there bytes = file_outcome file (Runs unsaid limits) files input (λ text is. run_outcome unsaid limits input text) (there file (0, omega arith, refl))
-some_outcome (Some (Compile from to)) files input there bytes = file_outcome from (Compiles to) files input (λ text is program accepted. (stores to (spelling Two (image_of_program program)), refl)) (there from (0, omega arith, refl))
+some_outcome (Some (Compile from to)) files input there bytes = file_outcome from (Compiles to) files input (λ text is. compiled_outcome to input text (bytes text is)) (there from (0, omega arith, refl))
 some_outcome (Some (Exec file limits)) files input there bytes = image_outcome file (Executes limits) files input (execution limits input) (there file (0, omega arith, refl))
 some_outcome (Some (Listing file)) files input there bytes = image_outcome file Lists files input (λ image. (reports (listing image), refl)) (there file (0, omega arith, refl))
 some_outcome (Some (Upgrade from to)) files input there bytes = image_outcome from (Upgrades to) files input (λ image. (stores to (spelling Two image), refl)) (there from (0, omega arith, refl))
@@ -149,6 +154,10 @@ one_execution limits input one other image (broken v a c) (broken w b d) = c ∙
 one_script : (file : List ℕ) (limits : Limits) (files : Names) (one other : Outcome) → OfScriptFile file limits files one → OfScriptFile file limits files other → one ≡ other
 one_script file limits files one other (text, is, so) (text', is', so') = so ∙ ap (script_outcome limits) (same_text files file text text' is is') ∙ sym so'
 
+one_compiled : (to input : List ℕ) (one other : Outcome) (program : Program) → Compiles to input program one → Compiles to input program other → one ≡ other
+one_compiled to input one other program is also =
+    is.comes ∙ ap (λ (image : Parts). stores to (spelling Two image)) (one_image program is.image also.image is.compiled also.compiled) ∙ sym also.comes
+
 one_reported : (input : List ℕ) (one other : Outcome) (program : Program) → ReportsOn input program one → ReportsOn input program other → one ≡ other
 one_reported input one other program is also =
     is.comes ∙ ap (λ (all : List Entry). reports (report_text all)) (one_report (region_of_program program) is.entries also.entries is.report also.report) ∙ sym also.comes
@@ -157,7 +166,7 @@ pub one_outcome : (request : Option Request) (files : Names) (input : List ℕ) 
 one_outcome None files input one other is also = is ∙ sym also
 one_outcome (Some (Run file limits)) files input one other is also = one_of_file file (Runs meant.left limits) files input one other (one_run meant.left limits input one other) is also
 one_outcome (Some (Slow file limits)) files input one other is also = one_of_file file (Runs unsaid limits) files input one other (one_run unsaid limits input one other) is also
-one_outcome (Some (Compile from to)) files input one other is also = one_of_file from (Compiles to) files input one other (λ program a b. a ∙ sym b) is also
+one_outcome (Some (Compile from to)) files input one other is also = one_of_file from (Compiles to) files input one other (one_compiled to input one other) is also
 one_outcome (Some (Exec file limits)) files input one other is also = one_of_image file (Executes limits) files input one other (one_execution limits input one other) is also
 one_outcome (Some (Listing file)) files input one other is also = one_of_image file Lists files input one other (λ image a b. a ∙ sym b) is also
 one_outcome (Some (Upgrade from to)) files input one other is also = one_of_image from (Upgrades to) files input one other (λ image a b. a ∙ sym b) is also

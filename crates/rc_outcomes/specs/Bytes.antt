@@ -3,9 +3,14 @@ use Rattle.std.specs.Prelude.{◌≡◌, ℕ, List, Option, Some}
 use Rattle.std.specs.List.{AllByRecursion as Every}
 use Rattle.rc_base.specs.Shelves.{Names}
 use Rattle.rc_core.specs.Numbers.{IsByte}
-use Rattle.rc_requests.specs.Request.{Request, Checks}
+use Rattle.rc_requests.specs.Request.{Request, Compile, Checks}
 
--- that whose checks are reported on; of every other request nothing has to be known
+abbrev pub HasBytes : (file : List ℕ) → Names → Type 0
+HasBytes file files = (text : List ℕ) → files file ≡ Some text → Every IsByte text
+
+-- a text that is compiled, and one whose checks are reported on: which of its program's checks may go has to be decided; of every other
+-- request nothing has to be known
 abbrev pub AreBytes : Option Request → Names → Type 0
-AreBytes (Some (Checks file)) files = (text : List ℕ) → files file ≡ Some text → Every IsByte text
+AreBytes (Some (Compile from to)) files = HasBytes from files
+AreBytes (Some (Checks file)) files = HasBytes file files
 AreBytes _ files = Unit {0}

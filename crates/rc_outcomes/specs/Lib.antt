@@ -1,4 +1,5 @@
 pub mod Bytes
+pub mod Compiled
 pub mod FaultCauses
 pub mod Footprint
 pub mod Images

@@ -42,7 +42,7 @@ use Rattle.rc_answers.specs.declared.image_refusal.ImageRefusal.TheVariants.{Tar
 use Rattle.rc_image.specs.Spelling.{spelling}
 use Rattle.rc_image.specs.declared.version.Version.TheVariants.{Two}
 use Rattle.rc_listing.specs.Listing.{listing}
-use Rattle.rc_joined.specs.Programs.{image_of_program}
+use Rattle.rc_unchecked.specs.Compiled.{IsCompiled}
 use Rattle.rc_inspect.specs.Inspected.{IsReportOf}
 use Rattle.rc_reports.specs.Reports.{report_text}
 use Rattle.rc_reports.specs.declared.entry.Entry.{Entry}
@@ -126,9 +126,11 @@ pub record Runs (leaves : Leaving) (limits : Limits) (input : List ℕ) (program
   pub ends : (meaning program input limits).end ≡ Ends end
   pub comes : outcome ≡ runs (meaning program input limits).acts end (leaves program input limits)
 
--- its image is stored
-abbrev pub Compiles : (to : List ℕ) → (input : List ℕ) → Program → Outcome → Type 0
-Compiles to input program outcome = outcome ≡ stores to (spelling Two (image_of_program program))
+-- the image that it is compiled to is stored
+pub record Compiles (to : List ℕ) (input : List ℕ) (program : Program) (outcome : Outcome) : Type 0 where
+  pub image : Parts
+  pub compiled : IsCompiled program image
+  pub comes : outcome ≡ stores to (spelling Two image)
 
 -- the report on its checks is written
 pub record ReportsOn (input : List ℕ) (program : Program) (outcome : Outcome) : Type 0 where

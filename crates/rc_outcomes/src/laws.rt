@@ -9,6 +9,7 @@ ghost use Rattle.rc_compile.specs.Acceptance.{Accepted};
 ghost use Rattle.rc_core.specs.Numbers.{IsByte};
 ghost use Rattle.rc_core.specs.Programs.{Program};
 ghost use Rattle.rc_outcomes.specs.Bytes.{AreBytes};
+ghost use Rattle.rc_outcomes.specs.Compiled.{HasCompiled, RunsTheSame};
 ghost use Rattle.rc_outcomes.specs.Footprint.{AreThere, footprint};
 ghost use Rattle.rc_outcomes.specs.Images.{IsSpelled, image_in};
 ghost use Rattle.rc_outcomes.specs.Outcome.{IsOutcome, Outcome};
@@ -16,8 +17,8 @@ ghost use Rattle.rc_requests.specs.Request.{Request};
 ghost use Rattle.rc_safety.specs.Safety.{NeverTouchesDeleted};
 
 /// Whatever the words ask comes to one outcome where the names that it reads are there, and never to
-/// two, whatever bytes the files and the input have. That a report on the checks of a file is one
-/// outcome needs that what the file has are bytes.
+/// two, whatever bytes the files and the input have. That the image of a file and a report on its checks
+/// are outcomes needs that what the file has are bytes.
 pub fn a_request_has_one_outcome()
     ensures some { (request : Option Request) (files : Names) (input : List ℕ) → AreThere (footprint request) files → AreBytes request files → (outcome : Outcome) × IsOutcome request files input outcome }
     ensures one { (request : Option Request) (files : Names) (input : List ℕ) (one other : Outcome) → IsOutcome request files input one → IsOutcome request files input other → one ≡ other }
@@ -33,4 +34,11 @@ pub fn an_accepted_text_never_touches_deleted()
 pub fn an_image_is_what_its_bytes_spell()
     ensures read { (bytes : List ℕ) (image : Parts) → Every IsByte bytes → image_in bytes ≡ Ok image → IsSpelled bytes image }
     ensures spelled { (bytes : List ℕ) (image : Parts) → length bytes ≤ most_image_bytes → IsSpelled bytes image → image_in bytes ≡ Ok image }
+{}
+
+/// What was stored of a text runs as the text does: on every input of bytes and within all limits
+/// executing the image comes to just what running the text comes to. It is asked that the image's
+/// counts and lines are below 2 to the power 32, and that it is no longer than an image may be.
+pub fn a_stored_image_runs_as_its_text()
+    ensures { (files : Names) (from to : List ℕ) → HasCompiled files from to → RunsTheSame files from to }
 {}

@@ -10,7 +10,7 @@ mod reporting;
 
 pub use flush::flush_behind;
 pub use laws::{
-    a_request_has_one_outcome, an_accepted_text_never_touches_deleted,
-    an_image_is_what_its_bytes_spell,
+    a_request_has_one_outcome, a_stored_image_runs_as_its_text,
+    an_accepted_text_never_touches_deleted, an_image_is_what_its_bytes_spell,
 };
 pub use reporting::report;

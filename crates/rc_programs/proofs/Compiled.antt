@@ -1,10 +1,11 @@
 -- Requests that store the image of a file's program.
-use Rattle.std.proofs.Common.{◌≡◌, ℕ, List, Option, Result, Ok, Err, refl, sym, subst}
+use Rattle.std.proofs.Common.{◌≡◌, ◌∙◌, ℕ, List, Option, Result, Ok, Err, refl, sym, ap, subst}
 use Rattle.rc_base.specs.Shelves.{ShelfState}
 use Rattle.rc_compile.specs.Answers.{IsOnlyRefusal}
+use Rattle.rc_code.specs.declared.image.Parts.{Parts}
 use Rattle.rc_image.specs.Spelling.{spelling}
 use Rattle.rc_image.specs.declared.version.Version.TheVariants.{Two}
-use Rattle.rc_joined.specs.Programs.{image_of_program}
+use Rattle.rc_unchecked.proofs.Compiled.{one_image}
 use Rattle.rc_answers.specs.declared.answer.Done.{Done}
 use Rattle.rc_answers.specs.declared.answer.Done.TheVariants.{Refused}
 use Rattle.rc_answers.specs.declared.answer.Fault.{Fault}
@@ -24,16 +25,17 @@ module _ (request : Option Request) (from to : List ℕ) (row : CompilesOf reque
   nothing_stored files' result same p = subst (λ (f : ShelfState). Performs request before (outside f before.input before.out before.err before.heap) result) (sym same) p
 
   pub compiled : (files' : ShelfState) (result : Result Done Fault) → CompiledText text to files1 files' result → Performs request before (outside files' before.input before.out before.err before.heap) result
-  compiled files' result (made program answer only m) =
-      let bytes = spelling Two (image_of_program program) in
+  compiled files' result (made program image answer only built m) =
+      let bytes = spelling Two image in
       stored_bytes request before files1 files' to bytes answer (has_read request from (Compiles to) row.text before files1 (λ b. b ≡ text) l)
       (record {
         stores_to = row.stores;
         may_write = row.may_write;
-        outcome = λ told. some_made request from (Compiles to) row.text before files1 (λ b. b ≡ text) l (stores to bytes) (λ b is. subst (λ (t : List ℕ). OfText (Compiles to before.input.rest) t (stores to bytes)) (sym is) (accepts program only.accepted refl)) told;
+        outcome = λ told. some_made request from (Compiles to) row.text before files1 (λ b. b ≡ text) l (stores to bytes) (λ b is. subst (λ (t : List ℕ). OfText (Compiles to before.input.rest) t (stores to bytes)) (sym is) (accepts program only.accepted (record { image = image; compiled = built; comes = refl }))) told;
         only = λ outcome comes. (
             let found = only_made request from (Compiles to) row.text before files1 (λ b. b ≡ text) l outcome comes in
-            made_so (Compiles to before.input.rest) text outcome program only (subst (λ (t : List ℕ). OfText (Compiles to before.input.rest) t outcome) found.1 found.2));
+            let so = made_so (Compiles to before.input.rest) text outcome program only (subst (λ (t : List ℕ). OfText (Compiles to before.input.rest) t outcome) found.1 found.2) in
+            so.comes ∙ ap (λ (other : Parts). stores to (spelling Two other)) (one_image program so.image image so.compiled built));
       }) m
   compiled files' result (refused k only same) =
       nothing_stored files' (Ok (Refused k)) same (refused_text request from (Compiles to) row.text before files1 (λ b. b ≡ text) l before.input before.out k (λ b is. subst (λ (t : List ℕ). IsOnlyRefusal t k) (sym is) only) (untouched before.input before.out))

@@ -29,8 +29,8 @@ use Rattle.rc_programs.specs.Ends.{Ends}
 module _ (text : List ℕ) (program : Program) (image : Parts) (only : IsOnlyProgram text program) (has : HasImage program image) (limits : Limits) (input input' : SourceState) (out out' : SinkState) (heap' : KeptStore) where
   same : TellsBytes input → executing.comes_of image limits input.rest ≡ comes_of left program limits input.rest
   same told =
-      ap (λ (m : Meaning). came m (image_left image input.rest limits)) (has.means input.rest limits told.1)
-      ∙ ap (λ (l : Option Left). came (meaning program input.rest limits) l) (has.leaves input.rest limits told.1)
+      ap (λ (m : Meaning). came m (image_left image input.rest limits)) (has.means input.rest limits told.1).0
+      ∙ ap (λ (l : Option Left). came (meaning program input.rest limits) l) (has.means input.rest limits told.1).1
 
   never : TellsBytes input → (line : ℕ) → StaleImage line ≡ (comes_of left program limits input.rest).done → ⊥
   never told line is =

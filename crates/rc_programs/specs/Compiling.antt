@@ -6,7 +6,8 @@ use Rattle.rc_compile.specs.declared.refusal.Refusal.{Refusal}
 use Rattle.rc_core.specs.Programs.{Program}
 use Rattle.rc_image.specs.Spelling.{spelling}
 use Rattle.rc_image.specs.declared.version.Version.TheVariants.{Two}
-use Rattle.rc_joined.specs.Programs.{image_of_program}
+use Rattle.rc_code.specs.declared.image.Parts.{Parts}
+use Rattle.rc_unchecked.specs.Compiled.{IsCompiled}
 use Rattle.rc_answers.specs.declared.answer.Done.{Done}
 use Rattle.rc_answers.specs.declared.answer.Done.TheVariants.{Refused, Wrote}
 use Rattle.rc_answers.specs.declared.answer.Fault.{Fault}
@@ -18,9 +19,9 @@ use Rattle.rc_outcomes.specs.Storing.{MadeFile}
 use Rattle.rc_requests.specs.Request.{Request}
 use Rattle.rc_text_files.specs.Texts.{TextOf}
 
--- the image of the text's program was stored, or the text is refused
+-- the image that the text's program is compiled to was stored, or the text is refused
 pub data CompiledText (text to : List ℕ) (files files' : ShelfState) : Result Done Fault → Type 0 where
-  made : (program : Program) (result : Result Done Fault) → IsOnlyProgram text program → MadeFile to (spelling Two (image_of_program program)) files files' result → CompiledText text to files files' result
+  made : (program : Program) (image : Parts) (result : Result Done Fault) → IsOnlyProgram text program → IsCompiled program image → MadeFile to (spelling Two image) files files' result → CompiledText text to files files' result
   refused : (refusal : Refusal) → IsOnlyRefusal text refusal → files' ≡ files → CompiledText text to files files' (Ok (Refused refusal))
   no_memory : files' ≡ files → CompiledText text to files files' (Err Memory)
 

@@ -1,16 +1,11 @@
 -- Two reports of the same region code are the same.
-use Rattle.std.proofs.Common.{◌≡◌, ℕ, suc, Bool, true, false, ◌↔◌, List, [], ◌∷◌, ◌++◌, map, refl, sym, ap, ◌∙◌}
+use Rattle.std.proofs.Common.{◌≡◌, ℕ, suc, Bool, List, [], ◌∷◌, ◌++◌, map, refl, sym, ap, ◌∙◌}
 use Rattle.rc_rlang.specs.RegionCode.{Routine, Rlang}
 use Rattle.rc_rlang.specs.Sites.{Site}
-use Rattle.rc_elim.specs.Masks.{MarksRemovable}
+use Rattle.rc_elim.proofs.OneMask.{one_mask}
 use Rattle.rc_reports.specs.declared.entry.Entry.{Entry}
 use Rattle.rc_reports.specs.Listed.{listed}
 use Rattle.rc_reports.specs.Reports.{entry_of, entries_from, IsReport}
-
-same_bit : (a b : Bool) → (a ≡ true → b ≡ true) → (b ≡ true → a ≡ true) → a ≡ b
-same_bit true b f g = sym (f refl)
-same_bit false true f g = g refl
-same_bit false false f g = refl
 
 module _ (m n : (function point : ℕ) → Bool) (same : (g p : ℕ) → m g p ≡ n g p) where
   mapped : (g : ℕ) (sites : List Site) → map (entry_of (m g)) sites ≡ map (entry_of (n g)) sites
@@ -24,5 +19,5 @@ module _ (m n : (function point : ℕ) → Bool) (same : (g p : ℕ) → m g p �
 pub one_report : (r : Rlang) (a b : List Entry) → IsReport r a → IsReport r b → a ≡ b
 one_report r a b p q =
     p.are
-    ∙ all_same p.marks q.marks (λ g point. same_bit (p.marks g point) (q.marks g point) (λ e. (q.removable g point).1 ((p.removable g point).0 e)) (λ e. (p.removable g point).1 ((q.removable g point).0 e))) 0 r.functions
+    ∙ all_same p.marks q.marks (one_mask r p.marks q.marks p.removable q.removable) 0 r.functions
     ∙ sym q.are

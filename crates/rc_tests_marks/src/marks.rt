@@ -1,20 +1,10 @@
 // The stores of the images of small programs, row by row: a text, and of each store its line and whether
 // it makes no check. Checks are left out where facts prove them needless, which follows by hand.
 
-ghost use Rattle.rc_numbering.specs.Means.{IsNumberable};
-ghost use Rattle.rc_rlang.specs.Shapes.{rlang_of};
-
 use rc_base::NoMemory;
-use rc_code::{Function, Image, Instruction};
+use rc_code::{Function, Instruction};
 use rc_compile::program;
-use rc_core::program::Program;
-use rc_elab::{ElabFault, elaborate};
-use rc_elim::removable;
-use rc_emit::emit;
-use rc_infer::infer;
-use rc_live::live;
-use rc_marked_images::marked;
-use rc_rlang::rlang::Rlang;
+use rc_emit::compile_program;
 use std::alloc::Global;
 use std::test::Fail;
 
@@ -46,27 +36,6 @@ const ROWS: [(&[u8], &[(u32, bool)]); 5] = [
     ),
 ];
 
-/// The image of region code whose needless checks are left out.
-fn image_with_marks(alloc: Global, code: &Rlang) -> Result<Image, NoMemory>
-    requires { IsNumberable (rlang_of code.now) }
-{
-    let lists = live(alloc, code)?;
-    let image = emit(alloc, code, &lists)?;
-    let facts = infer(alloc, code)?;
-    let mask = removable(alloc, code, &facts)?;
-    marked(alloc, code, &mask, image)
-}
-
-/// The image of a program whose needless checks are left out.
-fn image_of(alloc: Global, program: &Program) -> Result<Image, ElabFault> {
-    let _parts = program.parts();
-    let code = elaborate(alloc, program)?;
-    match image_with_marks(alloc, &code) {
-        Ok(image) => Ok(image),
-        Err(_fault) => Err(ElabFault::Memory),
-    }
-}
-
 /// Adds the stores of a function.
 fn add_stores(function: &Function, out: &mut Vec<(u32, bool)>) -> Result<(), NoMemory> {
     for (instruction, line) in function
@@ -86,7 +55,7 @@ fn add_stores(function: &Function, out: &mut Vec<(u32, bool)>) -> Result<(), NoM
 fn stores(alloc: Global, text: &[u8]) -> Result<Vec<(u32, bool)>, Fail> {
     let program = program(alloc, text)?;
     let mut all = Vec::new(alloc);
-    let Ok(image) = image_of(alloc, &program) else {
+    let Ok(image) = compile_program(alloc, &program) else {
         return Ok(all);
     };
     for function in image.parts().functions.as_slice() {

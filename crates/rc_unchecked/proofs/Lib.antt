@@ -4,3 +4,4 @@ pub mod Following
 pub mod Right
 pub mod Unchecked
 pub mod Faithful
+pub mod Compiled

@@ -1,2 +1,3 @@
 pub mod Unchecked
 pub mod Right
+pub mod Compiled

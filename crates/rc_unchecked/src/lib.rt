@@ -6,6 +6,7 @@ ghost use Rattle.rc_core.specs.WellTyped.{IsWellTyped};
 ghost use Rattle.rc_rlang.specs.Bounds.{IsWithinBounds};
 ghost use Rattle.rc_image_rules.specs.Small.{IsSmall};
 ghost use Rattle.rc_joined.specs.Programs.{image_of_program};
+ghost use Rattle.rc_unchecked.specs.Compiled.{HasOneImage};
 ghost use Rattle.rc_unchecked.specs.Right.{MarksAreRight};
 ghost use Rattle.rc_unchecked.specs.Unchecked.{LeavesTheSameUnchecked, MeansTheSameUnchecked};
 
@@ -24,4 +25,10 @@ pub fn images_without_needless_checks_mean_the_same()
 /// with its check and without.
 pub fn checks_that_are_left_out_never_fail()
     ensures { (program : Program) → IsWellTyped program → IsWithinBounds program → IsSmall (image_of_program program) → MarksAreRight program }
+{}
+
+/// A program that keeps within the bounds of region variables and points is compiled to one image: it
+/// is decided of each store whether its check may go, and exactly such stores have a mark.
+pub fn a_program_is_compiled_to_one_image()
+    ensures { (program : Program) → IsWellTyped program → IsWithinBounds program → HasOneImage program }
 {}

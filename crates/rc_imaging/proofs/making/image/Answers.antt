@@ -5,18 +5,19 @@ use Rattle.rc_rlang.specs.Shapes.{rlang_of}
 use Rattle.rc_image_rules.specs.Small.{IsSmall}
 use Rattle.rc_image_rules.proofs.Fields.{fields_fit}
 use Rattle.rc_numbering.specs.Numbered.{image_of}
+use Rattle.rc_numbering.proofs.Programs.{rlang_is_numberable}
 use Rattle.rc_imaging.specs.Cells.{BacksFit}
 use Rattle.rc_imaging.proofs.Backs.{backs_fit}
 use Rattle.rc_imaging.proofs.making.image.Goals as goal
 
 pub image_parts-requires-clause-backs : goal.image_parts-requires-clause-backs
-image_parts-requires-clause-backs c = subst BacksFit (ap rlang_of (sym c.parts-parts.ensures.parts)) (backs_fit (rlang_of c.args.code.now) c.requires.numberable)
+image_parts-requires-clause-backs c = subst BacksFit (ap rlang_of (sym c.parts-parts.ensures.parts)) (backs_fit (rlang_of c.args.code.now) (rlang_is_numberable (rlang_of c.args.code.now) c.parts-parts.ensures.fits))
 
 pub new-requires : goal.new-requires
 new-requires c =
     let r = rlang_of c.args.code.now in
     let is = c.in_ok-parts.ensures.is ∙ ap (λ p. image_of (rlang_of p)) c.parts-parts.ensures.parts in
-    subst FieldsFit (sym is) (fields_fit r c.parts-parts.ensures.fits c.requires.numberable (subst IsSmall is c.in_ok-parts.ensures.small))
+    subst FieldsFit (sym is) (fields_fit r c.parts-parts.ensures.fits (rlang_is_numberable r c.parts-parts.ensures.fits) (subst IsSmall is c.in_ok-parts.ensures.small))
 
 pub returns-clause-image : goal.returns-clause-image
 returns-clause-image c = c.new.ensures ∙ c.in_ok-parts.ensures.is ∙ ap (λ p. image_of (rlang_of p)) c.parts-parts.ensures.parts

@@ -2,18 +2,14 @@ use Rattle.std.proofs.Common.{Ok, refl, subst, sym}
 use Rattle.rc_compile.specs.Compiles.{IsReason}
 use Rattle.rc_compile.specs.declared.fault.CompileFault.{CompileFault}
 use Rattle.rc_compile.specs.declared.refusal.Refusal.{Refusal}
-use Rattle.rc_code.specs.declared.image.Parts.{Parts}
-use Rattle.rc_image.specs.Spelling.{spelling}
-use Rattle.rc_image.specs.declared.version.Version.TheVariants.{Two}
 use Rattle.rc_answers.specs.declared.answer.Done.TheVariants.{Refused}
-use Rattle.rc_outcomes.specs.Storing.{MadeFile}
 use Rattle.rc_programs.specs.Compiling.{CompiledText, made, no_memory, refused}
 use Rattle.rc_programs.proofs.compile.compile_text.Goals as goal
 
 pub returns-in-Ok : goal.returns-in-Ok
 returns-in-Ok g c =
     let built = c.in-Ok.ensures in
-    made built.program c.store_image.result built.compiles (subst (λ (image : Parts). MadeFile c.args.to.now (spelling Two image) (g.F.Shelf.state c.args.files.now) (g.F.Shelf.state c.store_image.new.files) c.store_image.result) built.has.is c.store_image.ensures)
+    made built.program c.in-Ok.image c.store_image.result built.compiles built.has.compiled c.store_image.ensures
 
 pub returns-in-Err-Refused : goal.returns-in-Err-Refused
 returns-in-Err-Refused g c = subst (λ (refusal : Refusal). CompiledText c.args.text.now c.args.to.now (g.F.Shelf.state c.args.files.now) (g.F.Shelf.state c.args.files.now) (Ok (Refused refusal))) (sym c.in-Err-Refused.refusal-is)
