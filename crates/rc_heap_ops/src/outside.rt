@@ -8,7 +8,7 @@ ghost use Rattle.rc_steps.specs.Leads.{next_of};
 ghost use Rattle.rc_steps.specs.Ready.{IsNextByte};
 ghost use Rattle.rc_ready.specs.ShortForms.{IsReadyFor};
 ghost use Rattle.rc_ops.specs.Going.{IsInside, at_of};
-ghost use Rattle.rc_heap_ops.specs.Outside.{Gets, HasExitCause, PutsByte};
+ghost use Rattle.rc_heap_ops.specs.Outside.{Gets, HasExitCause, Heard, PutsByte};
 
 use rc_base::{Failed, Sink, Source};
 use rc_core::byte_of;
@@ -49,6 +49,7 @@ pub fn put_char<H: Heap, O: Sink>(
 fn ask<S: Source>(input: &mut S) -> Result<i64, Failed>
     ensures asks { IsTrue (S.state input.old).tells → IfOk result (λ n. next_of (S.state input.old).rest ≡ n) }
     ensures byte { IfOk result (λ n. IsNextByte n) }
+    ensures heard { IfOk result (λ n. Heard n (S.state input.old).ended (S.state input.new).ended) }
     ensures gave { OnOk result (Gave (Getchar ∷ []) (S.state input.old) (S.state input.new)) }
     ensures same { OnErr result (Gave [] (S.state input.old) (S.state input.new)) }
     ensures tells { (S.state input.new).tells ≡ (S.state input.old).tells }

@@ -1,5 +1,6 @@
 pub mod Beginning
 pub mod Steps
+pub mod Trust
 pub mod Comings
 pub mod Growing
 pub mod Endings

@@ -12,7 +12,7 @@ returns-in-Ok-clause-went g c =
     let n = c.in-Ok.n in
     let byte : IsNextByte n = search rules in
     let i : c.give_number.new.self ≡ giving 0 (Number n) c.args.pile.now = search rules in
-    (n, search rules, c.in-Ok.ensures.gave, leads_acts _ _ _ _ (Some n) (Getchar ∷ []) _ _ _ (r.1 n byte) i)
+    (n, search rules, c.in-Ok.ensures.heard, c.in-Ok.ensures.gave, leads_acts _ _ _ _ (Some n) (Getchar ∷ []) _ _ _ (r.1 n byte) i)
 
 pub returns-in-Err-clause-went : goal.returns-in-Err-clause-went
 returns-in-Err-clause-went g c =
