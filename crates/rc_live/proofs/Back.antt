@@ -1,5 +1,5 @@
 -- Back past one piece and then another.
-use Rattle.std.proofs.Common.{◌≡◌, ◌<◌, ◌≤◌, length, drop, get_or, ℕ, suc, ◌+◌, ◌-◌, ◌||◌, map, Bool, true, false, nat_eq, List, [], ◌∷◌, ◌++◌, refl, sym, ap, ◌∙◌, arith, append_assoc}
+use Rattle.std.proofs.Common.{◌≡◌, ◌<◌, ◌≤◌, length, drop, get_or, ℕ, suc, ◌+◌, ◌-◌, ◌||◌, map, Bool, false, nat_eq, List, [], ◌∷◌, ◌++◌, refl, sym, ap, ◌∙◌, arith, append_assoc}
 use Rattle.std.specs.Prelude.{reverse, Result, Ok, Err, IfOk}
 use Rattle.std.proofs.Math.Seq.{drop-cons}
 use Rattle.rc_core.specs.Programs.{Struct}
@@ -23,47 +23,36 @@ use Rattle.rc_live.specs.Walking.{Going, WentBack, OperationDone, StepDone, Step
 -- the second piece stands behind the first, and was come past before it
 pub back_both : (p q : ℕ) (a b : ℕ → List Held) (old mid new : Going) → WentBack q b old mid → WentBack p a mid new → WentBack (p + q) (λ here. a here ++ b (here + p)) old new
 back_both p q a b old mid new d e = record {
-  as_before = e.as_before ∙ d.as_before;
-  still = λ s. e.still (d.as_before ∙ s) ∙ d.still s;
-  counted = λ s here l. e.counted (d.as_before ∙ s) here (d.counted s (here + p) (omega (arith, l)));
-  listed = λ s here l.
-      e.listed (d.as_before ∙ s) here (d.counted s (here + p) (omega (arith, l)))
-      ∙ ap (λ xs. xs ++ reverse (a here)) (d.listed s (here + p) (omega (arith, l)))
+  counted = λ here l. e.counted here (d.counted (here + p) (omega (arith, l)));
+  listed = λ here l.
+      e.listed here (d.counted (here + p) (omega (arith, l)))
+      ∙ ap (λ xs. xs ++ reverse (a here)) (d.listed (here + p) (omega (arith, l)))
       ∙ append_assoc old.lists (reverse (b (here + p))) (reverse (a here))
       ∙ ap (λ xs. old.lists ++ xs) (sym (reverse-append (a here) (b (here + p))));
 }
 
 pub back_as : (p q : ℕ) (a b : ℕ → List Held) (old new : Going) → p ≡ q → ((here : ℕ) → a here ≡ b here) → WentBack p a old new → WentBack q b old new
 back_as p q a b old new e s d = record {
-  as_before = d.as_before;
-  still = d.still;
-  counted = λ t here l. d.counted t here (omega (arith, l, e));
-  listed = λ t here l. d.listed t here (omega (arith, l, e)) ∙ ap (λ xs. old.lists ++ reverse xs) (s here);
+  counted = λ here l. d.counted here (omega (arith, l, e));
+  listed = λ here l. d.listed here (omega (arith, l, e)) ∙ ap (λ xs. old.lists ++ reverse xs) (s here);
 }
 
 pub stay : (old new : Going) → new ≡ old → WentBack 0 (λ here. []) old new
 stay old new e = record {
-  as_before = ap (λ g. g.listing) e;
-  still = λ s. e;
-  counted = λ s here l. ap (λ g. g.point) e ∙ l ∙ omega arith;
-  listed = λ s here l. ap (λ g. g.lists) e ∙ sym (append_nil old.lists);
+  counted = λ here l. ap (λ g. g.point) e ∙ l ∙ omega arith;
+  listed = λ here l. ap (λ g. g.lists) e ∙ sym (append_nil old.lists);
 }
   where
     append_nil : (xs : List Held) → xs ++ [] ≡ xs
     append_nil [] = refl
     append_nil (x ∷ xs) = ap (λ t. x ∷ t) (append_nil xs)
 
-pub back_listed : (deleting : ℕ → Bool) (types : List Ty) (live : ℕ → Bool) (old new : Going) (locals : List ℕ) → old.listing ≡ true → new.listing ≡ old.listing → new.point ≡ old.point - 1 →
+pub back_listed : (deleting : ℕ → Bool) (types : List Ty) (live : ℕ → Bool) (old new : Going) (locals : List ℕ) → new.point ≡ old.point - 1 →
     new.lists ≡ old.lists ++ record { point = new.point; locals = locals } ∷ [] → locals ≡ pins_from types 0 live → WentBack 1 (λ here. held_at deleting types here live) old new
-back_listed deleting types live old new locals on same point lists pins = record {
-  as_before = same;
-  still = λ s. absurd (both s);
-  counted = λ s here l. omega (arith, point, l);
-  listed = λ s here l. lists ∙ ap (λ p. old.lists ++ record { point = p; locals = locals } ∷ []) (let k : new.point ≡ here = omega (arith, point, l) in k) ∙ ap (λ ls. old.lists ++ record { point = here; locals = ls } ∷ []) pins;
+back_listed deleting types live old new locals point lists pins = record {
+  counted = λ here l. omega (arith, point, l);
+  listed = λ here l. lists ∙ ap (λ p. old.lists ++ record { point = p; locals = locals } ∷ []) (let k : new.point ≡ here = omega (arith, point, l) in k) ∙ ap (λ ls. old.lists ++ record { point = here; locals = ls } ∷ []) pins;
 }
-  where
-    both : old.listing ≡ false → ⊥
-    both s = cc
 
 pub map_last : {A B : Type 0} (shape : A → B) (xs : List A) (x : A) → map shape (xs ++ x ∷ []) ≡ map shape xs ++ shape x ∷ []
 map_last shape [] x = refl

@@ -1,9 +1,9 @@
 -- Rows, their bits, and the locals that the bits stand for.
-use Rattle.std.proofs.Common.{◌≡◌, ℕ, suc, ◌+◌, ◌<◌, Bool, true, false, ◌||◌, nat_eq, List, [], ◌∷◌, ◌++◌, length, map, drop, get_or, Some, ◌⊎◌, inl, inr, refl, sym, ap, ◌∙◌, arith, append_assoc}
+use Rattle.std.proofs.Common.{◌≡◌, ℕ, suc, ◌+◌, ◌<◌, ◌≤◌, Bool, true, false, ◌||◌, nat_eq, List, [], ◌∷◌, ◌++◌, length, map, drop, get_or, Some, ◌⊎◌, inl, inr, refl, sym, ap, ◌∙◌, arith, append_assoc}
 use Rattle.std.specs.Prelude.{slice_get, not, ◌&&◌, ◌==◌}
 use Rattle.std.proofs.Math.Seq.{drop-cons}
 use Rattle.std.proofs.lemmas.Bool.{eqb-true}
-use Rattle.std.proofs.lemmas.Option.{same_Some}
+use Rattle.std.proofs.lemmas.Option.{same_Some, slice_get_within}
 use Rattle.rc_base.specs.BitSets.{marks}
 use Rattle.rc_core.specs.Types.{Ty}
 use Rattle.rc_core.specs.declared.ty.Ty.{Ty as CodeTy}
@@ -13,6 +13,9 @@ use Rattle.rc_rlang.specs.RegionCode.{Kind, numeric, regional, kind_of}
 use Rattle.rc_rlang.specs.RegionRuns.{pin_when, pins_from}
 use Rattle.rc_rlang.specs.LiveMaps.{Increases, IsIncreasing}
 use Rattle.rc_rlang.proofs.Searching.{in_order}
+use Rattle.rc_live.specs.declared.program.Listed.{Listed}
+use Rattle.rc_live.specs.declared.program.Listed.TheVariants.{Live, Nothing}
+use Rattle.rc_live.specs.Walking.{looked_at}
 use Rattle.rc_live.specs.Rows.{is_regional, numbered, Shows, chosen_if, chosen}
 
 equal : (a b : ℕ) → a ≡ b → nat_eq a b ≡ true
@@ -133,3 +136,10 @@ numbered_increase (ty ∷ types) base = by (kind_of ty) (numbered_increase types
 
 pub numbered_is_increasing : (types : List Ty) → IsIncreasing (numbered types)
 numbered_is_increasing types = numbered_increase types 0
+
+pub below_128 : (names : List ℕ) (bit x : ℕ) → length names ≤ 128 → slice_get names bit ≡ Some x → bit < 128
+below_128 names bit x short at = let here = slice_get_within names bit x at in omega (arith, here, short)
+
+pub looked_at_few : (listed : Listed) (types : List Ty) → length (numbered types) ≤ 128 → length (numbered (looked_at listed types)) ≤ 128
+looked_at_few Live types short = short
+looked_at_few Nothing types short = omega arith

@@ -1,6 +1,9 @@
 pub mod Bits
+pub mod Told
+pub mod Doing
 pub mod Back
 pub mod Pieces
 pub mod Lowered
+pub mod Deleting
 pub mod Narrow
 pub mod Programs

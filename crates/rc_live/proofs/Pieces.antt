@@ -1,5 +1,5 @@
 -- Back past the code of statements, piece by piece.
-use Rattle.std.proofs.Common.{◌≡◌, ◌<◌, ◌≤◌, ◌-◌, length, drop, get_or, ℕ, suc, ◌+◌, ◌||◌, ◌&&◌, Bool, true, false, List, [], ◌++◌, Option, refl, sym, ap, ◌∙◌, arith, append-nil}
+use Rattle.std.proofs.Common.{◌≡◌, ◌<◌, ◌≤◌, ◌-◌, length, take, drop, get_or, ℕ, zero, suc, ◌+◌, ◌||◌, ◌&&◌, Bool, List, [], ◌∷◌, ◌++◌, Option, refl, sym, ap, ◌∙◌, arith, subst, append-nil, append_assoc}
 use Rattle.std.specs.Prelude.{is_some, option_map, Some, None}
 use Rattle.std.proofs.Math.Seq.{drop-cons}
 use Rattle.rc_base.specs.BitSets.{marks}
@@ -15,6 +15,9 @@ use Rattle.rc_rlang.specs.LiveLists.{Held, steps_lists, act_lists, code_lists, c
 use Rattle.rc_live.specs.declared.walk.Context.{Context}
 use Rattle.rc_live.specs.Rows.{Shows}
 use Rattle.rc_live.specs.Walking.{Going, WentBack, ActDone, StepsDone, CodeDone, CodesDone, deletes_in}
+use Rattle.rc_live.specs.declared.effects.Effect.{Effect}
+use Rattle.rc_live.specs.Effects.{Found, loops, loops_among}
+use Rattle.rc_live.proofs.Doing.{nothing_found}
 use Rattle.rc_live.proofs.Back.{back_both, back_as, stay}
 
 pub union_shows : (names : List ℕ) (row_a row_b row : ℕ) (a b : ℕ → Bool) → Shows names row_a a → Shows names row_b b → ((y : ℕ) → marks row y ≡ (marks row_a y || marks row_b y)) → Shows names row (λ x. a x || b x)
@@ -22,16 +25,6 @@ union_shows names row_a row_b row a b s t u j x e = u j ∙ ap (λ v. v || marks
 
 pub back_past : (q : ℕ) (b : ℕ → List Held) (old mid new : Going) → WentBack q b old mid → WentBack 1 (λ here. []) mid new → WentBack (1 + q) (λ here. b (suc here)) old new
 back_past q b old mid new d e = back_as (1 + q) (1 + q) (λ here. b (here + 1)) (λ here. b (suc here)) old new refl (λ here. ap b (let k : here + 1 ≡ suc here = omega arith in k)) (back_both 1 q (λ here. []) b old mid new d e)
-
--- a walk that lists nothing stays where it is
-pub same_again : (old paused now resumed : Going) → paused ≡ record { listing = false; point = old.point; lists = old.lists } → now ≡ paused → resumed ≡ record { listing = old.listing; point = now.point; lists = now.lists } → resumed ≡ old
-same_again old paused now resumed p s r = r ∙ ap (λ g. record { listing = old.listing; point = g.point; lists = g.lists }) (s ∙ p)
-
-back_quiet : (n : ℕ) (l : ℕ → List Held) (old new : Going) → old.listing ≡ false → new ≡ old → WentBack n l old new
-back_quiet n l old new q e = record { as_before = ap (λ g. g.listing) e; still = λ s. e; counted = λ s here m. absurd (both s); listed = λ s here m. absurd (both s) }
-  where
-    both : old.listing ≡ true → ⊥
-    both s = cc
 
 module _ (c : Context) (types : List Ty) where
   pub simple_done : (steps : Steps) (act : Act) (k : Ways) (row_a row : ℕ) (old mid new : Going) → ActDone c types act k.next row_a old mid → StepsDone c types steps (before_act act k.next) row mid new → CodeDone c types (simple steps act) k row old new
@@ -53,9 +46,6 @@ module _ (c : Context) (types : List Ty) where
             (back_both p (1 + (code_points a + code_points b)) (λ here. steps_lists (deletes_in c) types steps here (λ y. before_code a k y || before_code b k y)) (λ here. code_lists (deletes_in c) types a (suc here) k ++ code_lists (deletes_in c) types b (suc here + code_points a) k) old three new tested s.back);
       }
 
-  pub loop_quiet : (line : ℕ) (steps : Steps) (test : Option Test) (third a : Code) (k : Ways) (row : ℕ) (old new : Going) → Shows c.names.now row (before_code (loop line steps test third a) k) → old.listing ≡ false → new ≡ old → CodeDone c types (loop line steps test third a) k row old new
-  loop_quiet line steps test third a k row old new s q e = record { shows = s; back = back_quiet _ _ old new q e }
-
   pub loop_done : (line : ℕ) (steps : Steps) (test : Option Test) (third a : Code) (k : Ways) (head row_t row_a row_s : ℕ) (old one two three four new : Going) → Shows c.names.now head (before_code (loop line steps test third a) k) →
       CodeDone c types third (then_live (loop_head steps test third a k) k) row_t old one → CodeDone c types a (round (before_code third (then_live (loop_head steps test third a k) k)) k) row_a one two → WentBack (branch_points test) (λ here. []) two three →
       StepsDone c types steps (λ y. (is_some test && k.next y) || before_code a (round (before_code third (then_live (loop_head steps test third a k) k)) k) y) row_s three four → WentBack 1 (λ here. []) four new → CodeDone c types (loop line steps test third a) k head old new
@@ -75,9 +65,6 @@ module _ (c : Context) (types : List Ty) where
         back = back_as (1 + (p + (n + q))) (code_points (loop line steps test third a)) (λ here. steps_lists (deletes_in c) types steps (suc here) live ++ inside (suc here + p + n)) (λ here. code_lists (deletes_in c) types (loop line steps test third a) here k) old new (omega arith) (λ here. refl)
             (back_past (p + (n + q)) (λ here. steps_lists (deletes_in c) types steps here live ++ inside (here + p + n)) old four new headed past);
       }
-
-  pub repeat_quiet : (line : ℕ) (a : Code) (steps : Steps) (test : Test) (k : Ways) (row : ℕ) (old new : Going) → Shows c.names.now row (before_code (repeat line a steps test) k) → old.listing ≡ false → new ≡ old → CodeDone c types (repeat line a steps test) k row old new
-  repeat_quiet line a steps test k row old new s q e = record { shows = s; back = back_quiet _ _ old new q e }
 
   pub repeat_done : (line : ℕ) (a : Code) (steps : Steps) (test : Test) (k : Ways) (head row_s row_a : ℕ) (old one two three new : Going) → Shows c.names.now head (before_code (repeat line a steps test) k) → WentBack 1 (λ here. []) old one →
       StepsDone c types steps (λ y. k.next y || before_code (repeat 0 a steps test) k y) row_s one two → CodeDone c types a (round (repeat_tail a steps test k) k) row_a two three → WentBack 1 (λ here. []) three new → CodeDone c types (repeat line a steps test) k head old new
@@ -109,19 +96,23 @@ codes_at structs xs i x p l e =
     ap (codes_of structs) (drop-cons xs (i - 1) x (omega (arith, p, l))) ∙ ap (λ y. then (code_of structs y) (codes_of structs (drop (suc (i - 1)) xs))) (sym e)
     ∙ ap (λ j. then (code_of structs x) (codes_of structs (drop j xs))) (let k : suc (i - 1) ≡ i = omega (arith, p) in k)
 
--- after two or three pieces that were gone through without listing
-pub resumed : (old paused one two now resumed' : Going) (listing : Bool) → paused ≡ record { listing = false; point = old.point; lists = old.lists } → listing ≡ old.listing → (paused.listing ≡ false → one ≡ paused) → (one.listing ≡ false → two ≡ one) → (two.listing ≡ false → now ≡ two) →
-    resumed' ≡ record { listing = listing; point = now.point; lists = now.lists } → resumed' ≡ old
-resumed old paused one two now resumed' listing p l a b c r =
-    let quiet = ap (λ g. g.listing) p in
-    let e1 = a quiet in
-    let e2 = b (ap (λ g. g.listing) e1 ∙ quiet) in
-    let e3 = c (ap (λ g. g.listing) (e2 ∙ e1) ∙ quiet) in
-    same_again old paused now resumed' p (e3 ∙ e2 ∙ e1) (r ∙ ap (λ b. record { listing = b; point = now.point; lists = now.lists }) l)
-
 pub is_some_map : {A B : Type 0} (f : A → B) (o : Option A) → is_some (option_map f o) ≡ is_some o
 is_some_map f None = refl
 is_some_map f (Some a) = refl
 
 pub out_shows : {A B : Type 0} (f : A → B) (o : Option A) (names : List ℕ) (row : ℕ) (live : ℕ → Bool) → Shows names row (λ x. is_some o && live x) → Shows names row (λ x. is_some (option_map f o) && live x)
 out_shows f o names row live s j x e = s j x e ∙ ap (λ b. b && live x) (sym (is_some_map f o))
+
+-- the loops of the statements up to one
+pub loops_taken : (structs : List Struct) (xs : List CodeCode) (i : ℕ) (x : CodeCode) → 0 < i → i ≤ length xs → x ≡ get_or xs (i - 1) x →
+    loops_among (codes_of structs (take i xs)) ≡ loops_among (codes_of structs (take (i - 1) xs)) ++ loops (code_of structs x)
+loops_taken structs xs i x p l e = ap (λ n. loops_among (codes_of structs (take n xs))) (let k : i ≡ suc (i - 1) = omega (arith, p) in k) ∙ by xs (i - 1) (omega (arith, p, l)) e
+  where
+    by : (xs : List CodeCode) (i : ℕ) → i < length xs → x ≡ get_or xs i x → loops_among (codes_of structs (take (suc i) xs)) ≡ loops_among (codes_of structs (take i xs)) ++ loops (code_of structs x)
+    by [] i l e = absurd (omega (arith, l))
+    by (y ∷ ys) zero l e = append-nil (loops (code_of structs y)) ∙ ap (λ z. loops (code_of structs z)) (sym e)
+    by (y ∷ ys) (suc i) l e = ap (λ t. loops (code_of structs y) ++ t) (by ys i (omega (arith, l)) e) ∙ sym (append_assoc (loops (code_of structs y)) (loops_among (codes_of structs (take i ys))) (loops (code_of structs x)))
+
+-- without loops nothing is taken
+pub without_loops : (names : List ℕ) (one other : Code) (old new : List Effect) → one ≡ other → loops other ≡ [] → Found names (loops one) old new → new ≡ old
+without_loops names one other old new e n f = nothing_found names old new (subst (λ ls. Found names ls old new) (ap loops e ∙ n) f)

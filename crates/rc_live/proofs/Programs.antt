@@ -1,5 +1,5 @@
 -- Back past the functions of a program, one after another.
-use Rattle.std.proofs.Common.{◌≡◌, ◌<◌, ◌≤◌, ◌-◌, ℕ, zero, suc, ◌+◌, Bool, true, List, [], ◌∷◌, ◌++◌, length, map, take, drop, get_or, set, refl, sym, ap, ◌∙◌, subst, arith, append-nil}
+use Rattle.std.proofs.Common.{◌≡◌, ◌<◌, ◌≤◌, ◌-◌, ℕ, zero, suc, ◌+◌, Bool, List, [], ◌∷◌, ◌++◌, length, map, take, drop, get_or, set, refl, sym, ap, ◌∙◌, subst, arith, append-nil}
 use Rattle.std.specs.Prelude.{reverse, sum}
 use Rattle.std.proofs.Math.Seq.{drop-cons}
 use Rattle.std.proofs.lemmas.List.{reverse-reverse, reverse-append, map-append, map-set, take_all}
@@ -11,7 +11,8 @@ use Rattle.std.proofs.lemmas.List.Sums.{sum_by-cons}
 use Rattle.rc_rlang.specs.RegionCode.{Routine}
 use Rattle.rc_rlang.specs.RegionPoints.{routine_points}
 use Rattle.rc_rlang.specs.LiveLists.{Held, routine_lists, functions_lists}
-use Rattle.rc_live.specs.Walking.{Going, WentBack, lowered}
+use Rattle.rc_live.specs.declared.program.Listed.{Listed}
+use Rattle.rc_live.specs.Walking.{Going, WentBack, lowered, seen}
 use Rattle.rc_live.proofs.Back.{back_both, back_as}
 use Rattle.rc_live.proofs.Lowered.{lowered_functions}
 
@@ -28,12 +29,12 @@ functions_more deleting f later old mid new d e =
     (back_both (routine_points f) (sum (map routine_points later)) (routine_lists deleting f) (functions_lists deleting later) old mid new d e)
 
 -- the walk began with the greatest number of points, and came to the beginning
-pub walked : (deleting : ℕ → Bool) (fs : List Routine) (n : ℕ) (old new : Going) → n ≤ 65536 → WentBack n (functions_lists deleting fs) old new → old.listing ≡ true → old.point ≡ 65536 → old.lists ≡ [] →
+pub walked : (deleting : ℕ → Bool) (fs : List Routine) (n : ℕ) (old new : Going) → n ≤ 65536 → WentBack n (functions_lists deleting fs) old new → old.point ≡ 65536 → old.lists ≡ [] →
     map (lowered new.point) (reverse new.lists) ≡ functions_lists deleting fs 0
-walked deleting fs n old new l d on begin nothing =
+walked deleting fs n old new l d begin nothing =
     let m : 65536 ≡ (65536 - n) + n = omega (arith, l) in
-    let at = d.counted on (65536 - n) (begin ∙ m) in
-    let listed = d.listed on (65536 - n) (begin ∙ m) ∙ ap (λ xs. xs ++ reverse (functions_lists deleting fs (65536 - n))) nothing in
+    let at = d.counted (65536 - n) (begin ∙ m) in
+    let listed = d.listed (65536 - n) (begin ∙ m) ∙ ap (λ xs. xs ++ reverse (functions_lists deleting fs (65536 - n))) nothing in
     ap (λ xs. map (lowered new.point) (reverse xs)) listed ∙ ap (map (lowered new.point)) (reverse-reverse (functions_lists deleting fs (65536 - n)))
     ∙ ap (λ p. map (lowered p) (functions_lists deleting fs (65536 - n))) at
     ∙ lowered_functions deleting (65536 - n) fs (65536 - n) 0 (omega arith)
@@ -76,3 +77,11 @@ all_written d lists xs items rest i n e m o l so =
     drop_past zero (x ∷ xs) l = absurd (omega (arith, l))
     drop_past (suc i) [] l = refl
     drop_past (suc i) (x ∷ xs) l = drop_past i xs (omega (arith, l))
+
+-- as many points, whatever is looked at
+pub seen_points : (listed : Listed) (fs : List Routine) → sum (map routine_points (map (seen listed) fs)) ≡ sum (map routine_points fs)
+seen_points listed fs = ap sum (by fs)
+  where
+    by : (fs : List Routine) → map routine_points (map (seen listed) fs) ≡ map routine_points fs
+    by [] = refl
+    by (f ∷ fs) = ap (λ l. routine_points f ∷ l) (by fs)

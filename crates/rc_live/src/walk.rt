@@ -1,5 +1,5 @@
 // The walk from the end of a function to its beginning.
-ghost use Rattle.std.specs.Prelude.{◌≡◌, ◌≤◌, ◌+◌, ◌&&◌, ℕ, is_some, option_map, Bool, false, List, [], ◌∷◌, length, map, OnOk, IfOk};
+ghost use Rattle.std.specs.Prelude.{◌≡◌, ◌≤◌, ◌++◌, ◌&&◌, ℕ, is_some, option_map, Bool, List, [], ◌∷◌, length, map, OnOk, IfOk};
 ghost use Rattle.rc_core.specs.Types.{Ty};
 ghost use Rattle.rc_core.specs.Live.{Ways as LiveWays};
 ghost use Rattle.rc_rlang.specs.RegionPoints.{branch_points};
@@ -9,10 +9,14 @@ ghost use Rattle.rc_core.specs.Programs.{Struct};
 ghost use Rattle.rc_rlang.specs.Shapes.{act_of, code_of, codes_of, test_of, operation_of, step_of, steps_of, rlang_of};
 ghost use Rattle.rc_rlang.specs.Touches.{operation_touch};
 ghost use Rattle.rc_rlang.specs.LiveLists.{held_at, held_if};
+ghost use Rattle.rc_live.specs.Effects.{Found, Tells, loops, loops_among};
 ghost use Rattle.rc_live.specs.Rows.{numbered, Shows, ShowWays};
+ghost use Rattle.rc_live.specs.declared.effects.Effect.{Effect as EffectValue};
 ghost use Rattle.rc_live.specs.Walking.{structs_in, deletes_in, touch_in, IsReady, Serves, WentBack, ActDone, CodeDone, CodesDone, OperationDone, StepDone, StepsDone};
 
+use crate::effects::Effect;
 use crate::rows::{Ways, locals_of, with, without};
+use crate::touches::{Touched, touch};
 use rc_base::{BitSet, NoMemory};
 use rc_core::stmt::Change;
 use rc_core::ty::NumberType;
@@ -36,8 +40,6 @@ pub(crate) struct Context<'c> {
 /// one first.
 #[derive(Drop)]
 pub(crate) struct Walk {
-    /// Whether it lists what is live, and counts points; else it stays as it is.
-    pub(crate) listing: bool,
     /// The number of the point that it came past last.
     pub(crate) point: u32,
     pub(crate) lists: Vec<Held>,
@@ -50,7 +52,7 @@ impl Model for Walk {
 
     ghost Value = { Going };
 
-    ghost view = { λ w. record { listing = w.listing; point = w.point; lists = map held_of w.lists.items } };
+    ghost view = { λ w. record { point = w.point; lists = map held_of w.lists.items } };
 }
 
 impl Walk {
@@ -58,26 +60,7 @@ impl Walk {
     pub(crate) fn pass(&mut self, points: u64)
         ensures { WentBack points (λ here. []) self.old self.new }
     {
-        if self.listing {
-            self.point = (self.point as u64).saturating_sub(points) as u32;
-        }
-    }
-
-    /// Lists nothing from now on, and tells whether it did.
-    fn pause(&mut self) -> bool
-        ensures was { result ≡ self.old.listing }
-        ensures now { self.new ≡ record { listing = false; point = self.old.point; lists = self.old.lists } }
-    {
-        let listing = self.listing;
-        self.listing = false;
-        listing
-    }
-
-    /// Lists again, if it did.
-    fn resume(&mut self, listing: bool)
-        ensures { self.new ≡ record { listing = listing; point = self.old.point; lists = self.old.lists } }
-    {
-        self.listing = listing;
+        self.point = (self.point as u64).saturating_sub(points) as u32;
     }
 
     /// Back past a deleting point.
@@ -91,14 +74,12 @@ impl Walk {
         ensures { (deleting : ℕ → Bool) (types : List Ty) (l : ℕ → Bool) → names.now ≡ numbered types → Shows names.now live l →
             OnOk result (WentBack 1 (λ here. held_at deleting types here l) self.old self.new) }
     {
-        if self.listing {
-            let locals = locals_of(alloc, names, live)?;
-            self.point = self.point.saturating_sub(1);
-            self.lists.push(Held {
-                point: self.point,
-                locals,
-            })?;
-        }
+        let locals = locals_of(alloc, names, live)?;
+        self.point = self.point.saturating_sub(1);
+        self.lists.push(Held {
+            point: self.point,
+            locals,
+        })?;
         Ok(())
     }
 }
@@ -124,43 +105,6 @@ fn call(context: &Context, function: u32, live: BitSet, walk: &mut Walk) -> Resu
     } else {
         walk.pass(1);
         Ok(())
-    }
-}
-
-/// What an operation does to the locals of its function.
-enum Touched {
-    Nothing,
-    Reads(u32),
-    Calls(u32),
-}
-
-/// What an operation does to the locals of its function.
-fn touch(operation: &Operation) -> Touched
-    ensures { (structs : List Struct) → touch_in result ≡ operation_touch (operation_of structs operation.now) }
-{
-    match operation {
-        Operation::Constant { .. } => Touched::Nothing,
-        Operation::Null => Touched::Nothing,
-        Operation::Static { .. } => Touched::Nothing,
-        Operation::Copy { local } => Touched::Reads(*local),
-        Operation::Load { .. } => Touched::Nothing,
-        Operation::Step { .. } => Touched::Nothing,
-        Operation::StepFrom { .. } => Touched::Nothing,
-        Operation::Unary { .. } => Touched::Nothing,
-        Operation::Binary { .. } => Touched::Nothing,
-        Operation::Convert { .. } => Touched::Nothing,
-        Operation::NotZero { .. } => Touched::Nothing,
-        Operation::Truth { .. } => Touched::Nothing,
-        Operation::IsNull { .. } => Touched::Nothing,
-        Operation::Same { .. } => Touched::Nothing,
-        Operation::Call { function, .. } => Touched::Calls(*function),
-        Operation::NewRegion => Touched::Nothing,
-        Operation::NewSubregion => Touched::Nothing,
-        Operation::RegionOf { .. } => Touched::Nothing,
-        Operation::Allocate { .. } => Touched::Nothing,
-        Operation::AllocateArray { .. } => Touched::Nothing,
-        Operation::Putchar => Touched::Nothing,
-        Operation::Getchar => Touched::Nothing,
     }
 }
 
@@ -318,19 +262,30 @@ fn pass_test(test: &Option<Test>, walk: &mut Walk)
     }
 }
 
-/// Back past the code of a statement: what is live before it.
-///
-/// What is live at the head of a loop is found first, without listing, by going once round.
+/// What is live before the loop whose effect is listed last, which is taken off the list.
+fn head(effects: &mut Vec<Effect>, ways: &Ways) -> BitSet
+    ensures { (names : List ℕ) (before : List EffectValue) (e : EffectValue) (f : LiveWays → ℕ → Bool) (k : LiveWays) → effects.old.items ≡ before ++ e ∷ [] → Tells names e f → ShowWays names ways.now k →
+        Shows names result (f k) × (effects.new.items ≡ before) }
+{
+    let Some(effect) = effects.pop() else {
+        return BitSet::empty();
+    };
+    effect.before(ways)
+}
+
+/// Back past the code of a statement: what is live before it. The effects of its loops are taken off the
+/// end of their list.
 #[cycle(code)]
 pub(crate) fn code(
     context: &Context,
     code: &Code,
     ways: &Ways,
+    effects: &mut Vec<Effect>,
     walk: &mut Walk,
 ) -> Result<BitSet, NoMemory>
     requires { IsReady context.now }
-    ensures { (types : List Ty) (k : LiveWays) → Serves context.now types → ShowWays context.now.names.now ways.now k →
-        IfOk result (λ row. CodeDone context.now types (code_of (structs_in context.now.parts.now) code.now) k row walk.old walk.new) }
+    ensures { (types : List Ty) (k : LiveWays) (before : List EffectValue) → Serves context.now types → ShowWays context.now.names.now ways.now k → Found context.now.names.now (loops (code_of (structs_in context.now.parts.now) code.now)) before effects.old.items →
+        IfOk result (λ row. CodeDone context.now types (code_of (structs_in context.now.parts.now) code.now) k row walk.old walk.new × (effects.new.items ≡ before)) }
 {
     match code {
         Code::Simple {
@@ -344,15 +299,15 @@ pub(crate) fn code(
             walk.pass(1);
             Ok(without(context.names, ways.next, *local))
         }
-        Code::Block { body } => codes(context, body.as_slice(), ways, walk),
+        Code::Block { body } => codes(context, body.as_slice(), ways, effects, walk),
         Code::Branch {
             steps: all,
             yes,
             no,
             ..
         } => {
-            let live_no = self::code(context, no, ways, walk)?;
-            let live_yes = self::code(context, yes, ways, walk)?;
+            let live_no = self::code(context, no, ways, effects, walk)?;
+            let live_yes = self::code(context, yes, ways, effects, walk)?;
             walk.pass(1);
             steps(context, all.as_slice(), live_yes.union(live_no), walk)
         }
@@ -363,39 +318,26 @@ pub(crate) fn code(
             body,
             ..
         } => {
-            let out = way_out(test, ways.next);
-            let listing = walk.pause();
-            let once_third = self::code(context, third, &ways.then(BitSet::empty()), walk)?;
-            let once_body = self::code(context, body, &ways.round(once_third), walk)?;
-            let head = steps(context, all.as_slice(), out.union(once_body), walk)?;
-            walk.resume(listing);
-            if !listing {
-                return Ok(head);
-            }
-            let again = self::code(context, third, &ways.then(head), walk)?;
-            let inside = self::code(context, body, &ways.round(again), walk)?;
+            let first = head(effects, ways);
+            let again = self::code(context, third, &ways.then(first), effects, walk)?;
+            let inside = self::code(context, body, &ways.round(again), effects, walk)?;
             pass_test(test, walk);
+            let out = way_out(test, ways.next);
             steps(context, all.as_slice(), out.union(inside), walk)?;
             walk.pass(1);
-            Ok(head)
+            Ok(first)
         }
         Code::Repeat {
             body,
             steps: all,
             ..
         } => {
-            let listing = walk.pause();
-            let once = steps(context, all.as_slice(), ways.next, walk)?;
-            let head = self::code(context, body, &ways.round(once), walk)?;
-            walk.resume(listing);
-            if !listing {
-                return Ok(head);
-            }
+            let first = head(effects, ways);
             walk.pass(1);
-            let again = steps(context, all.as_slice(), ways.next.union(head), walk)?;
-            self::code(context, body, &ways.round(again), walk)?;
+            let again = steps(context, all.as_slice(), ways.next.union(first), walk)?;
+            self::code(context, body, &ways.round(again), effects, walk)?;
             walk.pass(1);
-            Ok(head)
+            Ok(first)
         }
         Code::Break { .. } => {
             walk.pass(1);
@@ -410,14 +352,20 @@ pub(crate) fn code(
 
 /// Back past the code of statements, the last one first.
 #[cycle(code)]
-fn codes(context: &Context, body: &[Code], ways: &Ways, walk: &mut Walk) -> Result<BitSet, NoMemory>
+fn codes(
+    context: &Context,
+    body: &[Code],
+    ways: &Ways,
+    effects: &mut Vec<Effect>,
+    walk: &mut Walk,
+) -> Result<BitSet, NoMemory>
     requires { IsReady context.now }
-    ensures { (types : List Ty) (k : LiveWays) → Serves context.now types → ShowWays context.now.names.now ways.now k →
-        IfOk result (λ row. CodesDone context.now types (codes_of (structs_in context.now.parts.now) body.now) k row walk.old walk.new) }
+    ensures { (types : List Ty) (k : LiveWays) (before : List EffectValue) → Serves context.now types → ShowWays context.now.names.now ways.now k → Found context.now.names.now (loops_among (codes_of (structs_in context.now.parts.now) body.now)) before effects.old.items →
+        IfOk result (λ row. CodesDone context.now types (codes_of (structs_in context.now.parts.now) body.now) k row walk.old walk.new × (effects.new.items ≡ before)) }
 {
     let mut next = ways.next;
     for i in (0..body.len()).rev() {
-        next = code(context, &body[i], &ways.then(next), walk)?;
+        next = code(context, &body[i], &ways.then(next), effects, walk)?;
     }
     Ok(next)
 }
