@@ -4,7 +4,7 @@
 use crate::repeated::Repeated;
 use rc_compile::program;
 use rc_elab::elaborate;
-use rc_live::live;
+use rc_live::{live, none};
 use std::alloc::Global;
 use std::test::Fail;
 
@@ -15,6 +15,23 @@ fn is_listed(alloc: Global, text: &[u8]) -> Result<bool, Fail> {
         Ok(code) => Ok(live(alloc, &code).is_ok()),
         Err(_) => Ok(false),
     }
+}
+
+/// Whether the text is a program of which a map without locals is made.
+fn has_empty_lists(alloc: Global, text: &[u8]) -> Result<bool, Fail> {
+    let program = program(alloc, text)?;
+    match elaborate(alloc, &program) {
+        Ok(code) => Ok(none(alloc, &code).is_ok()),
+        Err(_) => Ok(false),
+    }
+}
+
+#[test]
+fn empty_lists_are_made(rt: HostRuntime) -> Result<(), Fail> {
+    let text =
+        b"int main(void) deletes { region r = newregion(); region s = newregion(); deleteregion(r); deleteregion(s); return 0; }";
+    assert!(rt; has_empty_lists(rt.alloc(), text)?);
+    Ok(())
 }
 
 #[test]
@@ -42,7 +59,7 @@ fn live_locals_in_deep_loops_are_listed(rt: HostRuntime) -> Result<(), Fail> {
     let text = Repeated {
         front: b"int main(void) deletes { region r = newregion(); int x = 1; ",
         part: b"while (x) ",
-        times: 60,
+        times: 190,
         end: b"{ deleteregion(r); x = 0; } return 0; }",
     };
     assert!(rt; is_listed(rt.alloc(), text.text(rt.alloc())?.as_slice())?);
