@@ -14,6 +14,7 @@ use rc_inspections::check_file;
 use rc_programs::{compile_file, run_file};
 use rc_requests::{Request, request_of};
 use rc_scripts::run_script;
+use rc_soaks::soak_number;
 use rc_store::SetHeap;
 use std::alloc::Global;
 
@@ -44,6 +45,7 @@ fn perform<F: Shelf, S: Source, O: Sink, H: SetHeap>(
         Some(Request::Upgrade(from, to)) => upgrade_image(alloc, from, to, files),
         Some(Request::Script(file, limits)) => { run_script(alloc, file, limits, files, out, heap) }
         Some(Request::Checks(file)) => check_file(alloc, file, files, out),
+        Some(Request::Soak(number)) => soak_number(alloc, number, out, heap),
         None => Ok(Done::Usage),
     }
 }
@@ -57,10 +59,12 @@ fn perform<F: Shelf, S: Source, O: Sink, H: SetHeap>(
 /// but for the request to go node by node; an image of a file is run with all marks of its stores taken
 /// away. Both run over `heap`, which is as its constructor made it, under the request's limits. A script
 /// of heap commands is obeyed over it line by line, writes exactly its answers to `out`, and leaves the
-/// store that is behind its last line. A report on the checks of a program says exactly which may go. Only
-/// a fault of the outside, which its count shows, or want of memory may cut a run or a report short, and
-/// then a front of its acts was done. What is answered is told on `err`. All that is promised stands fact
-/// by fact in `Serves` of specs/Headline, over the outside before the call and after it.
+/// store that is behind its last line. A report on the checks of a program says exactly which may go. A
+/// program that is made from a number is run over the heap too, under the usual limits and without input,
+/// and the line that sums it up is written to `out`. Only a fault of the outside, which its count shows, or
+/// want of memory may cut a run or a report short, and then a front of its acts was done. What is answered
+/// is told on `err`. All that is promised stands fact by fact in `Serves` of specs/Headline, over the
+/// outside before the call and after it.
 ///
 /// # Errors
 ///

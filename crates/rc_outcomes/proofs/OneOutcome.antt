@@ -28,21 +28,24 @@ use Rattle.rc_answers.specs.declared.image_refusal.ImageRefusal.{ImageRefusal}
 use Rattle.rc_outcomes.specs.Images.{image_in}
 use Rattle.rc_outcomes.specs.Footprint.{AreThere, footprint}
 use Rattle.rc_outcomes.specs.Bytes.{AreBytes}
-use Rattle.rc_outcomes.specs.Outcome.{Executes, IsOutcome, Lists, OfImage, OfRead, OfScriptFile, OfText, OfTextFile, Leaving, ReportsOn, Runs, Compiles, Outcome, Upgrades, unpinned, unsaid, accepts, answers, broken, came, refusal_of_code, refuses, reports, reports_leaving, runs, script_outcome, sound, stores}
-use Rattle.rc_requests.specs.Request.{Request, Run, Slow, Compile, Exec, Listing, Upgrade, Script, Checks}
+use Rattle.rc_outcomes.specs.Outcome.{Executes, IsOutcome, Lists, OfImage, OfRead, OfScriptFile, OfText, OfTextFile, Leaving, ReportsOn, Runs, Compiles, Outcome, Soaks, Upgrades, unpinned, unsaid, accepts, answers, broken, came, refusal_of_code, refuses, reports, reports_leaving, runs, script_outcome, sound, stores}
+use Rattle.rc_requests.specs.Request.{Request, Run, Slow, Compile, Exec, Listing, Upgrade, Script, Checks, Soak, usual_limits}
 use Rattle.rc_answers.specs.declared.answer.Done.TheVariants.{ImageRefused, Refused, Usage}
+use Rattle.rc_outcomes.proofs.MadeTexts.{generated_bytes}
 use Rattle.rc_outcomes.proofs.Ways.{an_end, same_text}
 use Rattle.rc_safety.specs.Safety.{NeverTouchesDeleted}
 use Rattle.rc_safety.proofs.Never.{never_touches_deleted}
 use Rattle.std.specs.List.{AllByRecursion as Every}
 use Rattle.rc_core.specs.Numbers.{IsByte}
 use Rattle.rc_well_typed.proofs.Texts.{well_typed}
+use Rattle.rc_gen.specs.Program.{generated}
 use Rattle.rc_greatest.proofs.Marks.{marks_decided}
 use Rattle.rc_inspect.specs.Inspected.{IsReportOf}
 use Rattle.rc_region_rules.proofs.Theorem.{fits_together}
-use Rattle.rc_reports.specs.Reports.{entries, report_text}
+use Rattle.rc_reports.specs.Reports.{entries, removed_count, report_text}
 use Rattle.rc_reports.specs.declared.entry.Entry.{Entry}
 use Rattle.rc_reports.proofs.One.{one_report}
+use Rattle.rc_summaries.specs.Summary.{summary_text}
 use Rattle.rc_translation.specs.Translation.{region_of_program}
 use Rattle.rc_unchecked.proofs.Compiled.{one_image, some_image}
 
@@ -81,6 +84,14 @@ reported_outcome input text bytes program accepted =
     let found = report_of text bytes program accepted in
     (reports (report_text found.0), record { entries = found.0; report = found.1; comes = refl })
 
+soaked_outcome : (n : ℕ) (text : List ℕ) → Every IsByte text → (program : Program) → Accepted text program → (outcome : Outcome) × Soaks n program outcome
+soaked_outcome n text bytes program accepted =
+    let found = report_of text bytes program accepted in
+    let e = an_end (meaning program [] usual_limits).end (never_touches_deleted program [] usual_limits (accepted_in_place text program accepted)) in (
+      reports_leaving (summary_text (record { number = n; functions = length program.functions; checks = length found.0; removed = removed_count found.0; end = e.0 })) (unpinned (meant.left program [] usual_limits)),
+      record { entries = found.0; report = found.1; end = e.0; ends = e.1; comes = refl },
+    )
+
 -- what comes of an image, where something comes of each
 image_outcome : (file : List ℕ) (Made : Parts → List ℕ → Outcome → Type 0) (files : Names) (input : List ℕ) → ((image : Parts) → (outcome : Outcome) × Made image input outcome) → ¬ (files file ≡ None) → (outcome : Outcome) × OfImage file Made files input outcome
 image_outcome file Made files input some there = by (files file) refl where
@@ -114,6 +125,7 @@ some_outcome (Some (Listing file)) files input there bytes = image_outcome file 
 some_outcome (Some (Upgrade from to)) files input there bytes = image_outcome from (Upgrades to) files input (λ image. (stores to (spelling Two image), refl)) (there from (0, omega arith, refl))
 some_outcome (Some (Script file limits)) files input there bytes = script_some file limits files (there file (0, omega arith, refl))
 some_outcome (Some (Checks file)) files input there bytes = file_outcome file ReportsOn files input (λ text is. reported_outcome input text (bytes text is)) (there file (0, omega arith, refl))
+some_outcome (Some (Soak n)) files input there bytes = text_outcome (Soaks n) (generated n) (soaked_outcome n (generated n) (generated_bytes n))
 
 -- two outcomes of one text are one
 same_end : (program : Program) (input : List ℕ) (limits : Limits) (one other : End) → (meaning program input limits).end ≡ Ends one → (meaning program input limits).end ≡ Ends other → one ≡ other
@@ -162,6 +174,14 @@ one_reported : (input : List ℕ) (one other : Outcome) (program : Program) → 
 one_reported input one other program is also =
     is.comes ∙ ap (λ (all : List Entry). reports (report_text all)) (one_report (region_of_program program) is.entries also.entries is.report also.report) ∙ sym also.comes
 
+one_soaked : (n : ℕ) (one other : Outcome) (program : Program) → Soaks n program one → Soaks n program other → one ≡ other
+one_soaked n one other program is also =
+    let sums = λ (all : List Entry) (end : End). reports_leaving (summary_text (record { number = n; functions = length program.functions; checks = length all; removed = removed_count all; end = end })) (unpinned (meant.left program [] usual_limits)) in
+    is.comes
+    ∙ ap (λ (all : List Entry). sums all is.end) (one_report (region_of_program program) is.entries also.entries is.report also.report)
+    ∙ ap (λ (end : End). sums also.entries end) (same_end program [] usual_limits is.end also.end is.ends also.ends)
+    ∙ sym also.comes
+
 pub one_outcome : (request : Option Request) (files : Names) (input : List ℕ) (one other : Outcome) → IsOutcome request files input one → IsOutcome request files input other → one ≡ other
 one_outcome None files input one other is also = is ∙ sym also
 one_outcome (Some (Run file limits)) files input one other is also = one_of_file file (Runs meant.left limits) files input one other (one_run meant.left limits input one other) is also
@@ -172,6 +192,7 @@ one_outcome (Some (Listing file)) files input one other is also = one_of_image f
 one_outcome (Some (Upgrade from to)) files input one other is also = one_of_image from (Upgrades to) files input one other (λ image a b. a ∙ sym b) is also
 one_outcome (Some (Script file limits)) files input one other is also = one_script file limits files one other is also
 one_outcome (Some (Checks file)) files input one other is also = one_of_file file ReportsOn files input one other (one_reported input one other) is also
+one_outcome (Some (Soak n)) files input one other is also = one_of_text (Soaks n) (generated n) one other (one_soaked n one other) is also
 
 pub accepted_never : (text : List ℕ) (program : Program) (input : List ℕ) (limits : Limits) → Accepted text program → NeverTouchesDeleted program input limits
 accepted_never text program input limits accepted = never_touches_deleted program input limits (accepted_in_place text program accepted)

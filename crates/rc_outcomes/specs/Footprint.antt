@@ -4,7 +4,7 @@ use Rattle.std.specs.List.{AllByRecursion as Every}
 use Rattle.rc_base.specs.Shelves.{Lacks, Names}
 use Rattle.rc_core.specs.Numbers.{IsByte}
 use Rattle.rc_outcomes.specs.Outside.{Outside}
-use Rattle.rc_requests.specs.Request.{Request, Run, Slow, Compile, Exec, Listing, Upgrade, Script, Checks}
+use Rattle.rc_requests.specs.Request.{Request, Run, Slow, Compile, Exec, Listing, Upgrade, Script, Checks, Soak}
 
 -- the names that it reads, the name that it stores under, and whether it takes bytes of the input, writes to the output and runs over the
 -- heap
@@ -34,6 +34,10 @@ reports_on file = record { reads = file ∷ []; stores = None; takes_input = fal
 abbrev pub reports_in_heap : List ℕ → Footprint
 reports_in_heap file = record { reads = file ∷ []; stores = None; takes_input = false; writes_out = true; uses_heap = true }
 
+-- a report on what a made program does to the heap
+abbrev pub made_in_heap : Footprint
+made_in_heap = record { reads = []; stores = None; takes_input = false; writes_out = true; uses_heap = true }
+
 -- what is made of one file is stored under another name
 abbrev pub stores_from : (from to : List ℕ) → Footprint
 stores_from from to = record { reads = from ∷ []; stores = Some to; takes_input = false; writes_out = false; uses_heap = false }
@@ -49,6 +53,7 @@ footprint (Some (Listing file)) = reports_on file
 footprint (Some (Upgrade from to)) = stores_from from to
 footprint (Some (Script file limits)) = reports_in_heap file
 footprint (Some (Checks file)) = reports_on file
+footprint (Some (Soak n)) = made_in_heap
 
 abbrev pub Reads : Footprint → List ℕ → Type 0
 Reads f name = Contains f.reads name

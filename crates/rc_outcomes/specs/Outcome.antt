@@ -32,7 +32,7 @@ use Rattle.rc_store.specs.Kept.{KeptStore}
 use Rattle.rc_outcomes.specs.Footprint.{TellsWhatIsUsed, footprint}
 use Rattle.rc_outcomes.specs.Images.{image_in}
 use Rattle.rc_outcomes.specs.Outside.{Outside}
-use Rattle.rc_requests.specs.Request.{Request, Run, Slow, Compile, Exec, Listing, Upgrade, Script, Checks}
+use Rattle.rc_requests.specs.Request.{Request, Run, Slow, Compile, Exec, Listing, Upgrade, Script, Checks, Soak, usual_limits}
 use Rattle.rc_answers.specs.declared.answer.Done.{Done}
 use Rattle.rc_answers.specs.declared.answer.Done.TheVariants.{Ended, StaleImage, Refused, ImageRefused, Wrote, Reported, Usage}
 use Rattle.rc_answers.specs.declared.answer.Fault.{Fault}
@@ -43,9 +43,11 @@ use Rattle.rc_image.specs.Spelling.{spelling}
 use Rattle.rc_image.specs.declared.version.Version.TheVariants.{Two}
 use Rattle.rc_listing.specs.Listing.{listing}
 use Rattle.rc_unchecked.specs.Compiled.{IsCompiled}
+use Rattle.rc_gen.specs.Program.{generated}
 use Rattle.rc_inspect.specs.Inspected.{IsReportOf}
-use Rattle.rc_reports.specs.Reports.{report_text}
+use Rattle.rc_reports.specs.Reports.{removed_count, report_text}
 use Rattle.rc_reports.specs.declared.entry.Entry.{Entry}
+use Rattle.rc_summaries.specs.Summary.{summary_text}
 
 -- bytes that are stored under a name
 pub record Stored : Type 0 where
@@ -138,6 +140,15 @@ pub record ReportsOn (input : List ℕ) (program : Program) (outcome : Outcome) 
   pub report : IsReportOf program entries
   pub comes : outcome ≡ reports (report_text entries)
 
+-- it is run within the usual limits, without input and with its output thrown away. A line that sums it up is written: it has the
+-- number n from which the program was made, how many functions and checks it has, how many checks its report removes, and its end
+pub record Soaks (n : ℕ) (program : Program) (outcome : Outcome) : Type 0 where
+  pub entries : List Entry
+  pub report : IsReportOf program entries
+  pub end : End
+  pub ends : (meaning program [] usual_limits).end ≡ Ends end
+  pub comes : outcome ≡ reports_leaving (summary_text (record { number = n; functions = length program.functions; checks = length entries; removed = removed_count entries; end = end })) (unpinned (meant.left program [] usual_limits))
+
 -- ---- images
 
 -- what comes of a file that is an image; bytes that are none are refused
@@ -191,6 +202,7 @@ IsOutcome (Some (Listing file)) files input outcome = OfImage file Lists files i
 IsOutcome (Some (Upgrade from to)) files input outcome = OfImage from (Upgrades to) files input outcome
 IsOutcome (Some (Script file limits)) files input outcome = OfScriptFile file limits files outcome
 IsOutcome (Some (Checks file)) files input outcome = OfTextFile file ReportsOn files input outcome
+IsOutcome (Some (Soak n)) files input outcome = OfText (Soaks n) (generated n) outcome
 
 -- the outcome, where what the request uses tells what it has
 pub record Comes (request : Option Request) (before : Outside) (outcome : Outcome) : Type 0 where

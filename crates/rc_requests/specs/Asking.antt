@@ -5,7 +5,7 @@ use Rattle.rc_requests.specs.Request as request
 use Rattle.rc_requests.specs.Request.{Chosen}
 use Rattle.rc_requests.specs.declared.request.Chosen as code
 use Rattle.rc_requests.specs.declared.request.Request as code_request
-use Rattle.rc_requests.specs.declared.request.Request.TheVariants.{Run, Slow, Compile, Exec, Listing, Upgrade, Script, Checks}
+use Rattle.rc_requests.specs.declared.request.Request.TheVariants.{Run, Slow, Compile, Exec, Listing, Upgrade, Script, Checks, Soak}
 
 abbrev pub bytes_of : List (String Global) → List (List ℕ)
 bytes_of words = map string_bytes words
@@ -22,3 +22,4 @@ asks (Listing file) = request.Listing file.now
 asks (Upgrade from to) = request.Upgrade from.now to.now
 asks (Script file limits) = request.Script file.now limits
 asks (Checks file) = request.Checks file.now
+asks (Soak n) = request.Soak n

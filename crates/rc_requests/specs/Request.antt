@@ -24,6 +24,8 @@ pub data Request : Type 0 where
   Script : (file : List ℕ) → Limits → Request
   -- to report on the checks of this file's program
   Checks : (file : List ℕ) → Request
+  -- to run the program that is made from this number, and to sum it up
+  Soak : (n : ℕ) → Request
 
 -- the number of a word of decimal digits without a leading zero, where it is no more than `most`
 abbrev pub number_within : (most : ℕ) → List ℕ → Option ℕ
@@ -59,6 +61,10 @@ limits_within turns words =
 abbrev pub limits_of : List (List ℕ) → Option Limits
 limits_of words = choosing (option (codes "--turns") most_turns usual_turns words) limits_within
 
+-- those of a run that asks for none
+abbrev pub usual_limits : Limits
+usual_limits = record { turns = usual_turns; regions = most_regions; blocks = most_blocks }
+
 -- nothing stands behind
 abbrev pub ending : Request → List (List ℕ) → Option Request
 ending request [] = Some request
@@ -69,7 +75,16 @@ abbrev pub ending_in_name : (List ℕ → Request) → List (List ℕ) → Optio
 ending_in_name request (name ∷ []) = Some (request name)
 ending_in_name request words = None
 
--- a verb, any word as the name of a file, and options or another name; none for every other list of words
+-- the largest number from which a program is made
+abbrev pub most_made : ℕ
+most_made = 18446744073709551615
+
+-- a number, and nothing behind it
+abbrev pub ending_number : (ℕ → Request) → (word : List ℕ) → List (List ℕ) → Option Request
+ending_number request word [] = option_map request (number_within most_made word)
+ending_number request word (other ∷ words) = None
+
+-- a verb, any word as the name of a file, and options or another name, or a number; none for every other list of words
 abbrev pub request_of : List (List ℕ) → Option Request
 request_of (verb ∷ file ∷ rest) =
     if bytes_eq verb (codes "run") then option_map (Run file) (limits_of rest) else
@@ -79,5 +94,6 @@ request_of (verb ∷ file ∷ rest) =
     if bytes_eq verb (codes "list") then ending (Listing file) rest else
     if bytes_eq verb (codes "upgrade") then ending_in_name (Upgrade file) rest else
     if bytes_eq verb (codes "heap") then option_map (Script file) (limits_within 0 rest) else
-    if bytes_eq verb (codes "checks") then ending (Checks file) rest else None
+    if bytes_eq verb (codes "checks") then ending (Checks file) rest else
+    if bytes_eq verb (codes "soak") then ending_number Soak file rest else None
 request_of _ = None

@@ -4,7 +4,7 @@ ghost use Rattle.std.specs.Option.{option_map};
 ghost use Rattle.std.specs.Fmt.{decimal};
 ghost use Rattle.std.specs.Str.{bytes_eq};
 ghost use Rattle.rc_requests.specs.Asking.{asks, bytes_of, chosen};
-ghost use Rattle.rc_requests.specs.Request.{Checks, Compile, Listing, Upgrade, ending, ending_in_name, limits_of, limits_within, number_within, option, request_of};
+ghost use Rattle.rc_requests.specs.Request.{Checks, Compile, Listing, Soak, Upgrade, ending, ending_in_name, ending_number, limits_of, limits_within, number_within, option, request_of};
 
 use itoa::Buffer;
 use rc_base::{Limits, MOST_BLOCKS, MOST_REGIONS, MOST_TURNS, USUAL_TURNS};
@@ -28,6 +28,8 @@ pub enum Request<'a> {
     Script(&'a str, Limits),
     /// To report on the checks of the file's program.
     Checks(&'a str),
+    /// To run the program that is made from this number, and to sum it up.
+    Soak(u64),
 }
 
 /// The number of an option, and the words behind it.
@@ -154,6 +156,17 @@ fn checks<'a>(file: &'a str, rest: &[String]) -> Option<Request<'a>>
     }
 }
 
+/// To run the program that is made from the number that this word spells, where no word stands behind.
+fn soak<'a>(word: &str, rest: &[String]) -> Option<Request<'a>>
+    ensures { option_map asks result ≡ ending_number Soak word.now (bytes_of rest.now) }
+{
+    if !rest.is_empty() {
+        return None;
+    }
+    let number = number_within(u64::MAX, word)?;
+    Some(Request::Soak(number))
+}
+
 fn asking<'a>(verb: &str, file: &'a str, rest: &'a [String]) -> Option<Request<'a>>
     ensures { option_map asks result ≡ request_of (verb.now ∷ file.now ∷ bytes_of rest.now) }
 {
@@ -185,11 +198,14 @@ fn asking<'a>(verb: &str, file: &'a str, rest: &'a [String]) -> Option<Request<'
     if verb == "checks" {
         return checks(file, rest);
     }
+    if verb == "soak" {
+        return soak(file, rest);
+    }
     None
 }
 
 /// What the words ask, if anything: a verb, a file's name, which may be any word, and options or
-/// another name.
+/// another name; or a verb and a number.
 pub fn request_of<'a>(words: &'a [String]) -> Option<Request<'a>>
     ensures { option_map asks result ≡ request_of (bytes_of words.now) }
 {

@@ -12,3 +12,5 @@ mod evaluating;
 mod memory;
 #[cfg(test)]
 mod outside;
+#[cfg(test)]
+mod summaries;

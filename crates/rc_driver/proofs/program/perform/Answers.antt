@@ -2,7 +2,7 @@ use Rattle.std.proofs.Common.{◌∙◌, Ok, Option, Some, ap, subst, sym}
 use Rattle.rc_requests.specs.Asking.{asks}
 use Rattle.rc_outcomes.specs.Outside.{outside}
 use Rattle.rc_outcomes.specs.Performing.{Performs}
-use Rattle.rc_requests.specs.Request.{Request, Run, Slow, Compile, Exec, Listing, Upgrade, Script, Checks}
+use Rattle.rc_requests.specs.Request.{Request, Run, Slow, Compile, Exec, Listing, Upgrade, Script, Checks, Soak}
 use Rattle.rc_requests.specs.declared.request.Request.{Request as Asked}
 use Rattle.rc_answers.specs.declared.answer.Done.TheVariants.{Usage}
 use Rattle.rc_evaluation.proofs.Rows.{slow_row}
@@ -11,6 +11,7 @@ use Rattle.rc_exec.proofs.Executions.{exec_row}
 use Rattle.rc_image_files.proofs.ImageFiles.{list_row, upgrade_row}
 use Rattle.rc_scripts.proofs.Rows.{script_row}
 use Rattle.rc_inspections.proofs.Rows.{checks_row}
+use Rattle.rc_soaks.proofs.Rows.{soak_row}
 use Rattle.rc_outcomes.proofs.Ways.{asks_usage}
 use Rattle.rc_driver.proofs.program.perform.Goals as goal
 
@@ -53,6 +54,11 @@ pub returns-in-Some-Checks : goal.returns-in-Some-Checks
 returns-in-Some-Checks g c = λ err. subst (λ (request : Option Request). Performs request (outside (g.F.Shelf.state c.args.files.now) (g.S.Source.state c.args.input.now) (g.O.Sink.state c.args.out.now) err (g.H.Heap.store c.args.heap.now)) (outside (g.F.Shelf.state c.check_file.new.files) (g.S.Source.state c.args.input.now) (g.O.Sink.state c.check_file.new.out) err (g.H.Heap.store c.args.heap.now)) c.check_file.result)
     (ap (λ (r : Asked). Some (asks r)) (sym c.in-Some-Checks.field-0-is) ∙ c.in-Some-Checks.ensures)
     (c.check_file.ensures (Some (Checks c.in-Some-Checks.file.now)) (g.S.Source.state c.args.input.now) err (g.H.Heap.store c.args.heap.now) (checks_row c.in-Some-Checks.file.now))
+
+pub returns-in-Some-Soak : goal.returns-in-Some-Soak
+returns-in-Some-Soak g c = λ err. subst (λ (request : Option Request). Performs request (outside (g.F.Shelf.state c.args.files.now) (g.S.Source.state c.args.input.now) (g.O.Sink.state c.args.out.now) err (g.H.Heap.store c.args.heap.now)) (outside (g.F.Shelf.state c.args.files.now) (g.S.Source.state c.args.input.now) (g.O.Sink.state c.soak_number.new.out) err (g.H.Heap.store c.soak_number.new.heap)) c.soak_number.result)
+    (ap (λ (r : Asked). Some (asks r)) (sym c.in-Some-Soak.field-0-is) ∙ c.in-Some-Soak.ensures)
+    (c.soak_number.ensures (Some (Soak c.in-Some-Soak.number)) (g.F.Shelf.state c.args.files.now) (g.S.Source.state c.args.input.now) err (soak_row c.in-Some-Soak.number))
 
 pub returns-in-None : goal.returns-in-None
 returns-in-None g c = λ err. subst (λ (request : Option Request). Performs request (outside (g.F.Shelf.state c.args.files.now) (g.S.Source.state c.args.input.now) (g.O.Sink.state c.args.out.now) err (g.H.Heap.store c.args.heap.now)) (outside (g.F.Shelf.state c.args.files.now) (g.S.Source.state c.args.input.now) (g.O.Sink.state c.args.out.now) err (g.H.Heap.store c.args.heap.now)) (Ok Usage)) c.in-None.ensures (asks_usage (outside (g.F.Shelf.state c.args.files.now) (g.S.Source.state c.args.input.now) (g.O.Sink.state c.args.out.now) err (g.H.Heap.store c.args.heap.now)))
