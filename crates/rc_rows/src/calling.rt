@@ -1,5 +1,6 @@
 // Calls over objects in memory, and what they come to.
-use crate::row::{Came, Row};
+use crate::failing::differing_in_turn;
+use crate::row::{Came, Failing, Row};
 use rc_base::{Buffer, Bytes, Drawer, NoMemory};
 use rc_count::CountHeap;
 use rc_driver::{rc_main, status_of};
@@ -14,6 +15,30 @@ const ERROR_ROOM: u32 = 256;
 pub(crate) struct Found {
     pub(crate) calls: u64,
     pub(crate) differ: u64,
+}
+
+impl Found {
+    pub(crate) fn none() -> Found {
+        Found {
+            calls: 0,
+            differ: 0,
+        }
+    }
+
+    pub(crate) fn one(differs: bool) -> Found {
+        Found {
+            calls: 1,
+            differ: u64::from(differs),
+        }
+    }
+
+    /// Both together.
+    pub(crate) fn and(self, other: Found) -> Found {
+        Found {
+            calls: self.calls.saturating_add(other.calls),
+            differ: self.differ.saturating_add(other.differ),
+        }
+    }
 }
 
 fn with_one_file(alloc: Global, text: &[u8], fails: Vec<u64>) -> Result<Drawer, AllocError> {
@@ -38,32 +63,37 @@ fn bytes_under(alloc: Global, files: &Drawer, name: &str) -> Result<Vec<u8>, All
     }
 }
 
-/// Makes the call of a row with these words, and answers what `rc_main` does, as `{:?}` prints it,
-/// and its status.
+/// Makes a call with these words, and answers what `rc_main` does, as `{:?}` prints it, and its status.
 fn answered(
     alloc: Global,
-    row: &Row,
     words: &[String],
     files: &mut Drawer,
+    input: &mut Bytes,
     out: &mut Buffer,
     err: &mut Buffer,
 ) -> io::Result<(String, u8)> {
-    let mut input = Bytes::new(row.input.clone()?, row.failing.reads.clone()?);
     let mut heap = match CountHeap::new(alloc) {
         Ok(heap) => heap,
         Err(NoMemory) => return Err(io::Error::from(ErrorKind::OutOfMemory)),
     };
-    let answer = rc_main(alloc, words, files, &mut input, out, err, &mut heap);
+    let answer = rc_main(alloc, words, files, input, out, err, &mut heap);
     let status = status_of(&answer);
     Ok((format!(in alloc; "{answer:?}")?, status))
 }
 
-/// Makes the call of a row with these words, and answers what it came to.
-fn came(alloc: Global, row: &Row, words: &[String]) -> io::Result<Came> {
-    let mut out = sink(alloc, row.room, &row.failing.writes)?;
-    let mut err = sink(alloc, ERROR_ROOM, &row.failing.errors)?;
-    let mut files = with_one_file(alloc, &row.text, row.failing.files.clone()?)?;
-    let (answer, status) = answered(alloc, row, words, &mut files, &mut out, &mut err)?;
+/// Makes the call of a row with these words, where these calls of the outside fail, and answers what it
+/// came to.
+pub(crate) fn came(
+    alloc: Global,
+    row: &Row,
+    words: &[String],
+    failing: &Failing,
+) -> io::Result<Came> {
+    let mut files = with_one_file(alloc, &row.text, failing.files.clone()?)?;
+    let mut input = Bytes::new(row.input.clone()?, failing.reads.clone()?);
+    let mut out = sink(alloc, row.room, &failing.writes)?;
+    let mut err = sink(alloc, ERROR_ROOM, &failing.errors)?;
+    let (answer, status) = answered(alloc, words, &mut files, &mut input, &mut out, &mut err)?;
     Ok(Came {
         answer,
         status,
@@ -75,7 +105,7 @@ fn came(alloc: Global, row: &Row, words: &[String]) -> io::Result<Came> {
 }
 
 /// Whether two lists have the same bytes.
-fn same_bytes(a: &[u8], b: &[u8]) -> bool {
+pub(crate) fn same_bytes(a: &[u8], b: &[u8]) -> bool {
     a == b
 }
 
@@ -94,7 +124,7 @@ fn is_other_file(came: &Came, row: &Row) -> bool {
 }
 
 /// Whether a call came to another thing than is wanted.
-fn is_other(came: &Came, wanted: &Came) -> bool {
+pub(crate) fn is_other(came: &Came, wanted: &Came) -> bool {
     if came.status != wanted.status {
         return true;
     }
@@ -107,14 +137,19 @@ fn is_other(came: &Came, wanted: &Came) -> bool {
     !same_bytes(came.err.as_slice(), wanted.err.as_slice())
 }
 
+/// A row's call with these words, and the file that the row stands in.
+#[derive(Clone, Copy)]
+pub(crate) struct Asked<'a> {
+    pub(crate) file: &'a str,
+    pub(crate) row: &'a Row,
+    pub(crate) words: &'a [String],
+}
+
 /// Prints what a call came to.
-fn print(
-    rt: &HostRuntime,
-    file: &str,
-    name: &str,
-    words: &[String],
-    came: &Came,
-) -> io::Result<()> {
+pub(crate) fn print(rt: &HostRuntime, asked: Asked<'_>, came: &Came) -> io::Result<()> {
+    let file = asked.file;
+    let name = asked.row.name.as_str();
+    let words = asked.words;
     let answer = came.answer.as_str();
     let status = came.status;
     println!(rt; "{file}: {name}: {words:?}: {answer} {status}")?;
@@ -124,13 +159,15 @@ fn print(
     println!(rt; "  {out:?} {err:?} {stored:?}")
 }
 
-/// Makes a call, and answers whether it differs from what the row wants, which it then prints.
-fn differs(rt: &HostRuntime, file: &str, row: &Row, words: &[String]) -> io::Result<bool> {
-    let came = came(rt.alloc(), row, words)?;
+/// Makes a call in which these calls of the outside fail, and answers whether it differs from what the row
+/// wants, which it then prints.
+pub(crate) fn differs(rt: &HostRuntime, asked: Asked<'_>, failing: &Failing) -> io::Result<bool> {
+    let row = asked.row;
+    let came = came(rt.alloc(), row, asked.words, failing)?;
     if !is_other(&came, &row.wanted) && !is_other_file(&came, row) {
         return Ok(false);
     }
-    print(rt, file, row.name.as_str(), words, &came)?;
+    print(rt, asked, &came)?;
     Ok(true)
 }
 
@@ -146,20 +183,27 @@ fn asking(alloc: Global, verb: &str, options: &[String]) -> Result<Vec<String>, 
     Ok(words)
 }
 
+/// Makes a row's call with these words, and again with each call of the outside failing, where the row
+/// asks for that.
+fn differing_with(rt: &HostRuntime, asked: Asked<'_>) -> io::Result<Found> {
+    let found = Found::one(differs(rt, asked, &asked.row.failing)?);
+    match asked.row.each {
+        Some(each) => Ok(found.and(differing_in_turn(rt, asked, each)?)),
+        None => Ok(found),
+    }
+}
+
 /// Makes the calls of a row.
 pub(crate) fn differing(rt: &HostRuntime, file: &str, row: &Row) -> io::Result<Found> {
     if !row.both {
-        let differs = differs(rt, file, row, &row.words)?;
-        return Ok(Found {
-            calls: 1,
-            differ: u64::from(differs),
-        });
+        let words = row.words.as_slice();
+        return differing_with(rt, Asked { file, row, words });
     }
-    let mut differ = 0u64;
+    let mut found = Found::none();
     for verb in ["run", "slow"] {
         let words = asking(rt.alloc(), verb, &row.words)?;
-        let differs = differs(rt, file, row, &words)?;
-        differ = differ.saturating_add(u64::from(differs));
+        let words = words.as_slice();
+        found = found.and(differing_with(rt, Asked { file, row, words })?);
     }
-    Ok(Found { calls: 2, differ })
+    Ok(found)
 }

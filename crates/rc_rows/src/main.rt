@@ -12,6 +12,7 @@
 //! | `words` | the words of the call; `""` is the empty word |
 //! | `options` | in place of `words`: the call is made with `run a.c` and with `slow a.c` before these, as it is where neither key is given |
 //! | `files`, `reads`, `writes`, `errors` | the calls that fail of the files, the input, the output and the error stream, numbered from 0 |
+//! | `each` | how many calls are made of the files, the input, the output and the error stream: the call is made again with each of them failing alone, and then with the first call of each that is not to be made |
 //! | `room` | how many bytes the output takes, if not 512 |
 //! | `answer` | the answer, as `{:?}` prints it |
 //! | `status` | the answer's status |
@@ -26,6 +27,7 @@
 #![tactic(auto)]
 
 mod calling;
+mod failing;
 mod piece;
 mod reading;
 mod row;
@@ -35,19 +37,21 @@ use reading::rows_of;
 use std::process::ExitCode;
 use std::{env, fs, io};
 
-const FILES: [&str; 12] = [
+const FILES: [&str; 14] = [
     "words.rows",
     "programs.rows",
     "values.rows",
     "limits.rows",
     "refused.rows",
     "failing.rows",
+    "each.rows",
     "deep.rows",
     "images.rows",
     "exec.rows",
     "compile.rows",
     "heap.rows",
     "checks.rows",
+    "soak.rows",
 ];
 
 /// Goes through the rows of a file, and answers how many calls differ.

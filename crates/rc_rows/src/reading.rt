@@ -1,6 +1,6 @@
 // Rows, read from the text of a file.
 use crate::piece::{push_piece, push_pieces};
-use crate::row::Row;
+use crate::row::{Calls, Row};
 use std::alloc::Global;
 use std::io::{self, ErrorKind};
 
@@ -22,6 +22,19 @@ fn numbers(alloc: Global, list: &str) -> io::Result<Vec<u64>> {
         numbers.push(number(word)?)?;
     }
     Ok(numbers)
+}
+
+/// How many calls are made of the files, the input, the output and the error stream.
+fn calls(alloc: Global, list: &str) -> io::Result<Calls> {
+    match numbers(alloc, list)?.as_slice() {
+        [files, reads, writes, errors] => Ok(Calls {
+            files: *files,
+            reads: *reads,
+            writes: *writes,
+            errors: *errors,
+        }),
+        _ => unread(),
+    }
 }
 
 /// The words, with a blank between two of them. `""` is the empty word.
@@ -73,6 +86,7 @@ fn take(alloc: Global, row: &mut Row, key: &str, value: &str) -> io::Result<()> 
         "reads" => row.failing.reads = numbers(alloc, value)?,
         "writes" => row.failing.writes = numbers(alloc, value)?,
         "errors" => row.failing.errors = numbers(alloc, value)?,
+        "each" => row.each = Some(calls(alloc, value)?),
         "room" => row.room = number(value)?.min(u64::from(u32::MAX)) as u32,
         "answer" => row.wanted.answer = String::from_str(alloc, value)?,
         "status" => row.wanted.status = number(value)?.min(255) as u8,

@@ -1,6 +1,24 @@
 // A row: what the calls are given, and what each must come to.
 use std::alloc::{AllocError, Global};
 
+/// What the outside is made of.
+#[derive(Clone, Copy)]
+pub(crate) enum Side {
+    Files,
+    Input,
+    Output,
+    Errors,
+}
+
+/// How many calls are made of each side.
+#[derive(Clone, Copy)]
+pub(crate) struct Calls {
+    pub(crate) files: u64,
+    pub(crate) reads: u64,
+    pub(crate) writes: u64,
+    pub(crate) errors: u64,
+}
+
 /// The numbers of the calls that fail, from 0.
 #[derive(Drop)]
 pub(crate) struct Failing {
@@ -8,6 +26,29 @@ pub(crate) struct Failing {
     pub(crate) reads: Vec<u64>,
     pub(crate) writes: Vec<u64>,
     pub(crate) errors: Vec<u64>,
+}
+
+impl Failing {
+    /// No call fails.
+    pub(crate) fn none(alloc: Global) -> Failing {
+        Failing {
+            files: Vec::new(alloc),
+            reads: Vec::new(alloc),
+            writes: Vec::new(alloc),
+            errors: Vec::new(alloc),
+        }
+    }
+
+    /// This call of this side fails too.
+    pub(crate) fn add(&mut self, side: Side, call: u64) -> Result<(), AllocError> {
+        match side {
+            Side::Files => self.files.push(call)?,
+            Side::Input => self.reads.push(call)?,
+            Side::Output => self.writes.push(call)?,
+            Side::Errors => self.errors.push(call)?,
+        }
+        Ok(())
+    }
 }
 
 /// What a call comes to: its answer as `{:?}` prints it, its status, what the output and the error
@@ -33,6 +74,8 @@ pub(crate) struct Row {
     pub(crate) text: Vec<u8>,
     pub(crate) input: Vec<u8>,
     pub(crate) failing: Failing,
+    /// How many calls it makes of each side, where each of them is to fail once.
+    pub(crate) each: Option<Calls>,
     /// How many bytes the output takes.
     pub(crate) room: u32,
     /// Whether the file `a.c` is to hold other bytes afterwards.
@@ -50,12 +93,8 @@ impl Row {
             both: true,
             text: Vec::new(alloc),
             input: Vec::new(alloc),
-            failing: Failing {
-                files: Vec::new(alloc),
-                reads: Vec::new(alloc),
-                writes: Vec::new(alloc),
-                errors: Vec::new(alloc),
-            },
+            failing: Failing::none(alloc),
+            each: None,
             room: 512,
             changes: false,
             wanted: Came {

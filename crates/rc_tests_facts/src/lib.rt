@@ -3,3 +3,5 @@
 
 #[cfg(test)]
 mod needless;
+#[cfg(test)]
+mod places;
