@@ -48,8 +48,9 @@ fn give(
     }
 }
 
-/// Keeps at entries what the calls at a point give.
-fn give_all(
+/// Keeps at entries what the calls at a point give, from what is known before it. Says whether a fact was
+/// lost. The only error is want of memory.
+pub fn call_at(
     alloc: Global,
     node: &Node,
     known: &FactSet,
@@ -83,7 +84,7 @@ pub fn call(
 {
     let mut lost = false;
     for p in 0..nodes.len() {
-        let more = give_all(alloc, &nodes[p], &points[p], entries)?;
+        let more = call_at(alloc, &nodes[p], &points[p], entries)?;
         lost = lost || more;
     }
     Ok(lost)

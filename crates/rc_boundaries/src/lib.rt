@@ -6,6 +6,6 @@ mod calls;
 mod entries;
 mod returns;
 
-pub use calls::call;
+pub use calls::{call, call_at};
 pub use entries::begin;
-pub use returns::{Exit, leave};
+pub use returns::{Exit, leave, leave_at};

@@ -83,8 +83,9 @@ fn give(
     Ok(lose(exits, exit.function, &found))
 }
 
-/// Keeps at an exit what a point gives, where it is a return.
-fn give_all(
+/// Keeps at an exit what a point gives, where it is a return, from what is known before it. Says whether a
+/// fact was lost. The only error is want of memory.
+pub fn leave_at(
     alloc: Global,
     node: &Node,
     known: &FactSet,
@@ -126,7 +127,7 @@ pub fn leave(
 {
     let mut lost = false;
     for p in 0..nodes.len() {
-        let more = give_all(alloc, &nodes[p], &points[p], exit, exits)?;
+        let more = leave_at(alloc, &nodes[p], &points[p], exit, exits)?;
         lost = lost || more;
     }
     Ok(lost)

@@ -1,3 +1,4 @@
+pub mod Carrying
 pub mod Places
 pub mod Starts
 pub mod Visits

@@ -22,10 +22,11 @@ use Rattle.rc_news.specs.Given.{CallFits}
 use Rattle.rc_region_facts.specs.Calls.{CallOf}
 use Rattle.rc_region_facts.proofs.Fitting.{calls_fit, returns_fit}
 use Rattle.rc_searching.specs.Reading.{Loses}
-use Rattle.rc_searching.specs.Boundaries.{CallsGive, ReturnsGive}
-use Rattle.rc_searching.specs.Searching.{Searching, Passed, Visited, Gone, facts_between, with_points, with_entries, with_exits}
+use Rattle.rc_searching.specs.Boundaries.{CallsGive, NodeGives, NodeReturns, ReturnsGive}
+use Rattle.rc_searching.specs.Searching.{Searching, Lowered, Passed, Visited, Gone, facts_between, with_points, with_entries, with_exits}
 use Rattle.rc_searching.proofs.Steps.{pass_step, call_step, leave_step, settled_here, settled_stays}
 use Rattle.rc_infer.specs.Sweeping.{Swept}
+use Rattle.rc_infer.specs.Turning.{CalledFrom, LeftFrom, LoweredAt, known_at}
 use Rattle.rc_infer.specs.Visiting.{Ready, PassedAt, CalledAt, LeftAt}
 use Rattle.rc_infer.proofs.Places.{order, some_is}
 
@@ -56,6 +57,10 @@ each_below n (x ∷ xs) b = All-cons (λ v. v < n) x xs b.0 (each_below n xs b.1
 wider : (n : ℕ) (xs : List ℕ) → all_below n xs → all_below (suc n) xs
 wider n [] b = tt {0}
 wider n (x ∷ xs) b = ((let l = b.0 in omega (arith, l)), wider n xs b.1)
+
+lost_fewer : (lost : Bool) (old new : List Known) → MatchBool lost (facts_in new < facts_in old) (new ≡ old) → facts_in new ≤ facts_in old
+lost_fewer true old new l = omega (arith, l)
+lost_fewer false old new e = let q = ap facts_in e in omega (arith, q)
 
 module _ (r : Rlang) (is : IsRlang r) (g : ℕ) (f : Routine) (there : slice_get r.functions g ≡ Some f) (graph : Graph) (of : IsGraph f graph) where
   height : temporaries_of r g ≡ routine_temporaries f
@@ -138,11 +143,12 @@ module _ (r : Rlang) (is : IsRlang r) (g : ℕ) (f : Routine) (there : slice_get
   family_exits : (m m1 : Family) → m1.points ≡ m.points → m1.entries ≡ m.entries → with_exits m m1.exits ≡ m1
   family_exits m m1 p e = ap (λ z. with_entries (with_points m1 z) m.entries) (sym p) ∙ ap (λ z. with_entries m1 z) (sym e)
 
+  -- of the graph, and so of the function
+  by_graph : (P : List Node → ℕ → ℕ → Type 0) → P (nodes_of graph.nodes.items) graph.copies graph.result → P (routine_nodes f) (copies f) (spare f (temporaries_of r g))
+  by_graph P p = subst (λ n. P (routine_nodes f) (copies f) n) result_is (subst (λ n. P (routine_nodes f) n graph.result) of.hidden (subst (λ ns. P ns graph.copies graph.result) of.nodes p))
+
   by_routine : (m m1 : Family) → Passed (nodes_of graph.nodes.items) graph.copies graph.result (get_or m.entries g no_set) m.exits (get_or m.points g []) (get_or m1.points g []) → Passed (routine_nodes f) (copies f) (spare f (temporaries_of r g)) (get_or m.entries g no_set) m.exits (get_or m.points g []) (get_or m1.points g [])
-  by_routine m m1 p =
-      subst (λ n. Passed (routine_nodes f) (copies f) n (get_or m.entries g no_set) m.exits (get_or m.points g []) (get_or m1.points g [])) result_is
-      (subst (λ n. Passed (routine_nodes f) n graph.result (get_or m.entries g no_set) m.exits (get_or m.points g []) (get_or m1.points g [])) of.hidden
-      (subst (λ ns. Passed ns graph.copies graph.result (get_or m.entries g no_set) m.exits (get_or m.points g []) (get_or m1.points g [])) of.nodes p))
+  by_routine m m1 = by_graph (λ ns c n. Passed ns c n (get_or m.entries g no_set) m.exits (get_or m.points g []) (get_or m1.points g []))
 
   calls_by_routine : (lost : Bool) (m m1 : Family) → Loses lost m.entries m1.entries (CallsGive (nodes_of graph.nodes.items) (get_or m.points g []) (length graph.nodes.items)) → Loses lost m.entries m1.entries (λ h fact. CallsGive (routine_nodes f) (get_or m.points g []) (length (routine_nodes f)) h fact)
   calls_by_routine lost m m1 l =
@@ -158,13 +164,39 @@ module _ (r : Rlang) (is : IsRlang r) (g : ℕ) (f : Routine) (there : slice_get
       (subst (λ ns. Loses lost m.exits m1.exits (λ p fact. p ≡ g → ReturnsGive ns (get_or m.points g []) graph.copies graph.result (length graph.nodes.items) fact)) of.nodes l)))
 
   pub after_pass : (m m1 : Family) → Searching r m → PassedAt graph g m m1 → Searching r m1
-  after_pass m m1 s p = subst (Searching r) (family_points m m1 p.entries p.exits) (pass_step r is g f there m m1.points s p.long p.others (by_routine m m1 p.passed))
+  after_pass m m1 s p = subst (Searching r) (family_points m m1 p.entries p.exits) (pass_step r is g f there m m1.points s p.long p.others (by_routine m m1 p.change).lowered)
 
   pub after_calls : (m m1 : Family) (lost : Bool) → Searching r m → CalledAt graph g m m1 lost → Searching r m1
-  after_calls m m1 lost s p = subst (Searching r) (family_entries m m1 p.points p.exits) (call_step r is g f there m m1.entries lost s (calls_by_routine lost m m1 p.loses))
+  after_calls m m1 lost s p = subst (Searching r) (family_entries m m1 p.points p.exits) (call_step r is g f there m m1.entries lost s (λ h fact. CallsGive (routine_nodes f) (get_or m.points g []) (length (routine_nodes f)) h fact) (λ h fact all. all) (calls_by_routine lost m m1 p.loses))
 
   pub after_returns : (m m1 : Family) (lost : Bool) → Searching r m → LeftAt graph g m m1 lost → Searching r m1
-  after_returns m m1 lost s p = subst (Searching r) (family_exits m m1 p.points p.entries) (leave_step r is g f there m m1.exits lost s (returns_by_routine lost m m1 p.loses))
+  after_returns m m1 lost s p = subst (Searching r) (family_exits m m1 p.points p.entries) (leave_step r is g f there m m1.exits lost s (λ h fact. h ≡ g → ReturnsGive (routine_nodes f) (get_or m.points g []) (copies f) (spare f (temporaries_of r g)) (length (routine_nodes f)) fact) (λ h fact all. all) (returns_by_routine lost m m1 p.loses))
+
+  -- at one point
+
+  lowering : (m m1 : Family) → Searching r m → LoweredAt graph g m m1 → Searching r m1
+  lowering m m1 s l = subst (Searching r) (family_points m m1 l.entries l.exits) (pass_step r is g f there m m1.points s l.long l.others (by_graph (λ ns c n. Lowered ns c n (get_or m.entries g no_set) m.exits (get_or m.points g []) (get_or m1.points g [])) l.change))
+
+  calling : (p : ℕ) (node : Node) → slice_get (nodes_of graph.nodes.items) p ≡ Some node → (m m1 : Family) (lost : Bool) → Searching r m → CalledFrom node (known_at m g p) m m1 lost → Searching r m1
+  calling p node at m m1 lost s c =
+      let here = node_there p node at in
+      subst (Searching r) (family_entries m m1 c.points c.exits) (call_step r is g f there m m1.entries lost s (NodeGives node (known_at m g p)) (λ h fact all. all p node (slice_get_within (routine_nodes f) p node here) here) c.loses)
+
+  leaving_from : (p : ℕ) (node : Node) → slice_get (nodes_of graph.nodes.items) p ≡ Some node → (m m1 : Family) (lost : Bool) → Searching r m → LeftFrom node (known_at m g p) graph g m m1 lost → Searching r m1
+  leaving_from p node at m m1 lost s l =
+      let here = node_there p node at in
+      subst (Searching r) (family_exits m m1 l.points l.entries)
+      (leave_step r is g f there m m1.exits lost s (λ h fact. h ≡ g → NodeReturns node (known_at m g p) (copies f) (spare f (temporaries_of r g)) fact) (λ h fact all e. all e p node (slice_get_within (routine_nodes f) p node here) here)
+      (by_graph (λ ns c n. Loses lost m.exits m1.exits (λ h fact. h ≡ g → NodeReturns node (known_at m g p) c n fact)) l.loses))
+
+  pub swept_lowering : (m m1 : Family) → Searching r m → LoweredAt graph g m m1 → Swept r m m1
+  swept_lowering m m1 s l = record { searching = lowering m m1 s l; fewer = (let q = ap facts_in l.entries in let w = ap facts_in l.exits in omega (arith, q, w)) }
+
+  pub swept_calling : (p : ℕ) (node : Node) → slice_get (nodes_of graph.nodes.items) p ≡ Some node → (m m1 : Family) (lost : Bool) → Searching r m → CalledFrom node (known_at m g p) m m1 lost → Swept r m m1
+  swept_calling p node at m m1 lost s c = record { searching = calling p node at m m1 lost s c; fewer = (let q = lost_fewer lost m.entries m1.entries c.loses.fewer in let w = ap facts_in c.exits in omega (arith, q, w)) }
+
+  pub swept_leaving : (p : ℕ) (node : Node) → slice_get (nodes_of graph.nodes.items) p ≡ Some node → (m m1 : Family) (lost : Bool) → Searching r m → LeftFrom node (known_at m g p) graph g m m1 lost → Swept r m m1
+  swept_leaving p node at m m1 lost s l = record { searching = leaving_from p node at m m1 lost s l; fewer = (let q = lost_fewer lost m.exits m1.exits l.loses.fewer in let w = ap facts_in l.entries in omega (arith, q, w)) }
 
   -- all three
   pub visited : (m m1 m2 m3 : Family) (l1 l2 : Bool) → Searching r m → PassedAt graph g m m1 → CalledAt graph g m1 m2 l1 → LeftAt graph g m2 m3 l2 → Visited r g f m m3 (l1 || l2)
@@ -193,7 +225,7 @@ module _ (r : Rlang) (is : IsRlang r) (g : ℕ) (f : Routine) (there : slice_get
             settled_here r is g f there m3 (get_or m.points g []) last
                 (subst (λ xs. Passed (routine_nodes f) (copies f) (spare f (temporaries_of r g)) (get_or m3.entries g no_set) xs (get_or m.points g []) (get_or m3.points g [])) (sym exits)
                 (subst (λ es. Passed (routine_nodes f) (copies f) (spare f (temporaries_of r g)) (get_or es g no_set) m.exits (get_or m.points g []) (get_or m3.points g [])) (sym entries)
-                (subst (λ ps. Passed (routine_nodes f) (copies f) (spare f (temporaries_of r g)) (get_or m.entries g no_set) m.exits (get_or m.points g []) (get_or ps g [])) (sym points) (by_routine m m1 p.passed))))
+                (subst (λ ps. Passed (routine_nodes f) (copies f) (spare f (temporaries_of r g)) (get_or m.entries g no_set) m.exits (get_or m.points g []) (get_or ps g [])) (sym points) (by_routine m m1 p.change))))
                 (λ h fact has. subst (λ ps. CallsGive (routine_nodes f) (get_or ps g []) (length (routine_nodes f)) h fact) (sym points) (((calls_by_routine l1 m1 m2 c.loses).facts h fact).0 (subst (λ es. IsTrue (set_at es h fact)) l.entries has)).1)
                 (λ fact has. subst (λ ps. ReturnsGive (routine_nodes f) (get_or ps g []) (copies f) (spare f (temporaries_of r g)) (length (routine_nodes f)) fact) (sym l.points) ((((returns_by_routine l2 m2 m3 l.loses).facts g fact).0 has).1 refl)),
           )
@@ -241,9 +273,8 @@ module _ (r : Rlang) (is : IsRlang r) where
 
 -- sweeps
 
-pub swept_more : (r : Rlang) (k : ℕ) (f : Routine) (m m1 m2 : Family) (lost : Bool) → Swept r m m1 → Visited r k f m1 m2 lost → Swept r m m2
-swept_more r k f m m1 m2 lost swept visit = record { searching = visit.searching; fewer = by lost visit.still }
-  where
-    by : (b : Bool) → MatchBool b (facts_between m2 < facts_between m1) ((m2.entries ≡ m1.entries) × (m2.exits ≡ m1.exits) × Settled r (temporaries_of r) (annotation_in m2) k f) → facts_between m2 ≤ facts_between m
-    by true less = (let before = swept.fewer in omega (arith, less, before))
-    by false same = (let q = ap facts_in same.0 in let w = ap facts_in same.1 in let before = swept.fewer in omega (arith, q, w, before))
+pub swept_none : (r : Rlang) (m : Family) → Searching r m → Swept r m m
+swept_none r m s = record { searching = s; fewer = omega arith }
+
+pub swept_both : (r : Rlang) (m m1 m2 : Family) → Swept r m m1 → Swept r m1 m2 → Swept r m m2
+swept_both r m m1 m2 a b = record { searching = b.searching; fewer = (let q = a.fewer in let w = b.fewer in omega (arith, q, w)) }

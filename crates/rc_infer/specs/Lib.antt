@@ -1,3 +1,4 @@
 pub mod Visiting
 pub mod Starting
 pub mod Sweeping
+pub mod Turning

@@ -1,4 +1,4 @@
--- A search went through functions one after another, in whatever order: it may go on, and no entry or exit has more facts.
+-- A search went on, in whatever order: it may go on further, and no entry or exit has more facts.
 use Rattle.std.specs.Prelude.{◌≤◌}
 use Rattle.rc_rlang.specs.RegionCode.{Rlang}
 use Rattle.rc_edges.specs.Families.{Family}

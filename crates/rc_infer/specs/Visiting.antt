@@ -1,5 +1,6 @@
 -- The steps through a function, of the facts of all functions: what each needs, and what it does.
-use Rattle.std.specs.Prelude.{◌≡◌, ℕ, suc, ◌<◌, ◌≤◌, Bool, [], length, get_or, slice_get, Some}
+use Rattle.std.specs.Prelude.{◌≡◌, ℕ, suc, ◌<◌, ◌≤◌, Bool, List, [], length, get_or, slice_get, Some}
+use Rattle.rc_facts.specs.Facts.{Known}
 use Rattle.rc_rlang.specs.RegionFlow.{Edge, Node}
 use Rattle.rc_flow.specs.Flow.{AreShut, HaveVariables, no_set}
 use Rattle.rc_edges.specs.Families.{Family}
@@ -28,13 +29,17 @@ pub record Ready (graph : Graph) (g : ℕ) (m : Family) : Type 0 where
   pub calls : (p : ℕ) (node : Node) → slice_get (nodes_of graph.nodes.items) p ≡ Some node → NodeReady node (suc graph.result) m.entries
   pub returns : (p : ℕ) (node : Node) → slice_get (nodes_of graph.nodes.items) p ≡ Some node → ReturnReady node graph.result
 
--- facts passed through it, and nothing else changed
-pub record PassedAt (graph : Graph) (g : ℕ) (m m1 : Family) : Type 0 where
+-- the points of one function changed so, by its entry and the exits, and nothing else did
+pub record ChangedAt (Change : Known → List Known → List Known → List Known → Type 0) (g : ℕ) (m m1 : Family) : Type 0 where
   pub entries : m1.entries ≡ m.entries
   pub exits : m1.exits ≡ m.exits
   pub long : length m1.points ≡ length m.points
   pub others : (k : ℕ) → (k ≡ g → ⊥) → get_or m1.points k [] ≡ get_or m.points k []
-  pub passed : Passed (nodes_of graph.nodes.items) graph.copies graph.result (get_or m.entries g no_set) m.exits (get_or m.points g []) (get_or m1.points g [])
+  pub change : Change (get_or m.entries g no_set) m.exits (get_or m.points g []) (get_or m1.points g [])
+
+-- facts passed through it
+abbrev pub PassedAt : Graph → (g : ℕ) → (m m1 : Family) → Type 0
+PassedAt graph g m m1 = ChangedAt (Passed (nodes_of graph.nodes.items) graph.copies graph.result) g m m1
 
 -- entries lost what its calls don't give
 pub record CalledAt (graph : Graph) (g : ℕ) (m m1 : Family) (lost : Bool) : Type 0 where

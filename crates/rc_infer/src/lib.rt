@@ -2,9 +2,12 @@
 //! functions.
 #![tactic(auto)]
 
+mod graphs;
 mod rounds;
 mod start;
 mod steps;
+mod turns;
 mod visit;
+mod waiting;
 
 pub use rounds::infer;

@@ -3,35 +3,17 @@ ghost use Rattle.std.specs.Prelude.{◌≡◌, ℕ, IfOk, OnOk, length};
 ghost use Rattle.rc_core.specs.Laid.{AreLaidOut};
 ghost use Rattle.rc_rlang.specs.Shapes.{rlang_of};
 ghost use Rattle.rc_region_facts.specs.Inferred.{Inferred, family_of};
-ghost use Rattle.rc_infer.specs.Sweeping.{Swept};
 ghost use Rattle.rc_searching.specs.Searching.{Gone, Searching};
 
+use crate::graphs::graphs;
 use crate::start::full;
+use crate::turns::{Field, sweep};
 use crate::visit::visit;
 use rc_base::NoMemory;
 use rc_core::Layouts;
 use rc_region_facts::Facts;
 use rc_rlang::rlang::Rlang;
 use std::alloc::Global;
-
-/// Goes through all functions from the last to the first. A function mostly stands behind those that it
-/// calls; so what callers don't give comes down a chain of calls in one sweep, as what functions don't
-/// return comes up it in a round.
-fn sweep_back(
-    alloc: Global,
-    layouts: &Layouts,
-    code: &Rlang,
-    facts: &mut Facts,
-) -> Result<(), NoMemory>
-    requires laid { AreLaidOut (rlang_of code.now).structs layouts.now }
-    requires searching { Searching (rlang_of code.now) (family_of facts.old) }
-    ensures { OnOk result (Swept (rlang_of code.now) (family_of facts.old) (family_of facts.new)) }
-{
-    for function in (0..code.parts().functions.len()).rev() {
-        let _lost = visit(alloc, layouts, code, facts, function)?;
-    }
-    Ok(())
-}
 
 /// Goes through all functions, and says whether an entry or an exit lost a fact.
 fn round(
@@ -52,8 +34,8 @@ fn round(
     Ok(lost)
 }
 
-/// The greatest consistent facts of region code. Each turn of the search goes through the functions back
-/// and forth; it ends with the first whose way forth loses nothing.
+/// The greatest consistent facts of region code. Points have their turns until none waits for one; a
+/// round through all functions that loses nothing shows that the facts are consistent.
 ///
 /// # Errors
 ///
@@ -63,8 +45,14 @@ pub fn infer(alloc: Global, code: &Rlang) -> Result<Facts, NoMemory>
 {
     let layouts = Layouts::new(alloc, code.parts().structs.as_slice())?;
     let mut facts = full(alloc, &layouts, code)?;
+    let graphs = graphs(alloc, &layouts, code)?;
+    let field = Field {
+        alloc,
+        code,
+        graphs: graphs.as_slice(),
+    };
     'rounds: loop {
-        sweep_back(alloc, &layouts, code, &mut facts)?;
+        sweep(&field, &mut facts)?;
         let lost = round(alloc, &layouts, code, &mut facts)?;
         if !lost {
             return Ok(facts);

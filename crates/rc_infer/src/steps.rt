@@ -1,12 +1,16 @@
 // The steps through a function, of the facts of all functions.
-ghost use Rattle.std.specs.Prelude.{◌≡◌, OnOk, IfOk};
+ghost use Rattle.std.specs.Prelude.{◌≡◌, ◌<◌, ◌≤◌, OnOk, IfOk, Some, length, slice_get};
+ghost use Rattle.rc_rlang.specs.RegionFlow.{Node};
+ghost use Rattle.rc_graph.specs.Nodes.{nodes_of};
 ghost use Rattle.rc_region_facts.specs.Inferred.{family_of};
+ghost use Rattle.rc_infer.specs.Turning.{CalledFrom, LeftFrom, LoweredAt, known_at};
 ghost use Rattle.rc_infer.specs.Visiting.{CalledAt, LeftAt, PassedAt, Ready};
 
+use crate::waiting::Place;
 use rc_base::NoMemory;
-use rc_boundaries::{Exit, call, leave};
+use rc_boundaries::{Exit, call, call_at, leave, leave_at};
 use rc_graph::Graph;
-use rc_passing::pass;
+use rc_passing::{come_in, cross, pass};
 use rc_region_facts::Facts;
 use std::alloc::Global;
 
@@ -67,4 +71,86 @@ pub(crate) fn leave_it(
         exit,
         facts.exits.as_mut_slice(),
     )
+}
+
+/// At the first point of a function, lets facts come in from its entry.
+pub(crate) fn come_into(
+    alloc: Global,
+    graph: &Graph,
+    facts: &mut Facts,
+    place: Place,
+) -> Result<(), NoMemory>
+    requires { Ready graph.now place.function (family_of facts.old) }
+    ensures { OnOk result (LoweredAt graph.now place.function (family_of facts.old) (family_of facts.new)) }
+{
+    if place.point != 0 {
+        return Ok(());
+    }
+    let sets = facts.points[place.function].as_mut_slice();
+    let entry = &facts.entries[place.function];
+    come_in(alloc, graph, sets, entry)
+}
+
+/// Lets facts cross the edges of a point, and says whether one was dropped.
+pub(crate) fn cross_from(
+    alloc: Global,
+    graph: &Graph,
+    facts: &mut Facts,
+    place: Place,
+    starts: &mut [u32],
+) -> Result<bool, NoMemory>
+    requires ready { Ready graph.now place.function (family_of facts.old) }
+    requires there { place.point < length graph.now.nodes.items }
+    requires enough { length graph.now.nodes.items ≤ length starts.old }
+    ensures starts { length starts.new ≡ length starts.old }
+    ensures lowered { IfOk result (λ dropped. LoweredAt graph.now place.function (family_of facts.old) (family_of facts.new)) }
+{
+    let sets = facts.points[place.function].as_mut_slice();
+    cross(
+        alloc,
+        graph,
+        sets,
+        facts.exits.as_slice(),
+        place.point,
+        starts,
+    )
+}
+
+/// Takes from the entries of functions what the calls at a point don't give.
+pub(crate) fn call_from(
+    alloc: Global,
+    graph: &Graph,
+    facts: &mut Facts,
+    place: Place,
+) -> Result<bool, NoMemory>
+    requires ready { Ready graph.now place.function (family_of facts.old) }
+    requires there { place.point < length graph.now.nodes.items }
+    ensures { (node : Node) → slice_get (nodes_of graph.now.nodes.items) place.point ≡ Some node → IfOk result (CalledFrom node (known_at (family_of facts.old) place.function place.point) (family_of facts.old) (family_of facts.new)) }
+{
+    let node = &graph.nodes[place.point as usize];
+    let sets = facts.points[place.function].as_slice();
+    let known = &sets[place.point as usize];
+    call_at(alloc, node, known, facts.entries.as_mut_slice())
+}
+
+/// Takes from the exit of a function what its return at a point doesn't give.
+pub(crate) fn leave_from(
+    alloc: Global,
+    graph: &Graph,
+    facts: &mut Facts,
+    place: Place,
+) -> Result<bool, NoMemory>
+    requires ready { Ready graph.now place.function (family_of facts.old) }
+    requires there { place.point < length graph.now.nodes.items }
+    ensures { (node : Node) → slice_get (nodes_of graph.now.nodes.items) place.point ≡ Some node → IfOk result (LeftFrom node (known_at (family_of facts.old) place.function place.point) graph.now place.function (family_of facts.old) (family_of facts.new)) }
+{
+    let node = &graph.nodes[place.point as usize];
+    let sets = facts.points[place.function].as_slice();
+    let known = &sets[place.point as usize];
+    let exit = Exit {
+        function: place.function,
+        copies: graph.copies,
+        result: graph.result,
+    };
+    leave_at(alloc, node, known, exit, facts.exits.as_mut_slice())
 }

@@ -89,7 +89,7 @@ get_last : (xs : List ℕ) (y : ℕ) → get_or (xs ++ y ∷ []) (length xs) 0 �
 get_last [] y = refl
 get_last (x ∷ xs) y = get_last xs y
 
-some_is : {A : Type 0} (x y : A) → Some x ≡ Some y → x ≡ y
+pub some_is : {A : Type 0} (x y : A) → Some x ≡ Some y → x ≡ y
 some_is x y e = cc
 
 module _ (exits : List Known) (s from : ℕ) where

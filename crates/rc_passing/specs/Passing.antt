@@ -1,12 +1,14 @@
 -- The nodes of a function as edges that carry facts, in their order.
-use Rattle.std.specs.Prelude.{◌≡◌, ℕ, ◌<◌, ◌≤◌, ◌++◌, List, [], ◌∷◌, length, get_or, slice_get, Some}
+use Rattle.std.specs.Prelude.{◌≡◌, ℕ, ◌<◌, ◌≤◌, ◌++◌, List, [], ◌∷◌, IsTrue, length, get_or, slice_get, Some}
+use Rattle.rc_facts.specs.declared.fact.Fact.{Fact}
 use Rattle.rc_facts.specs.Facts.{Known}
 use Rattle.rc_rlang.specs.RegionFlow.{Edge, Node}
 use Rattle.rc_annotations.specs.Annotations.{exit_facts}
 use Rattle.rc_flow.specs.declared.edge.Edge.{Edge as FlowEdge}
+use Rattle.rc_flow.specs.Flow.{set_at}
 use Rattle.rc_edges.specs.Edges.{Carries, EffectBelow}
 use Rattle.rc_news.specs.Given.{CallFits}
-use Rattle.rc_searching.specs.Searching.{EdgeOf, leaving}
+use Rattle.rc_searching.specs.Searching.{Crossed, EdgeOf, leaving}
 
 -- from a point, one edge that carries facts for each of a node
 abbrev pub CarryAll : (exits : List Known) (spare from : ℕ) → List Edge → List FlowEdge → Type 0
@@ -44,3 +46,7 @@ pub record Listed (nodes : List Node) (exits : List Known) (spare k : ℕ) (edge
 -- what an edge does may be carried: it speaks of variables before the scratch variable, and calls what there is
 abbrev pub NodeFits : (exits : List Known) (spare : ℕ) → Node → Type 0
 NodeFits exits spare node = (k : ℕ) (edge : Edge) → slice_get node.edges k ≡ Some edge → CallFits exits edge.effect × EffectBelow spare edge.effect
+
+-- behind each edge of a node at a point stands only what may, by what was known before it
+abbrev pub CrossedFrom : Node → (exits : List Known) → (spare point : ℕ) → (old new : List Known) → Type 0
+CrossedFrom node exits spare point old new = (k : ℕ) (edge : Edge) (fact : Fact) → slice_get node.edges k ≡ Some edge → IsTrue (set_at new edge.to fact) → Crossed exits spare point edge (set_at old point) fact

@@ -53,7 +53,12 @@ fn assigned(effect: &Effect) -> Option<u32>
 }
 
 /// The edge that carries facts as an effect does.
-fn edge(setting: &Setting<'_>, effect: &Effect, from: u32, to: u32) -> Result<Edge, NoMemory>
+pub(crate) fn edge(
+    setting: &Setting<'_>,
+    effect: &Effect,
+    from: u32,
+    to: u32,
+) -> Result<Edge, NoMemory>
     requires call { CallFits setting.now.exits.now (effect_of effect.now) }
     requires own { EffectBelow setting.now.spare (effect_of effect.now) }
     requires few { setting.now.spare < 128 }

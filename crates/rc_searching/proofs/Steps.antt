@@ -28,7 +28,7 @@ use Rattle.rc_region_facts.proofs.Fitting.{calls_fit, returns_fit}
 use Rattle.rc_region_facts.proofs.Restricting.{inside_only, only_consistent}
 use Rattle.rc_searching.specs.Reading.{Loses, read_by}
 use Rattle.rc_searching.specs.Boundaries.{CallsGive, ReturnsGive, given_facts}
-use Rattle.rc_searching.specs.Searching.{Searching, Full, Passed, with_points, with_entries, with_exits}
+use Rattle.rc_searching.specs.Searching.{Searching, Full, Lowered, Passed, with_points, with_entries, with_exits}
 
 -- numbers and variables
 
@@ -163,9 +163,9 @@ module _ (r : Rlang) (is : IsRlang r) where
     keeps : (m : Family) → Searching r m → (b : Annotation) → Consistent r heights b → KeepsInside r heights (only_of r b) (annotation_in m) g f
     keeps m s b c = search_keeps r heights (only_of r b) (annotation_in m) (only_consistent r is b c) (s.inside b c) s.order g f there owned.hidden owned.own
 
-    -- facts pass through it
+    -- its points lose facts
     module _ (m : Family) (ps : List (List Known)) (s : Searching r m) (long : length ps ≡ length m.points) (others : (k : ℕ) → (k ≡ g → ⊥) → get_or ps k [] ≡ get_or m.points k [])
-        (passed : Passed (routine_nodes f) (copies f) (spare f (heights g)) (get_or m.entries g no_set) m.exits (get_or m.points g []) (get_or ps g [])) where
+        (passed : Lowered (routine_nodes f) (copies f) (spare f (heights g)) (get_or m.entries g no_set) m.exits (get_or m.points g []) (get_or ps g [])) where
       passed_inside : (b : Annotation) → Consistent r heights b → IsInside ((only_of r b).before g) (get_or ps g [])
       passed_inside b c =
           let c1 = only_consistent r is b c in
@@ -210,8 +210,8 @@ module _ (r : Rlang) (is : IsRlang r) where
             (λ k apart f1 th. subst (λ sets. AreShut (kept f1 (heights k)) (spare f1 (heights k)) sets) (sym (others k apart)) (s.shut k f1 th));
       }
 
-    -- entries lose what its calls don't give
-    module _ (m : Family) (es : List Known) (lost : Bool) (s : Searching r m) (l : Loses lost m.entries es (λ h fact. CallsGive (routine_nodes f) (get_or m.points g []) (length (routine_nodes f)) h fact)) where
+    -- entries lose what its calls don't give, or some of them
+    module _ (m : Family) (es : List Known) (lost : Bool) (s : Searching r m) (stays : (h : ℕ) → Fact → Type 0) (all_give : (h : ℕ) (fact : Fact) → CallsGive (routine_nodes f) (get_or m.points g []) (length (routine_nodes f)) h fact → stays h fact) (l : Loses lost m.entries es stays) where
       pub call_step : Searching r (with_entries m es)
       call_step = record {
         shaped = record {
@@ -228,7 +228,7 @@ module _ (r : Rlang) (is : IsRlang r) where
         };
         inside = λ b c. record {
           before = (s.inside b c).before;
-          entry = λ h fact has. (l.facts h fact).1 ((s.inside b c).entry h fact has, λ p node lt at e edge is_edge x arguments is_call. given b c h fact has p node at e edge is_edge x arguments is_call);
+          entry = λ h fact has. (l.facts h fact).1 ((s.inside b c).entry h fact has, all_give h fact (λ p node lt at e edge is_edge x arguments is_call. given b c h fact has p node at e edge is_edge x arguments is_call));
           exit = (s.inside b c).exit;
         };
         shut = s.shut;
@@ -247,8 +247,8 @@ module _ (r : Rlang) (is : IsRlang r) where
               (s.shut g f there p (omega (arith, lt, long)) (fact_with (λ v. get_or arguments v 0) fact) (unnamed (spare f (heights g)) (fact_with (λ v. get_or arguments v 0) fact) named)
               ((keeps m s b c).calls p edge x h arguments fact one is_call named has))
 
-    -- its exit loses what its returns don't give
-    module _ (m : Family) (xs : List Known) (lost : Bool) (s : Searching r m) (l : Loses lost m.exits xs (λ h fact. h ≡ g → ReturnsGive (routine_nodes f) (get_or m.points g []) (copies f) (spare f (heights g)) (length (routine_nodes f)) fact)) where
+    -- its exit loses what its returns don't give, or some of them
+    module _ (m : Family) (xs : List Known) (lost : Bool) (s : Searching r m) (stays : (h : ℕ) → Fact → Type 0) (all_give : (h : ℕ) (fact : Fact) → (h ≡ g → ReturnsGive (routine_nodes f) (get_or m.points g []) (copies f) (spare f (heights g)) (length (routine_nodes f)) fact) → stays h fact) (l : Loses lost m.exits xs stays) where
       pub leave_step : Searching r (with_exits m xs)
       leave_step = record {
         shaped = record {
@@ -266,7 +266,7 @@ module _ (r : Rlang) (is : IsRlang r) where
         inside = λ b c. record {
           before = (s.inside b c).before;
           entry = (s.inside b c).entry;
-          exit = λ h fact has. (l.facts h fact).1 ((s.inside b c).exit h fact has, λ e p node lt at given returns. given_back b c fact (subst (λ k. IsTrue ((only_of r b).exit k fact)) e has) p node at given returns);
+          exit = λ h fact has. (l.facts h fact).1 ((s.inside b c).exit h fact has, all_give h fact (λ e p node lt at given returns. given_back b c fact (subst (λ k. IsTrue ((only_of r b).exit k fact)) e has) p node at given returns));
         };
         shut = s.shut;
       }

@@ -48,16 +48,20 @@ pub record Crossed (exits : List Known) (spare p : ℕ) (edge : Edge) (before : 
   pub carries : Carries spare (exit_facts (leaving exits)) edge.effect p edge.to flow
   pub behind : Behind (suc spare) spare flow.assigned flow.news.items before fact
 
--- facts pass through a function, from its entry on: no edge drops one then, and nothing was lost that none drops
-pub record Passed (nodes : List Node) (copies spare : ℕ) (first : Known) (exits : List Known) (old new : List Known) : Type 0 where
+-- facts were lost at points of a function, but none that neither an edge drops nor its entry lacks
+pub record Lowered (nodes : List Node) (copies spare : ℕ) (first : Known) (exits : List Known) (old new : List Known) : Type 0 where
   pub long : length new ≡ length old
   pub variables : HaveVariables (suc spare) new
   pub fewer : HaveFewer new old
   pub shut : AreShut (suc spare) spare new
-  pub along : (p : ℕ) (edge : Edge) (fact : Fact) → EdgeOf nodes p edge → IsTrue (set_at new edge.to fact) → Crossed exits spare p edge (set_at new p) fact
-  pub entry : (fact : Fact) → IsTrue (set_at new 0 fact) → Derivable (suc spare) (λ p. is_over copies p && holds first p) fact
   pub inside : (low : ℕ → Facts) → ((p : ℕ) (edge : Edge) (e : FlowEdge) (fact : Fact) → EdgeOf nodes p edge → Carries spare (exit_facts (leaving exits)) edge.effect p edge.to e → IsTrue (low edge.to fact) → Behind (suc spare) spare e.assigned e.news.items (low p) fact)
       → ((fact : Fact) → IsTrue (low 0 fact) → Derivable (suc spare) (λ p. is_over copies p && holds first p) fact × (names spare fact ≡ false)) → IsInside low old → IsInside low new
+
+-- facts pass through a function, from its entry on: no edge drops one then, and nothing was lost that none drops
+pub record Passed (nodes : List Node) (copies spare : ℕ) (first : Known) (exits : List Known) (old new : List Known) : Type 0 where
+  pub lowered : Lowered nodes copies spare first exits old new
+  pub along : (p : ℕ) (edge : Edge) (fact : Fact) → EdgeOf nodes p edge → IsTrue (set_at new edge.to fact) → Crossed exits spare p edge (set_at new p) fact
+  pub entry : (fact : Fact) → IsTrue (set_at new 0 fact) → Derivable (suc spare) (λ p. is_over copies p && holds first p) fact
 
 -- the sets of a family, some of them others
 abbrev pub with_points : Family → List (List Known) → Family

@@ -6,8 +6,8 @@ use Rattle.rc_boundaries.proofs.Handing.{node_ready_same, calls_step, node_at, s
 use Rattle.rc_boundaries.proofs.calls.call.Goals as goal
 use Rattle.rc_boundaries.proofs.calls.call.Goals.{then-lost, else-lost}
 
-pub give_all-requires : goal.give_all-requires
-give_all-requires c =
+pub call_at-requires : goal.call_at-requires
+call_at-requires c =
     let n = c.index-nodes-p.result in
     let p = c.loop-p.p in
     let lt = c.loop-p-test.true in
@@ -17,7 +17,7 @@ give_all-requires c =
 
 pub loop-p-preserved : goal.loop-p-preserved
 loop-p-preserved c =
-    let step = calls_step c.loop-p.lost c.in_ok-more.more c.if-lost.lost c.args.entries.now c.loop-p.entries c.give_all.new.entries c.args.nodes.now c.args.points.now c.loop-p.p c.index-nodes-p.result c.index-points-p.result c.loop-p-test.true c.requires.points c.index-nodes-p.is c.index-points-p.is c.loop-p.invariant c.in_ok-more.ensures in
+    let step = calls_step c.loop-p.lost c.in_ok-more.more c.if-lost.lost c.args.entries.now c.loop-p.entries c.call_at.new.entries c.args.nodes.now c.args.points.now c.loop-p.p c.index-nodes-p.result c.index-points-p.result c.loop-p-test.true c.requires.points c.index-nodes-p.is c.index-points-p.is c.loop-p.invariant c.in_ok-more.ensures in
     elim c.if-lost.branch [
       | then-lost w ↦ step (w.lost-is ∙ sym (or_true c.loop-p.lost c.in_ok-more.more w.if-lost.true))
       | else-lost w ↦ step (w.lost-is ∙ sym (or_false c.loop-p.lost c.in_ok-more.more w.if-lost.false))

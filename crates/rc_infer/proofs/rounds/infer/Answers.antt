@@ -7,6 +7,7 @@ use Rattle.rc_rlang.specs.Shapes.{rlang_of, routine_in}
 use Rattle.rc_region_facts.specs.Inferred.{family_of}
 use Rattle.rc_searching.specs.Searching.{Gone}
 use Rattle.rc_searching.proofs.Steps.{begun, ended}
+use Rattle.rc_infer.specs.Turning.{AreGraphs}
 use Rattle.rc_infer.proofs.rounds.infer.Goals as goal
 
 pub new-requires : goal.new-requires
@@ -15,12 +16,21 @@ new-requires c = subst (λ ss. StructsFit (map struct_of ss)) (sym (c.as_slice.e
 pub rounds-init : goal.rounds-init
 rounds-init c = begun (rlang_of c.args.code.now) c.parts.ensures.fits (family_of c.in_ok-facts.facts) c.in_ok-facts.ensures
 
+pub sweep-requires : goal.sweep-requires
+sweep-requires c = record {
+  turning = record {
+    code = c.parts.ensures.fits;
+    own = subst (AreGraphs (rlang_of c.args.code.now) (length (rlang_of c.args.code.now).functions)) (sym c.as_slice-2.ensures.value) c.in_ok-graphs.ensures;
+    searching = c.rounds.invariant;
+  };
+}
+
 pub returns-then-not-lost : goal.returns-then-not-lost
 returns-then-not-lost c =
     let r = rlang_of c.args.code.now in
     let items = c.args.code.now.functions.items in
     let m1 = family_of c.round.new.facts in
-    let gone = subst (Gone r (length items) (family_of c.sweep_back.new.facts) m1) c.if-not-lost.true c.in_ok-lost.ensures in
+    let gone = subst (Gone r (length items) (family_of c.sweep.new.facts) m1) c.if-not-lost.true c.in_ok-lost.ensures in
     let long = length-map items (routine_in r.structs) in
     record {
       shaped = gone.searching.shaped;

@@ -36,7 +36,7 @@ propagate-requires-clause-shut c =
     let wide : suc s ≡ c.in_ok-work.work.variables = omega (arith, w) in
     let listed = way_listed ns c.as_slice.result.now c.args.exits.now s es starts c.as_slice.ensures.value c.in_ok-flow.ensures in
     subst (λ n. AreShut n s mid) wide
-    (mid_shut (nodes_of ns) c.args.graph.now.copies s c.args.entry.now c.args.exits.now old mid old es starts listed (c.requires.long ∙ sym (length-map ns node_of))
+    (mid_shut c.args.graph.now.copies s c.args.entry.now old mid
     (first_set old c.begin.new.first c.index-sets-0.result (Derivable (suc s) (λ p. is_over c.args.graph.now.copies p && holds c.args.entry.now p)) (λ fact. names s fact ≡ false) c.requires.some c.index-sets-0.is c.in_ok-begin.ensures.facts)
     (other_set old c.begin.new.first) (long_set old c.begin.new.first) c.requires.shut)
 

@@ -4,7 +4,7 @@ use Rattle.rc_graph.specs.Nodes.{effect_of, node_of}
 use Rattle.rc_searching.specs.Reading.{Loses}
 use Rattle.rc_searching.specs.Boundaries.{CallGives, NodeGives, NodeReady}
 use Rattle.rc_boundaries.proofs.Handing.{node_ready_same, fork_gives, or_true, or_false, go_returned}
-use Rattle.rc_boundaries.proofs.calls.give_all.Goals as goal
+use Rattle.rc_boundaries.proofs.calls.call_at.Goals as goal
 
 pub give-requires : goal.give-requires
 give-requires c = (subst (λ n. NodeReady (node_of n) c.args.known.now.variables c.args.entries.now) c.in-Go.is c.requires) 0 (record { effect = effect_of c.in-Go.effect; to = c.in-Go.to }) refl

@@ -1,0 +1,8 @@
+use Rattle.std.proofs.Common.{refl}
+use Rattle.rc_graph.specs.Nodes.{nodes_of}
+use Rattle.rc_searching.specs.Searching.{Lowered}
+use Rattle.rc_infer.proofs.Places.{if_ok, changed_at}
+use Rattle.rc_infer.proofs.steps.come_into.Goals as goal
+
+pub returns : goal.returns
+returns c = if_ok c.come_in.result _ _ (λ done p. changed_at c.args.graph.now c.args.place.function c.args.facts.now c.requires c.index_mut.result.now c.index_mut.ensures.value (Lowered (nodes_of c.args.graph.now.nodes.items) c.args.graph.now.copies c.args.graph.now.result) c.index-entry.result.now c.args.facts.now.exits.items c.as_mut_slice-sets.result.now c.come_in.new.sets p.long c.index-entry.ensures refl c.as_mut_slice-sets.ensures.value p) (c.come_in.ensures.lowered (nodes_of c.args.graph.now.nodes.items) c.args.facts.now.exits.items)

@@ -1,0 +1,25 @@
+// The graphs of all functions.
+ghost use Rattle.std.specs.Prelude.{◌≡◌, IfOk, length};
+ghost use Rattle.rc_core.specs.Laid.{AreLaidOut};
+ghost use Rattle.rc_rlang.specs.Shapes.{rlang_of};
+ghost use Rattle.rc_infer.specs.Turning.{AreGraphs};
+
+use rc_base::NoMemory;
+use rc_core::Layouts;
+use rc_graph::{Graph, graph_of};
+use rc_rlang::rlang::Rlang;
+use std::alloc::Global;
+
+/// The graph of each function, in their order.
+pub(crate) fn graphs(alloc: Global, layouts: &Layouts, code: &Rlang) -> Result<Vec<Graph>, NoMemory>
+    requires { AreLaidOut (rlang_of code.now).structs layouts.now }
+    ensures { IfOk result (λ all. AreGraphs (rlang_of code.now) (length (rlang_of code.now).functions) all.items) }
+{
+    let parts = code.parts();
+    let mut all = Vec::new(alloc);
+    for g in 0..parts.functions.len() {
+        let graph = graph_of(alloc, layouts, &parts.functions[g])?;
+        all.push(graph)?;
+    }
+    Ok(all)
+}
