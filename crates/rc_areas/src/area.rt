@@ -58,6 +58,7 @@ impl Area {
     }
 
     /// How many objects there are.
+    #[inline(always)]
     pub fn len(&self) -> usize
         ensures { result ≡ length self.now.heads }
     {
@@ -72,6 +73,7 @@ impl Area {
     }
 
     /// How many elements an object has.
+    #[inline(always)]
     pub fn count(&self, object: u32, shapes: &Shapes) -> u32
         requires laid { IsLaid shapes.now self.now }
         requires object { object < length self.now.heads }
@@ -81,6 +83,7 @@ impl Area {
     }
 
     /// Where a cell stands among all.
+    #[inline(always)]
     fn place(&self, object: u32, index: u32, cell: u32, shapes: &Shapes) -> u64
         requires laid { IsLaid shapes.now self.now }
         requires object { object < length self.now.heads }
@@ -93,6 +96,7 @@ impl Area {
     }
 
     /// The value of a cell.
+    #[inline(always)]
     pub fn get<L: Ledger>(
         &self,
         object: u32,
@@ -114,6 +118,7 @@ impl Area {
     }
 
     /// Writes a cell. The value is one of those that the cell may hold.
+    #[inline(always)]
     pub fn set(&mut self, object: u32, index: u32, cell: u32, value: Cell, shapes: &Shapes)
         requires laid { IsLaid shapes.now self.old }
         requires object { object < length self.old.heads }

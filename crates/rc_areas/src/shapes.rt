@@ -44,6 +44,7 @@ impl Model for Shapes {
 }
 
 /// What a cell of an element holds.
+#[inline(always)]
 pub(crate) fn kind_at(shape: &[Kind], cell: usize) -> Kind
     requires { cell < length shape.now }
     ensures { result ≡ slice_index_or shape.now cell NumberKind }
@@ -65,6 +66,7 @@ impl Shapes {
     }
 
     /// The shape with this number.
+    #[inline(always)]
     pub fn get(&self, number: u32) -> &[Kind]
         requires { number < length self.now }
         ensures { result.now ≡ slice_index_or self.now number [] }

@@ -12,6 +12,7 @@ const WORD: u128 = 4294967296;
 
 /// The code of a value: a number has its 64 bits, null has 0, a region has 2^32 added to its number,
 /// and a pointer 2^96 added to its region times 2^64, its object times 2^32 and its index.
+#[inline(always)]
 pub fn encode(value: Cell) -> u128
     ensures code { result ≡ code_of (value_of value) }
     ensures back { (kind : CellKind) → IsTrue (suits kind (value_of value)) → decoded kind result ≡ value_of value }
@@ -28,6 +29,7 @@ pub fn encode(value: Cell) -> u128
 }
 
 /// The region with this code, or null.
+#[inline(always)]
 fn region_in(code: u128) -> Cell
     ensures { value_of result ≡ region_coded code }
 {
@@ -38,6 +40,7 @@ fn region_in(code: u128) -> Cell
 }
 
 /// The pointer with this code, or null.
+#[inline(always)]
 fn pointer_in(code: u128) -> Cell
     ensures { value_of result ≡ pointer_coded code }
 {
@@ -52,6 +55,7 @@ fn pointer_in(code: u128) -> Cell
 }
 
 /// The value that has this code in a cell of this kind. Zero is zero or null in every cell.
+#[inline(always)]
 pub fn decode(kind: Kind, code: u128) -> Cell
     ensures { value_of result ≡ decoded kind code }
 {

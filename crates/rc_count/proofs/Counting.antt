@@ -1,5 +1,5 @@
 -- The counts stay the references, call by call.
-use Rattle.std.proofs.Common.{◌≡◌, ◌≢◌, ◌<◌, ◌≤◌, ◌+◌, ◌-◌, ◌*◌, ◌∙◌, inl, inr, ℕ, zero, suc, Bool, true, false, cond, nat_eq, IsTrue, List, [], ◌∷◌, Option, Some, None, length, set, refl, sym, ap, arith, rules}
+use Rattle.std.proofs.Common.{◌≡◌, ◌≢◌, ◌<◌, ◌≤◌, ◌+◌, ◌-◌, ◌*◌, ◌∙◌, inl, inr, ℕ, ℤ, zero, suc, Bool, true, false, cond, nat_eq, IsTrue, List, [], ◌∷◌, Option, Some, None, length, set, refl, sym, ap, arith, rules}
 use Rattle.std.specs.Prelude.{◌&&◌, IsPermutation}
 use Rattle.std.specs.List.{sum_by}
 use Rattle.std.proofs.lemmas.Bool.{cases_eq, false≢true}
@@ -58,6 +58,15 @@ noted_cell r h (PointerKind Traditional) v noted = none (nat_eq h r)
     none : (b : Bool) → cond {A = ℕ} b 0 0 ≡ 0
     none true = refl
     none false = refl
+
+number_cell : (r h : ℕ) (k : Kind) (n : ℤ) (v : Value) → IsTrue (suits k (Number n)) → cell_refs r h k v ≡ 0
+number_cell r h NumberKind n v fit = none (nat_eq h r)
+  where
+    none : (b : Bool) → cond {A = ℕ} b 0 0 ≡ 0
+    none true = refl
+    none false = refl
+number_cell r h RegionKind n v fit = absurd (false≢true fit)
+number_cell r h (PointerKind note) n v fit = absurd (false≢true fit)
 
 null_cell : (r h : ℕ) (k : Kind) → cell_refs r h k Null ≡ 0
 null_cell r h k = none (nat_eq h r) (is_counted k)
@@ -134,6 +143,13 @@ module _ (before : SpaceState) (s : KeptStore) (cells : ℕ) (counted : IsCounte
     counted_kept v new noted same = record {
       counts = λ r. omega (arith, same r, counted.counts r, references_follow.written s p v r there, noted_cell r p.pointer.region (kind_at s p) (value_at s p) noted, noted_cell r p.pointer.region (kind_at s p) v noted);
       sum = counted.sum ∙ sym (cells_follow.written s p v there.place);
+      few = counted.few;
+    }
+
+    pub counted_number : (n : ℤ) (new : SpaceState) → IsTrue (suits (kind_at s p) (Number n)) → ((r : ℕ) → count_of new r ≡ count_of before r) → IsCounted new (written p (Number n) s) cells
+    counted_number n new fit same = record {
+      counts = λ r. omega (arith, same r, counted.counts r, references_follow.written s p (Number n) r there, number_cell r p.pointer.region (kind_at s p) n (value_at s p) fit, number_cell r p.pointer.region (kind_at s p) n (Number n) fit);
+      sum = counted.sum ∙ sym (cells_follow.written s p (Number n) there.place);
       few = counted.few;
     }
 

@@ -5,7 +5,9 @@ ghost use Rattle.rc_core.specs.Laid.{kind_of};
 ghost use Rattle.rc_core.specs.Shapes.{kinds_in};
 ghost use Rattle.rc_store.specs.Kept.{refs};
 ghost use Rattle.rc_store.specs.declared.cell.Denied.TheVariants.{Reference, Root, Subregion};
-ghost use Rattle.rc_store.specs.Stores.{IsLive, all_cells, allocated, cells_in, deleted, has_child, live_in, no_view, objects_in, parent_in, region_at};
+ghost use Rattle.rc_store.specs.Stores.{IsLive, MayStand, all_cells, allocated, cells_in, deleted, has_child, kind_at, live_in, no_view, objects_in, parent_in, region_at, written};
+ghost use Rattle.rc_store.specs.Values.{note_of, value_of};
+ghost use Rattle.rc_core.specs.declared.ty.Note.TheVariants.{Plain};
 
 use crate::together::{cells_of, give_all, has_root, is_named, take_back_all};
 use rc_base::{Limits, NoMemory, Steps};
@@ -100,19 +102,41 @@ impl CountHeap {
         }
     }
 
-    /// Appends an object to a live region, and answers its number.
-    fn append(&mut self, region: u32, kind: &Layout, count: u32) -> Result<u32, NoMemory>
+    /// Appends an object to a live region that has so many, and answers its number.
+    fn append(
+        &mut self,
+        region: u32,
+        number: usize,
+        kind: &Layout,
+        count: u32,
+    ) -> Result<u32, NoMemory>
         requires live { IsLive self.old region }
+        requires number { number ≡ length (objects_in self.old.regions region) }
         requires few { length (objects_in self.old.regions region) < 4294967296 }
         ensures number { IfOk result (λ o. o ≡ length (objects_in self.old.regions region)) }
         ensures ok { OnOk result (self.new ≡ allocated region (map kind_of (kinds_in kind.now)) count self.old) }
         ensures err { OnErr result (self.new ≡ self.old) }
     {
-        let number = self.space.objects(region);
         let cells = self.with_elements(count, kind.cells.len())?;
         self.space.push(region, kind, count)?;
         self.cells = cells;
         Ok(number as u32)
+    }
+
+    /// Writes a counted cell, or one that holds a number. What the old value counts is taken back, and
+    /// what the new one counts is given.
+    #[inline(never)]
+    fn write_reference<L: Ledger>(&mut self, place: Place, value: Cell, steps: &mut Steps<L>)
+        requires may { MayStand self.old place (value_of value) }
+        requires plain { note_of (kind_at self.old place) ≡ Plain }
+        ensures written { self.new ≡ written place (value_of value) self.old }
+        ensures never_falls { steps.old ≤ steps.new }
+    {
+        let holder = place.pointer.region;
+        let old = self.space.read(place, steps);
+        self.space.write(place, value);
+        self.space.take_back(holder, old);
+        self.space.give(holder, value);
     }
 
     /// Lets a region go that isn't region 0, has no child and isn't named.
@@ -150,39 +174,45 @@ impl Heap for CountHeap {
     }
 
     fn add_global(&mut self, kind: &Layout, n: u32) -> Result<u32, NoMemory> {
-        self.append(0, kind, n)
+        let number = self.space.objects(0);
+        self.append(0, number, kind, n)
     }
 
     fn allocate(&mut self, region: u32, kind: &Layout, n: u32) -> Result<u32, MakeFault> {
-        if self.space.objects(region) >= self.block_limit as usize {
+        let number = self.space.objects(region);
+        if number >= self.block_limit as usize {
             return Err(MakeFault::Full);
         }
-        match self.append(region, kind, n) {
+        match self.append(region, number, kind, n) {
             Ok(number) => Ok(number),
             Err(NoMemory) => Err(MakeFault::Memory),
         }
     }
 
+    #[inline(always)]
     fn is_live(&self, region: u32) -> bool {
         self.space.is_live(region)
     }
 
+    #[inline(always)]
     fn elements(&self, region: u32, object: u32) -> u32 {
         self.space.elements(region, object)
     }
 
+    #[inline(always)]
     fn read<L: Ledger>(&self, place: Place, steps: &mut Steps<L>) -> Cell {
         self.space.read(place, steps)
     }
 
+    #[inline(always)]
     fn write_counted<L: Ledger>(&mut self, place: Place, value: Cell, steps: &mut Steps<L>) {
-        let holder = place.pointer.region;
-        let old = self.space.read(place, steps);
-        self.space.write(place, value);
-        self.space.take_back(holder, old);
-        self.space.give(holder, value);
+        match value {
+            Cell::Number(_number) => self.space.write(place, value),
+            _ => self.write_reference(place, value, steps),
+        }
     }
 
+    #[inline(always)]
     fn write_kept(&mut self, place: Place, value: Cell) {
         self.space.write(place, value);
     }

@@ -29,6 +29,7 @@ impl Page {
         Ok(Page { raw, alloc })
     }
 
+    #[inline(always)]
     pub(crate) fn read(&self, place: usize) -> u128
         requires { place < length self.now }
         ensures { result ≡ slice_index self.now place }
@@ -36,6 +37,7 @@ impl Page {
         self.raw.read(place)
     }
 
+    #[inline(always)]
     pub(crate) fn write(&mut self, place: usize, value: u128)
         requires { place < length self.old }
         ensures { self.new ≡ slice_set self.old place value }

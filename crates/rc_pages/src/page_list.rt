@@ -104,6 +104,7 @@ impl PageList {
     }
 
     /// A cell of a page.
+    #[inline(always)]
     pub(crate) fn read(&self, page: usize, place: usize) -> u128
         requires page { page < length self.now.pages }
         requires place { place < length (slice_index_or self.now.pages page []) }
@@ -119,6 +120,7 @@ impl PageList {
     }
 
     /// Writes a cell of a page.
+    #[inline(always)]
     pub(crate) fn write(&mut self, page: usize, place: usize, value: u128)
         requires page { page < length self.old.pages }
         requires place { place < length (slice_index_or self.old.pages page []) }

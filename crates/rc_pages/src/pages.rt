@@ -75,6 +75,7 @@ fn add_spare(pages: &mut PageList, count: usize, bank: &mut Bank)
 
 /// Appends pages: spare ones as far as the bank has them. The new ones are asked for before the bank
 /// is touched, so that a refusal leaves both as they were.
+#[inline(never)]
 fn add_pages(
     alloc: Global,
     pages: &mut PageList,
@@ -91,6 +92,25 @@ fn add_pages(
     add_new(alloc, pages, count - spare)?;
     add_spare(pages, spare, bank);
     Ok(())
+}
+
+/// Appends so many pages, which mostly are none.
+#[inline(always)]
+fn add_missing(
+    alloc: Global,
+    pages: &mut PageList,
+    count: usize,
+    bank: &mut Bank,
+) -> Result<(), NoMemory>
+    ensures ok { OnOk result (IsLonger pages.old.pages pages.new.pages count) }
+    ensures err { OnErr result (pages.new.pages ≡ pages.old.pages) }
+    ensures spare { OnOk result (bank.new ≡ record bank.old { kept = bank.old.kept - count }) }
+    ensures same { OnErr result (bank.new ≡ bank.old) }
+{
+    if count == 0 {
+        return Ok(());
+    }
+    add_pages(alloc, pages, count, bank)
 }
 
 /// Makes the cells from one on up to another zero, whatever they held.
@@ -137,13 +157,14 @@ impl Pages {
             return Err(NoMemory);
         };
         let missing = pages_for(len) - self.pages.len();
-        add_pages(self.alloc, &mut self.pages, missing, bank)?;
+        add_missing(self.alloc, &mut self.pages, missing, bank)?;
         clear(&mut self.pages, self.len, len);
         self.len = len;
         Ok(())
     }
 
     /// The cell at a place. It is the only call that reads one, and is a step.
+    #[inline(always)]
     pub fn get<L: Ledger>(&self, at: u64, steps: &mut Steps<L>) -> u128
         requires { at < length self.now }
         ensures value { result ≡ slice_index self.now at }
@@ -155,6 +176,7 @@ impl Pages {
     }
 
     /// Writes the cell at a place. No cell is read.
+    #[inline(always)]
     pub fn set(&mut self, at: u64, value: u128)
         requires { at < length self.old }
         ensures { self.new ≡ slice_set self.old at value }

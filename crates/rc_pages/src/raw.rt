@@ -50,6 +50,7 @@ impl RawPage {
         }
     }
 
+    #[inline(always)]
     pub(crate) fn read(&self, place: usize) -> u128
         requires { place < length self.now.cells }
         ensures { result ≡ slice_index self.now.cells place }
@@ -57,6 +58,7 @@ impl RawPage {
         unsafe { *self.at.add(place) }
     }
 
+    #[inline(always)]
     pub(crate) fn write(&mut self, place: usize, value: u128)
         requires { place < length self.old.cells }
         ensures { self.new.cells ≡ slice_set self.old.cells place value }

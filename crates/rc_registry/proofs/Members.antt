@@ -3,7 +3,7 @@ use Rattle.std.proofs.Common.{◌≡◌, ◌≢◌, ◌<◌, ◌∙◌, ◌⊎�
 use Rattle.std.specs.Prelude.{◌||◌, option_map}
 use Rattle.std.proofs.lemmas.Bool.{false≢true}
 use Rattle.rc_slots.specs.declared.entry.Entry.{Entry}
-use Rattle.rc_slots.specs.Entries.{Member, counted, entry_at, member_of, members_of}
+use Rattle.rc_slots.specs.Entries.{Member, counted, entry_at, is_entry, member_of, members_of, slot_of}
 use Rattle.rc_registry.specs.Registries.{IsMember, Members, has_child, is_child_of, is_member, member_at, member_in, or_root, parent_among}
 
 pub member_there : (members : Members) (n : ℕ) → IsMember members n → n < length members
@@ -87,6 +87,18 @@ pub no_entry : (d : List (Option Entry)) (n : ℕ) → entry_at d n ≡ None →
 no_entry [] n is live = false≢true live
 no_entry (x ∷ xs) zero is live = false≢true (sym (ap (λ y. is_member (option_map member_of y)) is) ∙ live)
 no_entry (x ∷ xs) (suc n) is live = no_entry xs n is live
+
+pub entry_member : (d : List (Option Entry)) (n : ℕ) → is_entry (entry_at d n) ≡ is_member (member_at (members_of d) n)
+entry_member [] n = refl
+entry_member (None ∷ xs) zero = refl
+entry_member (Some e ∷ xs) zero = refl
+entry_member (x ∷ xs) (suc n) = entry_member xs n
+
+pub slot_member : (d : List (Option Entry)) (n slot : ℕ) → slot_of (entry_at d n) ≡ Some slot → slot ≡ (member_in (members_of d) n).slot
+slot_member [] n slot is = cc
+slot_member (None ∷ xs) zero slot is = cc
+slot_member (Some e ∷ xs) zero slot is = cc
+slot_member (x ∷ xs) (suc n) slot is = slot_member xs n slot is
 
 -- one that is counted is live
 pub counted_live : (d : List (Option Entry)) (r : ℕ) → 0 < get_or (map counted d) r 0 → IsMember (members_of d) r

@@ -64,25 +64,32 @@ impl Registry {
         self.directory.len()
     }
 
+    #[inline(always)]
     pub fn is_live(&self, region: u32) -> bool
         ensures { result ≡ is_member (member_at self.now.members region) }
     {
-        match self.directory.get(region) {
-            None => false,
-            Some(_entry) => true,
-        }
+        self.directory.is_live(region)
     }
 
     /// The slot of a live region.
+    #[inline(always)]
     pub fn slot(&self, region: u32) -> u32
         requires { IsMember self.now.members region }
         ensures slot { result ≡ (member_in self.now.members region).slot }
         ensures apart { IsApart self.now.members self.now.slots }
     {
-        match self.directory.get(region) {
-            None => unreachable!(),
-            Some(entry) => entry.slot,
-        }
+        self.directory.slot(region)
+    }
+
+    /// The slot of a live region, which isn't looked up again until another region's is.
+    #[inline(always)]
+    pub fn find(&mut self, region: u32) -> u32
+        requires { IsMember self.old.members region }
+        ensures slot { result ≡ (member_in self.old.members region).slot }
+        ensures apart { IsApart self.old.members self.old.slots }
+        ensures same { self.new ≡ self.old }
+    {
+        self.directory.find(region)
     }
 
     /// The parent of a live region; region 0 is its own.

@@ -1,11 +1,11 @@
 -- The entries of chunks as a list, and what changes do to it.
-use Rattle.std.proofs.Common.{◌≡◌, ◌<◌, ◌+◌, ◌/◌, inl, inr, ◌∙◌, ℕ, IsTrue, List, [], ◌∷◌, ◌++◌, Option, Some, None, length, set, get_or, refl, sym, ap, subst, arith, length-set, get_or-set_same, get_or-set_other}
+use Rattle.std.proofs.Common.{◌≡◌, ◌<◌, ◌≤◌, ◌+◌, ◌/◌, inl, inr, ◌∙◌, ℕ, IsTrue, true, List, [], ◌∷◌, ◌++◌, Option, Some, None, length, set, get_or, refl, sym, ap, subst, arith, length-set, get_or-set_same, get_or-set_other}
 use Rattle.std.proofs.lemmas.Bool.{cases_eq, cases_lt, false≢true}
 use Rattle.std.proofs.lemmas.List.{get_or_past}
 use Rattle.std.proofs.lemmas.List.FromFn.{fill_by_all, get_or-map-range_with_len, length-map-range_with_len, map-range_with_len_more}
 use Rattle.rc_slots.specs.declared.entry.Entry.{Entry}
-use Rattle.rc_slots.specs.Entries.{IsEntry, counted, entry_at, is_entry}
-use Rattle.rc_slots.specs.Chunks.{AreSame, Chunks, Holds, IsChanged, chunk_at, entries_of, entry_in, is_chunk}
+use Rattle.rc_slots.specs.Entries.{IsEntry, counted, entry_at, is_entry, slot_of}
+use Rattle.rc_slots.specs.Chunks.{AreSame, Chunks, Holds, IsChanged, IsRecent, chunk_at, entries_of, entry_in, is_chunk}
 
 pub length-entries : (chunks : Chunks) (n : ℕ) → length (entries_of chunks n) ≡ n
 length-entries chunks n = length-map-range_with_len (entry_in chunks) 0 n
@@ -114,3 +114,27 @@ module _ (chunks : Chunks) (n : ℕ) (held : Holds chunks n) (now : List (Option
         subst (λ cs. Holds cs (n + 1)) (sym is) (holds_more chunks n held new n entry before refl (subst (λ cs. n / 256 < length cs) same inside)),
         ap (λ cs. entries_of cs (n + 1)) is ∙ entries_more chunks n held new n entry before refl ∙ ap (λ es. es ++ entry ∷ []) view,
       )
+
+-- what has a slot is an entry
+pub slotted_entry : (e : Option Entry) (slot : ℕ) → slot_of e ≡ Some slot → true ≡ is_entry e
+slotted_entry None slot is = grind (arith, is)
+slotted_entry (Some e) slot is = refl
+
+-- the same entries have the same slots
+pub recent_same : (old new : Chunks) (number slot : ℕ) → ((k : ℕ) → slot_of (entry_in new k) ≡ slot_of (entry_in old k)) → IsRecent old number slot → IsRecent new number slot
+recent_same old new number slot same recent = λ below. same number ∙ recent below
+
+pub recent_unchanged : (old new : Chunks) (number slot : ℕ) → AreSame old new → IsRecent old number slot → IsRecent new number slot
+recent_unchanged old new number slot same recent = recent_same old new number slot (λ k. ap slot_of (same.entries k)) recent
+
+-- a change that leaves the slot
+pub recent_changed : (chunks was new done : Chunks) (number : ℕ) (change : Option Entry → Option Entry) → was ≡ chunks → done ≡ new → ((e : Option Entry) → slot_of (change e) ≡ slot_of e) → IsChanged was new number (change (entry_in was number))
+    → (recent slot : ℕ) → IsRecent chunks recent slot → IsRecent done recent slot
+recent_changed chunks was new done number change same is keeps changed recent slot known =
+    recent_same chunks done recent slot (λ k. ap (λ cs. slot_of (entry_in cs k)) is ∙ left k ∙ ap (λ cs. slot_of (entry_in cs k)) same) known
+  where
+    left : (k : ℕ) → slot_of (entry_in new k) ≡ slot_of (entry_in was k)
+    left k = elim (cases_eq k number) [
+      | inl e ↦ ap (λ m. slot_of (entry_in new m)) e ∙ ap slot_of changed.there ∙ keeps (entry_in was number) ∙ sym (ap (λ m. slot_of (entry_in was m)) e)
+      | inr apart ↦ ap slot_of (changed.others k apart)
+    ]

@@ -1,8 +1,8 @@
 -- How entries stand in chunks of 256 numbers; a chunk that isn't there has no entry.
-use Rattle.std.specs.Prelude.{◌≡◌, ◌≢◌, ◌≤◌, ◌*◌, ◌/◌, ◌%◌, ℕ, List, [], map, length, slice_index_or, Bool, true, false, Option, Some, None}
+use Rattle.std.specs.Prelude.{◌≡◌, ◌≢◌, ◌≤◌, ◌<◌, ◌*◌, ◌/◌, ◌%◌, ℕ, List, [], map, length, slice_index_or, Bool, true, false, Option, Some, None}
 use Rattle.std.specs.List.{range_with_len}
 use Rattle.rc_slots.specs.declared.entry.Entry.{Entry}
-use Rattle.rc_slots.specs.Entries.{entry_at}
+use Rattle.rc_slots.specs.Entries.{entry_at, slot_of}
 
 abbrev pub Chunks : Type 0
 Chunks = List (Option (List (Option Entry)))
@@ -40,3 +40,7 @@ pub record IsChanged (old new : Chunks) (number : ℕ) (entry : Option Entry) : 
 pub record AreSame (old new : Chunks) : Type 0 where
   pub entries : (number : ℕ) → entry_in new number ≡ entry_in old number
   pub count : length old ≤ length new
+
+-- where the number is one that a region may have, the region is live and has this slot
+abbrev pub IsRecent : Chunks → (number slot : ℕ) → Type 0
+IsRecent chunks number slot = number < 4294967296 → slot_of (entry_in chunks number) ≡ Some slot

@@ -14,6 +14,9 @@ abbrev pub counted : Option Entry → ℕ
 counted None = 0
 counted (Some e) = e.count
 
+abbrev pub slot_of : Option Entry → Option ℕ
+slot_of e = option_map (λ (e : Entry). e.slot) e
+
 abbrev pub with_count : (ℕ → ℕ) → Entry → Entry
 with_count change e = record e { count = change e.count }
 

@@ -1,6 +1,6 @@
 // The directory.
 ghost use Rattle.std.specs.Prelude.{◌≡◌, ◌<◌, ◌≤◌, ◌+◌, ◌/◌, ◌++◌, ◌∷◌, [], None, Some, length, slice_set, IsTrue, OnOk, OnErr};
-ghost use Rattle.rc_slots.specs.Entries.{IsEntry, counted, entry_at, lowered, raised};
+ghost use Rattle.rc_slots.specs.Entries.{IsEntry, counted, entry_at, is_entry, lowered, raised, slot_of};
 ghost use Rattle.rc_slots.specs.Chunks.{AreSame, IsChanged, chunk_at, entry_in, is_chunk};
 
 use crate::chunk::{CHUNK_NUMBERS, Chunk};
@@ -9,6 +9,9 @@ use rc_base::NoMemory;
 use std::alloc::Global;
 use std::marker::Model;
 
+/// What stands for the number of a region where none is known. No region has it.
+const NO_NUMBER: u64 = 4294967296;
+
 /// What is kept of each live region, by its number: regions count from 0 in the order in which they
 /// are made. Contracts see a list that is as long as regions were made, with none for a dead one.
 #[derive(Drop)]
@@ -16,18 +19,21 @@ pub struct Directory {
     alloc: Global,
     chunks: Vec<Option<Chunk>>,
     len: usize,
+    /// The live region that was made or written last, if it is known: its slot isn't looked up.
+    recent: u64,
+    recent_slot: u32,
 }
 
 impl Model for Directory {
     ghost use Rattle.std.specs.Prelude.{List, Option};
     ghost use Rattle.rc_slots.specs.declared.entry.Entry.{Entry as Kept};
-    ghost use Rattle.rc_slots.specs.Chunks.{Holds, entries_of};
+    ghost use Rattle.rc_slots.specs.Chunks.{Holds, IsRecent, entries_of};
 
     ghost Value = { List (Option Kept) };
 
     ghost view = { λ d. entries_of d.chunks.items d.len };
 
-    ghost invariant = { λ d. Holds d.chunks.items d.len };
+    ghost invariant = { λ d. Holds d.chunks.items d.len × IsRecent d.chunks.items d.recent d.recent_slot };
 }
 
 fn entry_in(chunks: &[Option<Chunk>], number: usize) -> Option<Entry>
@@ -39,6 +45,27 @@ fn entry_in(chunks: &[Option<Chunk>], number: usize) -> Option<Entry>
             None => None,
             Some(chunk) => chunk.get(number % CHUNK_NUMBERS),
         },
+    }
+}
+
+#[inline(never)]
+fn is_live(chunks: &[Option<Chunk>], number: usize) -> bool
+    ensures { result ≡ is_entry (entry_in chunks.now number) }
+{
+    match entry_in(chunks, number) {
+        None => false,
+        Some(_entry) => true,
+    }
+}
+
+#[inline(never)]
+fn slot(chunks: &[Option<Chunk>], number: usize) -> u32
+    requires { IsEntry (entry_in chunks.now number) }
+    ensures { slot_of (entry_in chunks.now number) ≡ Some result }
+{
+    match entry_in(chunks, number) {
+        None => unreachable!(),
+        Some(entry) => entry.slot,
     }
 }
 
@@ -152,6 +179,8 @@ impl Directory {
             alloc,
             chunks: Vec::new(alloc),
             len: 0,
+            recent: NO_NUMBER,
+            recent_slot: 0,
         }
     }
 
@@ -167,6 +196,45 @@ impl Directory {
         ensures { result ≡ entry_at self.now number }
     {
         entry_in(&self.chunks, number as usize)
+    }
+
+    /// Whether a region is live.
+    #[inline(always)]
+    pub fn is_live(&self, number: u32) -> bool
+        ensures { result ≡ is_entry (entry_at self.now number) }
+    {
+        if number as u64 == self.recent {
+            return true;
+        }
+        is_live(&self.chunks, number as usize)
+    }
+
+    /// The slot of a live region.
+    #[inline(always)]
+    pub fn slot(&self, number: u32) -> u32
+        requires { IsEntry (entry_at self.now number) }
+        ensures { slot_of (entry_at self.now number) ≡ Some result }
+    {
+        if number as u64 == self.recent {
+            return self.recent_slot;
+        }
+        slot(&self.chunks, number as usize)
+    }
+
+    /// The slot of a live region, which isn't looked up again until another region's is.
+    #[inline(always)]
+    pub fn find(&mut self, number: u32) -> u32
+        requires { IsEntry (entry_at self.old number) }
+        ensures slot { slot_of (entry_at self.old number) ≡ Some result }
+        ensures same { self.new ≡ self.old }
+    {
+        if number as u64 == self.recent {
+            return self.recent_slot;
+        }
+        let slot = slot(&self.chunks, number as usize);
+        self.recent = number as u64;
+        self.recent_slot = slot;
+        slot
     }
 
     /// One more region, at this slot and with this parent, with no reference.
@@ -190,6 +258,8 @@ impl Directory {
                 count: 0,
             },
         );
+        self.recent = self.len as u64;
+        self.recent_slot = slot;
         self.len += 1;
         Ok(())
     }
@@ -200,6 +270,7 @@ impl Directory {
         requires { IsEntry (entry_at self.old number) }
         ensures { self.new ≡ slice_set self.old number None }
     {
+        self.recent = NO_NUMBER;
         clear(&mut self.chunks, number as usize);
         let index = number as usize / CHUNK_NUMBERS;
         if index + 1 < self.chunks.len() {

@@ -36,6 +36,7 @@ pub(crate) fn push_object(
 }
 
 /// Writes a cell.
+#[inline(always)]
 pub(crate) fn write_cell(
     areas: &mut [Area],
     slot: usize,

@@ -96,6 +96,7 @@ impl Space {
         self.registry.len()
     }
 
+    #[inline(always)]
     pub fn is_live(&self, region: u32) -> bool
         ensures { result ≡ live_in self.now.regions region }
     {
@@ -110,6 +111,7 @@ impl Space {
     }
 
     /// How many objects a live region has.
+    #[inline(always)]
     pub fn objects(&self, region: u32) -> usize
         requires { IsTrue (live_in self.now.regions region) }
         ensures { result ≡ length (objects_in self.now.regions region) }
@@ -126,6 +128,7 @@ impl Space {
     }
 
     /// How many elements an object of a live region has.
+    #[inline(always)]
     pub fn elements(&self, region: u32, object: u32) -> u32
         requires live { IsTrue (live_in self.now.regions region) }
         requires object { object < length (objects_in self.now.regions region) }
@@ -135,6 +138,7 @@ impl Space {
     }
 
     /// The value of a cell. It suits the cell's kind.
+    #[inline(always)]
     pub fn read<L: Ledger>(&self, place: Place, steps: &mut Steps<L>) -> Cell
         requires { HasSpot self.now.regions place }
         ensures value { value_of result ≡ cell_value (object_in self.now.regions place.pointer.region place.pointer.object) place.pointer.index place.cell }
@@ -152,6 +156,7 @@ impl Space {
     }
 
     /// Writes a cell. The value is one of those that the cell may hold. No count changes.
+    #[inline(always)]
     pub fn write(&mut self, place: Place, value: Cell)
         requires spot { HasSpot self.old.regions place }
         requires suits { IsTrue (suits (slice_index_or (object_in self.old.regions place.pointer.region place.pointer.object).kinds (cell_place (object_in self.old.regions place.pointer.region place.pointer.object) place.pointer.index place.cell) NumberKind) (value_of value)) }
@@ -159,7 +164,7 @@ impl Space {
         ensures whole { IsWhole (object_in self.old.regions place.pointer.region place.pointer.object) place.pointer.index place.cell }
         ensures counts { self.new.counts ≡ self.old.counts }
     {
-        let slot = self.registry.slot(place.pointer.region) as usize;
+        let slot = self.registry.find(place.pointer.region) as usize;
         write_cell(&mut self.areas, slot, place, value, &self.shapes);
     }
 
@@ -205,7 +210,7 @@ impl Space {
         ensures counts { self.new.counts ≡ self.old.counts }
     {
         let shape = self.shapes.number(layout)?;
-        let slot = self.registry.slot(region) as usize;
+        let slot = self.registry.find(region) as usize;
         push_object(
             &mut self.areas,
             slot,

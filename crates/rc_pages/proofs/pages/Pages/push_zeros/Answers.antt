@@ -9,9 +9,9 @@ missing c = ap (λ k. k - c.len.result) c.pages_for.ensures ∙ ap (λ k. pages_
 
 pub returns-clause-ok : goal.returns-clause-ok
 returns-clause-ok c =
-    pushed-shown c.self.inside.pages.pages c.self.inside.len c.self.invariant c.args.n c.in-Some.len (c.pages_for.result - c.len.result) c.add_pages.new.pages.pages c.clear.new.pages.pages c.in-Some.ensures.1 (missing c) c.in_ok-add_pages.ensures.ok c.clear.ensures.count c.args.self.now c.self.view_is c.clear.ensures.cells
+    pushed-shown c.self.inside.pages.pages c.self.inside.len c.self.invariant c.args.n c.in-Some.len (c.pages_for.result - c.len.result) c.add_missing.new.pages.pages c.clear.new.pages.pages c.in-Some.ensures.1 (missing c) c.in_ok-add_missing.ensures.ok c.clear.ensures.count c.args.self.now c.self.view_is c.clear.ensures.cells
 
 pub returns-clause-spare : goal.returns-clause-spare
 returns-clause-spare c =
-    c.in_ok-add_pages.ensures.spare ∙ ap (λ k. record c.args.bank.now { kept = c.args.bank.now.kept - k })
-    (pushed-count c.self.inside.pages.pages c.self.inside.len c.self.invariant c.args.n c.in-Some.len (c.pages_for.result - c.len.result) c.add_pages.new.pages.pages c.clear.new.pages.pages c.in-Some.ensures.1 (missing c) c.in_ok-add_pages.ensures.ok c.clear.ensures.count c.args.self.now c.self.view_is)
+    c.in_ok-add_missing.ensures.spare ∙ ap (λ k. record c.args.bank.now { kept = c.args.bank.now.kept - k })
+    (pushed-count c.self.inside.pages.pages c.self.inside.len c.self.invariant c.args.n c.in-Some.len (c.pages_for.result - c.len.result) c.add_missing.new.pages.pages c.clear.new.pages.pages c.in-Some.ensures.1 (missing c) c.in_ok-add_missing.ensures.ok c.clear.ensures.count c.args.self.now c.self.view_is)

@@ -8,6 +8,7 @@ use Rattle.rc_core.specs.Shapes.{kinds_in}
 use Rattle.rc_store.specs.Kept.{blank}
 use Rattle.rc_areas.specs.Areas.{AreaState, IsLaid, objects_of}
 use Rattle.rc_areas.specs.Shapes.{with_shape}
+use Rattle.rc_registry.specs.Registries.{RegistryState}
 use Rattle.rc_space.specs.Spaces.{IsBeside, IsSpace}
 use Rattle.rc_store.specs.Stores.{objects_in, with_objects}
 use Rattle.rc_space.proofs.Shown.{live_shown, objects_shown}
@@ -22,7 +23,7 @@ push_object-requires-clause-laid c =
     let slots = s.registry.slots in
     let view = ap (λ (x : SpaceState). x.regions) c.self.view_is in
     let r = c.args.region in
-    let slot = c.slot-slot.result in
+    let slot = c.find-slot.result in
     let ks = map kind_of (kinds_in c.args.layout.now) in
     let shapes = c.number.new.self in
     let more : shapes ≡ with_shape ks s.shapes = c.in_ok-shape.ensures.shapes in
@@ -37,7 +38,7 @@ invariant_of-self-2 c =
     let slots = s.registry.slots in
     let view = ap (λ (x : SpaceState). x.regions) c.self.view_is in
     let r = c.args.region in
-    let slot = c.slot-slot.result in
+    let slot = c.find-slot.result in
     let ks = map kind_of (kinds_in c.args.layout.now) in
     let shapes = c.number.new.self in
     let more : shapes ≡ with_shape ks s.shapes = c.in_ok-shape.ensures.shapes in
@@ -46,8 +47,8 @@ invariant_of-self-2 c =
     let beside : IsBeside slot areas new = subst (λ xs. IsBeside slot xs new) c.deref_mut.ensures.value c.push_object.ensures.beside in
     let items = with_items_is s.areas new (c.push_object.ensures.beside.count ∙ c.deref_mut.ensures.len) in
     record {
-      space = subst (λ xs. IsSpace slots xs shapes) (sym items) (space_beside slots slot areas new s.shapes shapes c.self.invariant.space beside kept c.push_object.ensures.laid);
-      count = c.self.invariant.count;
+      space = subst (λ xs. IsSpace c.find-slot.new.self.slots xs shapes) (sym items) (subst (λ (x : RegistryState). IsSpace x.slots new shapes) (sym c.find-slot.ensures.same) (space_beside slots slot areas new s.shapes shapes c.self.invariant.space beside kept c.push_object.ensures.laid));
+      count = c.self.invariant.count ∙ ap (λ (x : RegistryState). x.slots) (sym c.find-slot.ensures.same);
       clear = c.self.invariant.clear;
     }
 
@@ -59,7 +60,7 @@ returns-clause-ok c =
     let slots = s.registry.slots in
     let view = ap (λ (x : SpaceState). x.regions) c.self.view_is in
     let r = c.args.region in
-    let slot = c.slot-slot.result in
+    let slot = c.find-slot.result in
     let ks = map kind_of (kinds_in c.args.layout.now) in
     let shapes = c.number.new.self in
     let more : shapes ≡ with_shape ks s.shapes = c.in_ok-shape.ensures.shapes in
@@ -73,10 +74,11 @@ returns-clause-ok c =
     let same : objects_of shapes (area_at new slot) ≡ objects_in c.args.self.now.regions r ++ blank ks c.args.count ∷ [] =
     pushed
     ∙ ap (λ xs. objects_of shapes (area_at xs slot) ++ blank (get_or shapes c.in_ok-shape.shape []) c.args.count ∷ []) c.deref_mut.ensures.value
-    ∙ ap (λ os. os ++ blank (get_or shapes c.in_ok-shape.shape []) c.args.count ∷ []) (objects_kept (area_at areas slot) (c.self.invariant.space.laid slot) ∙ sym (objects_shown ms areas s.shapes slots c.self.invariant.space c.args.self.now.regions view r slot c.requires c.slot-slot.ensures.slot))
+    ∙ ap (λ os. os ++ blank (get_or shapes c.in_ok-shape.shape []) c.args.count ∷ []) (objects_kept (area_at areas slot) (c.self.invariant.space.laid slot) ∙ sym (objects_shown ms areas s.shapes slots c.self.invariant.space c.args.self.now.regions view r slot c.requires c.find-slot.ensures.slot))
     ∙ ap (λ k. objects_in c.args.self.now.regions r ++ blank k c.args.count ∷ []) (get_or_from_slice_get shapes c.in_ok-shape.shape ks [] c.in_ok-shape.ensures.number) in
-    ap (λ xs. regions_of ms xs shapes) items
-    ∙ regions_beside ms areas new s.shapes shapes slots r slot (objects_in c.args.self.now.regions r ++ blank ks c.args.count ∷ []) live c.slot-slot.ensures.slot (λ n there other e. other (c.slot-slot.ensures.apart.apart n r there live (e ∙ c.slot-slot.ensures.slot)))
+    ap (λ xs. regions_of c.find-slot.new.self.members xs shapes) items
+    ∙ ap (λ (x : RegistryState). regions_of x.members new shapes) c.find-slot.ensures.same
+    ∙ regions_beside ms areas new s.shapes shapes slots r slot (objects_in c.args.self.now.regions r ++ blank ks c.args.count ∷ []) live c.find-slot.ensures.slot (λ n there other e. other (c.find-slot.ensures.apart.apart n r there live (e ∙ c.find-slot.ensures.slot)))
     c.self.invariant.space beside objects_kept same
     ∙ ap (with_objects r (objects_in c.args.self.now.regions r ++ blank ks c.args.count ∷ [])) view) c.push_object.ensures.ok
 
@@ -88,7 +90,7 @@ returns-clause-err c =
     let slots = s.registry.slots in
     let view = ap (λ (x : SpaceState). x.regions) c.self.view_is in
     let r = c.args.region in
-    let slot = c.slot-slot.result in
+    let slot = c.find-slot.result in
     let ks = map kind_of (kinds_in c.args.layout.now) in
     let shapes = c.number.new.self in
     let more : shapes ≡ with_shape ks s.shapes = c.in_ok-shape.ensures.shapes in
@@ -98,6 +100,7 @@ returns-clause-err c =
     let items = with_items_is s.areas new (c.push_object.ensures.beside.count ∙ c.deref_mut.ensures.len) in
     let objects_kept : (a : AreaState) → IsLaid s.shapes a → objects_of shapes a ≡ objects_of s.shapes a = λ a laid. ap (λ x. objects_of x a) more ∙ shape_objects s.shapes ks a laid in
     on_err_weaker c.push_object.result (λ same.
-    ap (λ xs. regions_of ms xs shapes) items
+    ap (λ xs. regions_of c.find-slot.new.self.members xs shapes) items
+    ∙ ap (λ (x : RegistryState). regions_of x.members new shapes) c.find-slot.ensures.same
     ∙ regions_stay ms areas new s.shapes shapes slots slot c.self.invariant.space beside objects_kept (same ∙ ap (λ xs. area_at xs slot) c.deref_mut.ensures.value)
     ∙ view) c.push_object.ensures.err
