@@ -1,13 +1,13 @@
 -- A registry from which regions of a set go, one after the other.
-use Rattle.std.proofs.Common.{◌≡◌, ◌≢◌, ◌<◌, ◌≤◌, ◌+◌, ◌-◌, ◌∙◌, ◌⊎◌, inl, inr, ℕ, zero, suc, Bool, true, false, cond, nat_eq, IsTrue, List, [], ◌∷◌, Option, Some, None, length, get_or, set as slice_set, take, refl, sym, ap, subst, arith, rules, get_or-set_other, length-set}
-use Rattle.std.specs.Prelude.{◌||◌, ◌&&◌, not, All, Contains}
+use Rattle.std.proofs.Common.{◌≡◌, ◌≢◌, ◌<◌, ◌≤◌, ◌+◌, ◌∙◌, inl, inr, ℕ, zero, suc, Bool, true, false, cond, IsTrue, List, [], ◌∷◌, Option, Some, None, length, get_or, set as slice_set, refl, sym, ap, subst, arith, get_or-set_other, length-set}
+use Rattle.std.specs.Prelude.{◌&&◌, not, All}
 use Rattle.std.proofs.lemmas.Bool.{cases_eq, false≢true}
 use Rattle.std.proofs.lemmas.List.{ext_get_or}
 use Rattle.rc_store.specs.Sets.{is_member as is_in}
 use Rattle.rc_slots.specs.Entries.{Member}
 use Rattle.rc_counts.specs.Together.{without}
 use Rattle.rc_counts.proofs.Together.{length-without, without_read}
-use Rattle.rc_registry.specs.Registries.{AreOlder, IsApart, IsMember, Members, RegistryState, count_in, has_child, is_marked, is_member, mark_of, member_at, member_in, or_root, parent_among, at_slots}
+use Rattle.rc_registry.specs.Registries.{AreOlder, IsApart, IsMember, RegistryState, count_in, has_child, is_marked, is_member, mark_of, member_at, member_in, or_root, parent_among, at_slots}
 use Rattle.rc_registry.proofs.Members.{child_found, child_there, left_apart, left_same, member_there}
 use Rattle.rc_groups.specs.Groups.{AreClear, HasChildOutside}
 use Rattle.rc_groups.proofs.Marked.{marked_by, marked_is, marked_live, marked_slot, of_all}

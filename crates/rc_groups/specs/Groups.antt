@@ -1,7 +1,7 @@
 -- Several regions at once: a child of one of them that isn't among them, and what is left without them.
-use Rattle.std.specs.Prelude.{◌≡◌, ◌≢◌, ℕ, Bool, true, false, List, [], ◌∷◌, Option, None, length, slice_index_or, slice_set}
+use Rattle.std.specs.Prelude.{◌≡◌, ℕ, Bool, true, false, List, slice_index_or}
 use Rattle.rc_store.specs.Sets.{is_member as is_in}
-use Rattle.rc_registry.specs.Registries.{IsMember, Members, RegistryState, count_in, has_child, is_marked, member_at, member_in, parent_among}
+use Rattle.rc_registry.specs.Registries.{IsMember, Members, is_marked, parent_among}
 
 -- no slot has a mark
 abbrev pub AreClear : List Bool → Type 0

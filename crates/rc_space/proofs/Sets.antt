@@ -1,20 +1,20 @@
 -- Several regions at once: who has a parent among them, and what is left without them.
-use Rattle.std.proofs.Common.{◌≡◌, ◌≢◌, ◌<◌, ◌+◌, ◌∙◌, ◌⊎◌, inl, inr, ℕ, zero, suc, Bool, true, false, cond, IsTrue, List, [], ◌∷◌, ◌++◌, Option, Some, None, length, get_or, map, set as slice_set, refl, sym, ap, subst, arith, get_or-set_other, get_or-set_same, length-set}
+use Rattle.std.proofs.Common.{◌≡◌, ◌<◌, ◌+◌, ◌∙◌, ◌⊎◌, inl, inr, ℕ, zero, suc, Bool, true, false, cond, IsTrue, List, [], ◌∷◌, ◌++◌, Option, Some, None, length, get_or, map, set as slice_set, refl, sym, ap, subst, arith, get_or-set_other, get_or-set_same, length-set}
 use Rattle.std.specs.Prelude.{◌||◌, ◌&&◌, ◌↔◌, not, option_map, All}
 use Rattle.std.proofs.lemmas.Bool.{cases_eq, false≢true}
-use Rattle.std.proofs.lemmas.List.{ext_get_or, length-map, map-set}
+use Rattle.std.proofs.lemmas.List.{ext_get_or, length-map}
 use Rattle.rc_store.specs.Kept.{KeptView, Regions}
 use Rattle.rc_store.specs.Sets.{has_child_outside, is_child_of, is_member as is_in}
-use Rattle.rc_store.specs.Stores.{is_view, live_in, or_none, parent_in, region_at}
+use Rattle.rc_store.specs.Stores.{is_view, live_in, or_none, parent_in}
 use Rattle.rc_slots.specs.Entries.{Member}
 use Rattle.rc_areas.specs.Areas.{AreaState, IsLaid, objects_of}
 use Rattle.rc_areas.specs.Shapes.{Shape}
 use Rattle.rc_counts.specs.Together.{without}
 use Rattle.rc_counts.proofs.Together.{length-without, without_read}
-use Rattle.rc_registry.specs.Registries.{IsApart, IsMember, Members, at_slots, is_member, is_slot_of, member_at, member_in, or_root, parent_among}
+use Rattle.rc_registry.specs.Registries.{IsApart, IsMember, Members, at_slots, is_member, is_slot_of, member_at, member_in, or_root}
 use Rattle.rc_registry.proofs.Placed.{same_answer}
 use Rattle.rc_groups.specs.Groups.{AreClear, HasChildOutside}
-use Rattle.rc_groups.proofs.Marked.{hit_is, length-at_slots, of_all, set_read, slot_below}
+use Rattle.rc_groups.proofs.Marked.{hit_is, length-at_slots, set_read, slot_below}
 use Rattle.rc_space.specs.Spaces.{IsBeside, IsSpace, area_at, no_area, regions_of, view_of}
 use Rattle.rc_space.proofs.Grown.{empty_laid}
 use Rattle.rc_space.proofs.Regions.{live_is, parent_is}

@@ -1,8 +1,8 @@
 -- References given one after the other.
-use Rattle.std.proofs.Common.{◌≡◌, ◌<◌, ◌≤◌, ◌+◌, ◌∙◌, ℕ, zero, suc, Bool, true, false, List, [], ◌∷◌, get_or, Option, Some, None, refl, sym, ap, arith}
+use Rattle.std.proofs.Common.{◌≡◌, ◌≤◌, ◌+◌, ◌∙◌, ℕ, zero, suc, Bool, true, false, List, [], ◌∷◌, get_or, Option, Some, None, refl, sym, ap, arith}
 use Rattle.std.specs.Prelude.{option_map}
 use Rattle.rc_slots.specs.declared.entry.Entry.{Entry}
-use Rattle.rc_slots.specs.Entries.{IsEntry, Member, entry_at, is_entry, member_of, members_of}
+use Rattle.rc_slots.specs.Entries.{Member, entry_at, is_entry, member_of, members_of}
 use Rattle.rc_tally.specs.Tally.{IsGiven, MayBeGiven}
 
 -- nothing was given

@@ -1,6 +1,6 @@
 -- References taken back one after the other, and those that the cells of a region count.
 use Rattle.std.proofs.Common.{◌≡◌, ◌≢◌, ◌<◌, ◌≤◌, ◌+◌, ◌-◌, ◌*◌, ◌∙◌, ◌⊎◌, inl, inr, ℕ, zero, suc, Bool, true, false, cond, nat_eq, List, [], ◌∷◌, ◌++◌, length, take, drop, replicate, get_or, set, Option, Some, None, refl, sym, ap, arith, rules, append-nil, get_or-set_other, get_or-set_same, length-drop}
-use Rattle.std.specs.Prelude.{◌&&◌, flat_map, option_map, zip}
+use Rattle.std.specs.Prelude.{◌&&◌, ◌||◌, flat_map, option_map, zip}
 use Rattle.std.specs.List.{count_by, sum_by}
 use Rattle.std.proofs.Math.Seq.{map-set_same}
 use Rattle.std.proofs.lemmas.Bool.{cases_eq, false≢true}
@@ -20,7 +20,7 @@ use Rattle.rc_areas.specs.Shapes.{Shape}
 use Rattle.rc_areas.specs.Areas.{AreLaid, AreaState, IsLaid, kinds_in, object_from, objects_from, objects_of, size_in, values_from}
 use Rattle.rc_areas.specs.declared.head.Head.{Head}
 use Rattle.rc_areas.proofs.Objects.{length-again, shape_is, start_is}
-use Rattle.rc_tally.specs.Tally.{IsGiven, IsTaken, codes_refs, held_refs, pin_refs, value_refs}
+use Rattle.rc_tally.specs.Tally.{IsGiven, IsTaken, codes_refs, has_counted, held_refs, pin_refs, value_refs}
 
 -- nothing was taken
 pub taken_none : (d : List (Option Entry)) (by : ℕ → ℕ) → ((r : ℕ) → by r ≡ 0) → IsTaken d d by
@@ -142,6 +142,10 @@ module _ (n : ℕ) (v : Value) (named : (r : ℕ) → nat_eq n r ≡ names r v) 
   pub pin_given : (d new : List (Option Entry)) → ((r : ℕ) → 0 < pin_refs r v → IsEntry (entry_at d r)) → new ≡ set d n (raised (entry_at d n)) → IsGiven d new (λ r. pin_refs r v)
   pin_given d new live is = given_as d new (one n) (λ r. pin_refs r v) (given_one d new n (live n (omega (arith, pin_here))) is) pin_is
 
+neither : (a b : Bool) → (a || b) ≡ false → (a ≡ false) × (b ≡ false)
+neither true b none = absurd (false≢true (sym none))
+neither false b none = (refl, none)
+
 -- a shape again and again
 abbrev pub again : ℕ → List Kind → List Kind
 again n ks = flat_map (λ k. k) (replicate n ks)
@@ -159,6 +163,25 @@ module _ (r holder : ℕ) where
   refs_append (k ∷ ks) [] [] = refl
   refs_append (k ∷ ks) (l ∷ ls) [] = refl
   refs_append (k ∷ ks) ls (c ∷ cs) = omega (arith, refs_append ks ls cs)
+
+  -- none of kinds that don't count
+  none_counts : (counts h names : Bool) → counts ≡ false → cond h 0 (cond {A = ℕ} (counts && names) 1 0) ≡ 0
+  none_counts true h names none = absurd (false≢true (sym none))
+  none_counts false true names none = refl
+  none_counts false false names none = refl
+
+  refs_none : (ks : List Kind) (cs : List ℕ) → has_counted ks ≡ false → codes_refs r holder ks cs ≡ 0
+  refs_none [] cs none = refl
+  refs_none (k ∷ ks) [] none = refl
+  refs_none (k ∷ ks) (c ∷ cs) none =
+      let both = neither (is_counted k) (has_counted ks) none in
+      omega (arith, none_counts (is_counted k) (nat_eq holder r) (names r (decoded k c)) both.0, refs_none ks cs both.1)
+
+  pub again_none : (n : ℕ) (ks : List Kind) (cs : List ℕ) → has_counted ks ≡ false → codes_refs r holder (again n ks) cs ≡ 0
+  again_none zero ks cs none = refl
+  again_none (suc n) ks cs none =
+      ap (λ ls. codes_refs r holder ls cs) (flat_map-cons (λ k. k) ks (replicate n ks))
+      ∙ omega (arith, refs_append ks (again n ks) cs, refs_none ks cs none, again_none n ks (drop (length ks) cs) none)
 
   cell_there : (k : Kind) (cs : List ℕ) → 0 < length cs → codes_refs r holder (k ∷ []) cs ≡ cell_refs r holder k (decoded k (get_or cs 0 0))
   cell_there k [] some = absurd (omega (arith, some))

@@ -2,13 +2,14 @@
 ghost use Rattle.std.specs.Prelude.{◌≡◌, ◌<◌, ◌≤◌, ◌+◌, ◌*◌, ℕ, length, drop, replicate, flat_map};
 ghost use Rattle.rc_areas.specs.Areas.{IsLaid, objects_of};
 ghost use Rattle.rc_slots.specs.Entries.{counted, entry_at};
-ghost use Rattle.rc_tally.specs.Tally.{IsTaken, codes_refs, held_refs};
+ghost use Rattle.rc_tally.specs.Tally.{IsTaken, codes_refs, has_counted, held_refs};
 
 use crate::cell::take_back_cell;
 use rc_areas::{Area, Head, Shapes};
 use rc_base::Steps;
 use rc_core::Kind;
 use rc_slots::Directory;
+use rc_store::is_counted;
 use std::sync::ledger::Ledger;
 
 /// Takes back what the cells of an element count, of which the first stands at a place.
@@ -39,7 +40,19 @@ fn take_back_element<L: Ledger>(
     }
 }
 
-/// Takes back what the cells of an object count.
+/// Whether a cell of an element counts.
+fn has_counted(shape: &[Kind]) -> bool
+    ensures { result ≡ has_counted shape.now }
+{
+    for kind in shape {
+        if is_counted(*kind) {
+            return true;
+        }
+    }
+    false
+}
+
+/// Takes back what the cells of an object count. No cell is looked at where none of an element counts.
 fn take_back_object<L: Ledger>(
     area: &Area,
     head: Head,
@@ -55,6 +68,9 @@ fn take_back_object<L: Ledger>(
     ensures cost { steps.new ≤ steps.old + head.count * length shape.now }
     ensures never_falls { steps.old ≤ steps.new }
 {
+    if !has_counted(shape) {
+        return;
+    }
     let mut place = head.start;
     for _ in 0..head.count {
         take_back_element(area, place, shape, holder, directory, steps);

@@ -1,4 +1,4 @@
-use Rattle.std.proofs.Common.{◌∙◌, ap, get_or, true, false}
+use Rattle.std.proofs.Common.{◌∙◌, ap, get_or, false}
 use Rattle.rc_registry.specs.Registries.{at_slots, is_marked}
 use Rattle.rc_groups.proofs.Marked.{cleared, marked_is, outside_is}
 use Rattle.rc_groups.proofs.groups.has_child_outside.Goals as goal

@@ -1,6 +1,6 @@
-use Rattle.std.proofs.Common.{◌≡◌, ◌<◌, ◌+◌, ◌∙◌, length, drop, get_or, set as slice_set, sym, ap, arith}
+use Rattle.std.proofs.Common.{◌<◌, ◌+◌, ◌∙◌, length, drop, get_or, set as slice_set, sym, ap, arith}
 use Rattle.std.proofs.lemmas.List.{at_drop_more}
-use Rattle.rc_registry.specs.Registries.{at_slots, member_in}
+use Rattle.rc_registry.specs.Registries.{at_slots}
 use Rattle.rc_space.specs.Spaces.{no_area}
 use Rattle.rc_space.proofs.Sets.{area_emptied}
 use Rattle.rc_space.proofs.areas.clear_all.Goals as goal

@@ -1,7 +1,12 @@
-use Rattle.std.proofs.Common.{◌+◌, drop, length, arith, refl}
-use Rattle.rc_tally.specs.Tally.{codes_refs}
-use Rattle.rc_tally.proofs.Taken.{again, element_less, element_more, enough_left, mul_mono, suc_times, taken_more, taken_none}
+use Rattle.std.proofs.Common.{◌≡◌, ◌+◌, ◌∙◌, false, drop, length, arith, refl, rules, sym}
+use Rattle.rc_tally.specs.Tally.{codes_refs, has_counted}
+use Rattle.rc_tally.proofs.Taken.{again, again_none, element_less, element_more, enough_left, mul_mono, suc_times, taken_more, taken_none}
 use Rattle.rc_tally.proofs.area.take_back_object.Goals as goal
+
+pub returns-then-not-has_counted-clause-taken : goal.returns-then-not-has_counted-clause-taken
+returns-then-not-has_counted-clause-taken g c =
+    let none : has_counted c.args.shape.now ≡ false = sym c.has_counted.ensures ∙ search (rules, c.if-not-has_counted.true) in
+    taken_none c.args.directory.now _ (λ r. again_none r c.args.holder c.args.head.count c.args.shape.now (drop c.args.head.start c.args.area.now.codes) none)
 
 pub loop-init : goal.loop-init
 loop-init g c = record {

@@ -1,4 +1,4 @@
-use Rattle.std.proofs.Common.{◌≡◌, ◌<◌, ◌∙◌, ap, sym, subst, arith, length}
+use Rattle.std.proofs.Common.{◌∙◌, ap, sym, subst, arith}
 use Rattle.std.specs.Prelude.{◌↔◌, IsTrue}
 use Rattle.rc_registry.specs.Registries.{HasUnmarkedChild, IsMember, RegistryState, member_in}
 use Rattle.rc_registry.proofs.Placed.{unmarked_same}

@@ -1,4 +1,4 @@
-use Rattle.std.proofs.Common.{◌≡◌, ◌<◌, ◌∙◌, ap, sym, subst, arith, length}
+use Rattle.std.proofs.Common.{subst}
 use Rattle.rc_registry.specs.Registries.{AreOlder, IsApart, RegistryState}
 use Rattle.rc_registry.proofs.Placed.{parents_older}
 use Rattle.rc_registry.proofs.registry.Registry.set_marks.Goals as goal

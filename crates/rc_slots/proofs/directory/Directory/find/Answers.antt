@@ -1,7 +1,7 @@
-use Rattle.std.proofs.Common.{◌≡◌, ◌<◌, ◌∙◌, ap, sym, subst, arith, Some, rules}
-use Rattle.rc_slots.specs.Entries.{IsEntry, entry_at, is_entry, slot_of}
+use Rattle.std.proofs.Common.{◌<◌, ◌∙◌, ap, sym, subst, arith}
+use Rattle.rc_slots.specs.Entries.{IsEntry, slot_of}
 use Rattle.rc_slots.specs.Chunks.{entry_in}
-use Rattle.rc_slots.proofs.Listed.{shown, slotted_entry}
+use Rattle.rc_slots.proofs.Listed.{shown}
 use Rattle.rc_slots.proofs.directory.Directory.find.Goals as goal
 
 pub returns-then-number-self-clause-slot : goal.returns-then-number-self-clause-slot

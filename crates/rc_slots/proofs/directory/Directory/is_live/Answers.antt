@@ -1,5 +1,5 @@
-use Rattle.std.proofs.Common.{◌≡◌, ◌<◌, ◌∙◌, ap, sym, subst, arith, Some, rules}
-use Rattle.rc_slots.specs.Entries.{IsEntry, entry_at, is_entry, slot_of}
+use Rattle.std.proofs.Common.{◌<◌, ◌∙◌, ap, sym, arith}
+use Rattle.rc_slots.specs.Entries.{entry_at, is_entry, slot_of}
 use Rattle.rc_slots.specs.Chunks.{entry_in}
 use Rattle.rc_slots.proofs.Listed.{shown, slotted_entry}
 use Rattle.rc_slots.proofs.directory.Directory.is_live.Goals as goal
@@ -8,7 +8,7 @@ pub returns-then-number-self : goal.returns-then-number-self
 returns-then-number-self c =
     let below : c.self.inside.recent < 4294967296 = omega (arith, c.ranges.number.fits, c.if-number-self.true) in
     slotted_entry (entry_at c.args.self.now c.args.number) c.self.inside.recent_slot
-        (ap slot_of (shown c.self.inside.chunks.items c.self.inside.len c.self.invariant.0 c.args.self.now c.self.view_is c.args.number) ∙ ap (λ n. slot_of (entry_in c.self.inside.chunks.items n)) c.if-number-self.true ∙ c.self.invariant.1 below)
+    (ap slot_of (shown c.self.inside.chunks.items c.self.inside.len c.self.invariant.0 c.args.self.now c.self.view_is c.args.number) ∙ ap (λ n. slot_of (entry_in c.self.inside.chunks.items n)) c.if-number-self.true ∙ c.self.invariant.1 below)
 
 pub returns : goal.returns
 returns c = c.is_live.ensures ∙ ap is_entry (sym (shown c.self.inside.chunks.items c.self.inside.len c.self.invariant.0 c.args.self.now c.self.view_is c.args.number ∙ ap (λ cs. entry_in cs c.args.number) (sym c.deref.ensures.value)))

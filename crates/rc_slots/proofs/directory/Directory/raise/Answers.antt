@@ -23,10 +23,10 @@ slot_kept (Some e) = refl
 
 pub invariant_of-self : goal.invariant_of-self
 invariant_of-self c = (
-    (settled c.self.inside.chunks.items c.self.inside.len c.self.invariant.0 c.args.self.now c.self.view_is c.deref_mut.result.now c.raise.new.chunks _ c.args.number raised c.deref_mut.ensures.value
-    (with_items_is c.self.inside.chunks c.raise.new.chunks (c.raise.ensures.count ∙ c.deref_mut.ensures.len)) (subst IsEntry (shown c.self.inside.chunks.items c.self.inside.len c.self.invariant.0 c.args.self.now c.self.view_is c.args.number ∙ ap (λ cs. entry_in cs c.args.number) (sym c.deref_mut.ensures.value)) c.requires.live) c.raise.ensures).0,
-    recent_changed c.self.inside.chunks.items c.deref_mut.result.now c.raise.new.chunks _ c.args.number raised c.deref_mut.ensures.value
-        (with_items_is c.self.inside.chunks c.raise.new.chunks (c.raise.ensures.count ∙ c.deref_mut.ensures.len)) slot_kept c.raise.ensures c.self.inside.recent c.self.inside.recent_slot c.self.invariant.1,
+  (settled c.self.inside.chunks.items c.self.inside.len c.self.invariant.0 c.args.self.now c.self.view_is c.deref_mut.result.now c.raise.new.chunks _ c.args.number raised c.deref_mut.ensures.value
+      (with_items_is c.self.inside.chunks c.raise.new.chunks (c.raise.ensures.count ∙ c.deref_mut.ensures.len)) (subst IsEntry (shown c.self.inside.chunks.items c.self.inside.len c.self.invariant.0 c.args.self.now c.self.view_is c.args.number ∙ ap (λ cs. entry_in cs c.args.number) (sym c.deref_mut.ensures.value)) c.requires.live) c.raise.ensures).0,
+  recent_changed c.self.inside.chunks.items c.deref_mut.result.now c.raise.new.chunks _ c.args.number raised c.deref_mut.ensures.value
+      (with_items_is c.self.inside.chunks c.raise.new.chunks (c.raise.ensures.count ∙ c.deref_mut.ensures.len)) slot_kept c.raise.ensures c.self.inside.recent c.self.inside.recent_slot c.self.invariant.1,
 )
 
 pub returns : goal.returns

@@ -1,5 +1,5 @@
-use Rattle.std.proofs.Common.{◌≡◌, ◌<◌, ◌+◌, ◌∙◌, IsTrue, sym, ap, subst, arith}
-use Rattle.rc_store.specs.Stores.{live_in, objects_in}
+use Rattle.std.proofs.Common.{◌≡◌, ◌<◌, ◌+◌, ◌∙◌, sym, ap, subst, arith}
+use Rattle.rc_store.specs.Stores.{objects_in}
 use Rattle.rc_areas.specs.Areas.{objects_of}
 use Rattle.rc_tally.specs.Tally.{held_refs}
 use Rattle.rc_space.specs.Spaces.{SpaceState, count_of}

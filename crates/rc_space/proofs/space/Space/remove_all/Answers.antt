@@ -1,13 +1,11 @@
-use Rattle.std.proofs.Common.{◌≡◌, ◌≤◌, ◌∙◌, IsTrue, List, length, get_or, sym, ap, subst, arith}
-use Rattle.std.specs.Prelude.{All}
+use Rattle.std.proofs.Common.{◌∙◌, length, get_or, sym, ap, subst}
 use Rattle.std.proofs.lemmas.Bool.{false≢true}
 use Rattle.std.proofs.lemmas.List.{with_items_is}
 use Rattle.rc_store.specs.Sets.{has_child_outside}
-use Rattle.rc_areas.specs.Areas.{AreaState}
 use Rattle.rc_counts.specs.Together.{without}
-use Rattle.rc_registry.specs.Registries.{IsApart, IsMember, at_slots, count_in}
-use Rattle.rc_groups.specs.Groups.{AreClear, HasChildOutside}
-use Rattle.rc_space.specs.Spaces.{IsSound, IsSpace, SpaceState, no_area, regions_of}
+use Rattle.rc_registry.specs.Registries.{at_slots}
+use Rattle.rc_groups.specs.Groups.{AreClear}
+use Rattle.rc_space.specs.Spaces.{IsSpace, SpaceState, no_area, regions_of}
 use Rattle.rc_space.proofs.Sets.{outside_shown, regions_left, space_left}
 use Rattle.rc_space.proofs.Shown.{live_shown}
 use Rattle.rc_space.proofs.space.Space.remove_all.Goals as goal
