@@ -13,7 +13,7 @@ ghost use Rattle.rc_ops.specs.Going.{IsInside, Went, at_of};
 ghost use Rattle.rc_calls.specs.Calling.{if_given, kept_first, result_if};
 ghost use Rattle.rc_calls.specs.Setting.{BeginsAt, IsSet};
 
-use crate::pins::{pin_all, pins_at, unpin_all};
+use crate::pins::{pin_behind, unpin_behind};
 use rc_code::{Function, Storage};
 use rc_core::converted;
 use rc_core::ty::NumberType;
@@ -107,11 +107,12 @@ pub fn call<H: Heap>(
     running: &mut Running,
     pile: &mut Pile,
     at: &mut Counter,
+    has_pins: bool,
     callee: u32,
 ) -> Option<Exit>
     requires set { IsSet setting.now.image.now setting.now.bodies.now setting.now.layouts.now }
     requires inside { IsInside at.old }
-    requires ready { IsReadyFor setting.now.image.now (at_of running.old at.old) pile.old (H.store heap.old) running.old.start (Other Call callee) }
+    requires ready { IsReadyFor setting.now.image.now (at_of running.old at.old) pile.old (H.store heap.old) running.old.start (Other (Call has_pins) callee) }
     ensures went { Went setting.now.image.now (at_of running.old at.old) pile.old (H.store heap.old) (at_of running.new at.new) pile.new (H.store heap.new) result }
     ensures start { BeginsAt setting.now.bodies.now running.old → BeginsAt setting.now.bodies.now running.new }
 {
@@ -119,19 +120,15 @@ pub fn call<H: Heap>(
         return Some(Exit::Spent);
     }
     let body = body_of(setting, callee);
-    let Some(words) = (body.locals.len() as u64).checked_add(body.height) else {
-        return Some(Exit::NoMemory);
-    };
-    if !pile.has_room(words) {
-        return Some(Exit::Crowded(words));
+    if !pile.has_room(body.room) {
+        return Some(Exit::Crowded(body.room));
     }
-    let pins = pins_at(setting.image, running.function, at.place);
-    let Ok(()) = pin_all(heap, pile, pins) else {
-        return Some(Exit::NoMemory);
-    };
     let caller = Caller {
         function: running.function,
         place: at.place + 1,
+    };
+    let Ok(()) = pin_behind(setting, heap, pile, caller, has_pins) else {
+        return Some(Exit::NoMemory);
     };
     begin(setting, pile, caller, callee, body);
     at.turns -= 1;
@@ -188,15 +185,11 @@ pub fn give_back<H: Heap>(
         return Some(Exit::Gives(number_in(word)));
     }
     let caller = pile.leave();
-    let pins = pins_at(
-        setting.image,
-        caller.function,
-        caller.place.saturating_sub(1),
-    );
-    unpin_all(heap, pile, pins);
+    let body = body_of(setting, caller.function);
+    unpin_behind(setting, heap, pile, caller, body);
     give_result(pile, has_result, word);
     running.function = caller.function;
-    running.start = body_of(setting, caller.function).start;
+    running.start = body.start;
     at.place = caller.place;
     None
 }

@@ -6,17 +6,21 @@ ghost use Rattle.rc_code.specs.Soundness.{instruction_at};
 ghost use Rattle.rc_store.specs.Stores.{live_in};
 ghost use Rattle.rc_store.specs.Values.{value_of};
 ghost use Rattle.rc_steps.specs.Ready.{IsPinned, IsUnpinned, pins_of};
+ghost use Rattle.rc_decode.specs.Decoding.{has_pins as has_some};
+ghost use Rattle.rc_decode.specs.Whole.{IsBody};
 ghost use Rattle.rc_ready.specs.ShortForms.{AreHeld};
-ghost use Rattle.rc_calls.specs.Pinning.{AreLocals, fresh_of};
+ghost use Rattle.rc_calls.specs.Pinning.{AreLocals, fresh_of, pins_behind};
 
 use rc_base::NoMemory;
 use rc_code::{Image, Instruction};
-use rc_pile::Pile;
+use rc_decode::Body;
+use rc_ops::Setting;
+use rc_pile::{Caller, Pile};
 use rc_store::{Cell, Heap};
 
 /// The locals that the call at this place pins. None where there is no call.
 #[inline(always)]
-pub(crate) fn pins_at(image: &Image, function: u32, place: u32) -> &[u32]
+fn pins_at(image: &Image, function: u32, place: u32) -> &[u32]
     ensures { result.now ≡ pins_of (instruction_at (function_at (reading_of image.now) function) place) }
 {
     let Some(function) = image.parts().functions.as_slice().get(function as usize) else {
@@ -98,4 +102,58 @@ pub fn unpin_all<H: Heap>(heap: &mut H, pile: &Pile, pins: &[u32])
         let value = pile.local(*local).cell();
         unpin_fresh(heap, value);
     }
+}
+
+/// Pins the values that the call behind which a caller waits pins. It has pins, or none.
+///
+/// # Errors
+///
+/// Out of memory.
+#[inline(always)]
+pub(crate) fn pin_behind<H: Heap>(
+    setting: &Setting,
+    heap: &mut H,
+    pile: &Pile,
+    caller: Caller,
+    has_pins: bool,
+) -> Result<(), NoMemory>
+    requires some { has_pins ≡ has_some (pins_behind (reading_of setting.now.image.now) caller) }
+    requires locals { AreLocals (pins_behind (reading_of setting.now.image.now) caller) pile.now }
+    ensures { OnOk result (IsPinned (pinned (pins_behind (reading_of setting.now.image.now) caller) pile.now.locals) (H.store heap.old) (H.store heap.new)) }
+{
+    if !has_pins {
+        return Ok(());
+    }
+    let pins = pins_at(
+        setting.image,
+        caller.function,
+        caller.place.saturating_sub(1),
+    );
+    pin_all(heap, pile, pins)
+}
+
+/// Takes the pins away that the call behind which a caller waits made. The caller's function may have
+/// none.
+#[inline(always)]
+pub(crate) fn unpin_behind<H: Heap>(
+    setting: &Setting,
+    heap: &mut H,
+    pile: &Pile,
+    caller: Caller,
+    body: &Body,
+)
+    requires body { IsBody setting.now.image.now body.now.start (function_at (reading_of setting.now.image.now) caller.function) body.now }
+    requires locals { AreLocals (pins_behind (reading_of setting.now.image.now) caller) pile.now }
+    requires held { AreHeld (pinned (pins_behind (reading_of setting.now.image.now) caller) pile.now.locals) (H.store heap.old) }
+    ensures { IsUnpinned (pinned (pins_behind (reading_of setting.now.image.now) caller) pile.now.locals) (H.store heap.old) (H.store heap.new) }
+{
+    if !body.has_pins {
+        return;
+    }
+    let pins = pins_at(
+        setting.image,
+        caller.function,
+        caller.place.saturating_sub(1),
+    );
+    unpin_all(heap, pile, pins);
 }

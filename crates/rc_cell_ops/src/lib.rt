@@ -5,5 +5,5 @@ mod cells;
 mod deletions;
 mod reaching;
 
-pub use cells::{load, load_flat, load_plain, store};
+pub use cells::{load, load_flat, load_plain, store, store_number};
 pub use deletions::delete;

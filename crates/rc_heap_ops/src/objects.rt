@@ -195,7 +195,7 @@ pub fn move_pointer<H: Heap>(
 {
     let n = pile.number(0);
     match live_pointer(heap, pile.operand(1)) {
-        Err(exit) => Some(exit),
+        Err(miss) => Some(miss.exit()),
         Ok(pointer) => {
             let count = heap.elements(pointer.region, pointer.object) as u64;
             let moved = pointer.index as i128 + toward(direction, n);

@@ -12,7 +12,7 @@ const OPS: [Op; 11] = [
     Op::Int(72),
     Op::Other(Other::PutChar, 0),
     Op::Other(Other::Pop, 0),
-    Op::Other(Other::Call, 1),
+    Op::Other(Other::Call(false), 1),
     Op::Int(0),
     Op::Other(Other::Return(true), 0),
     Op::Int(5),
@@ -31,11 +31,12 @@ fn short_forms_are(alloc: Global, bytes: &[u8], ops: &[Op]) -> Result<bool, Fail
         return Ok(false);
     };
     let bodies = first.start == 0
-        && first.height == 1
+        && first.room == 1
         && second.start == 6
-        && second.height == 1
+        && second.room == 3
         && second.locals.len() == 2
         && second.locals[1].is_null()
+        && !first.has_pins
         && !second.has_chars;
     Ok(bodies && decoded.ops.as_slice() == ops)
 }

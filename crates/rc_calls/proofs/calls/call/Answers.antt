@@ -1,11 +1,13 @@
-use Rattle.std.proofs.Common.{ℕ, ◌≡◌, ◌∙◌, ◌+◌, ◌<◌, ◌≤◌, ap, arith, subst, rules, length, drop, true, Bool}
+use Rattle.std.proofs.Common.{ℕ, ◌≡◌, ◌∙◌, ◌<◌, ◌≤◌, ap, arith, sym, subst, length, drop, true, Bool}
 use Rattle.std.specs.Prelude.{◌&&◌, nat_le, nat_lt}
 use Rattle.std.proofs.lemmas.List.{length-map}
 use Rattle.std.proofs.lemmas.Bool.Decides.{nat_tests}
 use Rattle.rc_code.specs.Running.{function_at, reading_of, first_in, pinned}
 use Rattle.rc_pile.specs.Words.{value_of}
 use Rattle.rc_steps.specs.Ready.{IsPinned, pins_of}
-use Rattle.rc_calls.proofs.Calling.{greatest_below, leads_pile}
+use Rattle.rc_decode.specs.Decoding.{has_pins}
+use Rattle.rc_calls.specs.Pinning.{AreLocals}
+use Rattle.rc_calls.proofs.Calling.{greatest_below, leads_pile, pins_here}
 use Rattle.rc_calls.proofs.calls.call.Goals as goal
 
 both : (x a b : Bool) → x ≡ (a && b) → x ≡ true → (a ≡ true) × (b ≡ true)
@@ -24,16 +26,25 @@ returns-clause-went g c =
     let body = c.body_of-body.result.now in
     let r = c.requires.ready in
     let pile = c.args.pile.now in
-    let words : c.in-Some.words ≡ length body.locals.items + body.height = search rules in
-    let test = both c.has_room.result (nat_le c.in-Some.words pile.room) (nat_lt 0 pile.more) c.has_room.ensures c.if-not-has_room.false in
-    let room = fits c.in-Some.words pile.room pile.more test.0 in
+    let test = both c.has_room.result (nat_le body.room pile.room) (nat_lt 0 pile.more) c.has_room.ensures c.if-not-has_room.false in
+    let room = fits body.room pile.room pile.more test.0 in
     let more = some pile.more test.1 in
     let first = ap length c.body_of-body.ensures.body.first in
     let long = length-map body.locals.items value_of in
     let long2 = length-map (drop f.parameters f.locals) first_in in
-    let height = c.body_of-body.ensures.body.height in
+    let words = c.body_of-body.ensures.body.room in
     let high = greatest_below code f in
     let turns = c.if-at-eq0.false in
-    let pins = c.pins_at-pins.ensures ∙ ap pins_of r.1 in
-    let held = subst (λ ps. IsPinned (pinned ps pile.locals) (g.H.Heap.store c.args.heap.now) (g.H.Heap.store c.pin_all.new.heap)) pins c.in-Ok.ensures in
-    leads_pile _ _ _ _ _ _ _ _ (r.4.1.1 (omega (arith, turns)) (omega (arith, words, room, first, long, long2, height, high)) more (g.H.Heap.store c.pin_all.new.heap) held) c.begin.ensures
+    let pins = pins_here code c.args.running.now.function c.args.at.now.place ∙ ap pins_of r.1 in
+    let held = subst (λ ps. IsPinned (pinned ps pile.locals) (g.H.Heap.store c.args.heap.now) (g.H.Heap.store c.pin_behind.new.heap)) pins c.in-Ok.ensures in
+    leads_pile _ _ _ _ _ _ _ _ (r.5.1.1 (omega (arith, turns)) (omega (arith, words, room, first, long, long2, high)) more (g.H.Heap.store c.pin_behind.new.heap) held) c.begin.ensures
+
+pub pin_behind-requires-clause-some : goal.pin_behind-requires-clause-some
+pin_behind-requires-clause-some g c =
+    let r = c.requires.ready in
+    r.4 ∙ ap has_pins (sym (pins_here (reading_of c.args.setting.now.image.now) c.args.running.now.function c.args.at.now.place ∙ ap pins_of r.1))
+
+pub pin_behind-requires-clause-locals : goal.pin_behind-requires-clause-locals
+pin_behind-requires-clause-locals g c =
+    let r = c.requires.ready in
+    subst (λ ps. AreLocals ps c.args.pile.now) (sym (pins_here (reading_of c.args.setting.now.image.now) c.args.running.now.function c.args.at.now.place ∙ ap pins_of r.1)) r.2
