@@ -1,2 +1,3 @@
 pub mod OneMask
 pub mod Removing
+pub mod Unmarked

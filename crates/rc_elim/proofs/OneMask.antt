@@ -1,5 +1,5 @@
 -- Marks of exactly the stores whose checks may go are the same marks.
-use Rattle.std.proofs.Common.{◌≡◌, ℕ, Bool, true, false, ◌↔◌, refl, sym}
+use Rattle.std.proofs.Common.{◌≡◌, ℕ, Bool, true, false, refl, sym}
 use Rattle.rc_rlang.specs.RegionCode.{Rlang}
 use Rattle.rc_elim.specs.Masks.{MarksRemovable}
 

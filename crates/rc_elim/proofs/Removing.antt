@@ -1,7 +1,7 @@
 -- Rows of marks made by facts mark exactly what may go.
-use Rattle.std.proofs.Common.{◌≡◌, ◌≢◌, ◌<◌, ◌≤◌, ◌+◌, ◌↔◌, ℕ, zero, suc, Bool, true, false, List, [], ◌∷◌, ◌++◌, length, map, get_or, drop, append_assoc, append-nil, Option, Some, None, Result, Ok, Err, IfOk, refl, sym, ap, ◌∙◌, subst, arith, IsTrue}
+use Rattle.std.proofs.Common.{◌≡◌, ◌<◌, ◌≤◌, ◌+◌, ◌↔◌, ℕ, zero, suc, Bool, true, false, List, [], ◌∷◌, ◌++◌, length, map, get_or, drop, append_assoc, append-nil, Option, Some, None, Result, Ok, Err, IfOk, refl, sym, ap, ◌∙◌, subst, arith, IsTrue}
 use Rattle.std.specs.Prelude.{slice_get, IfSome, nat_lt, ◌&&◌}
-use Rattle.std.proofs.lemmas.Bool.{and_from, lt-ltb, ltb-true}
+use Rattle.std.proofs.lemmas.Bool.{and_from, lt-ltb}
 use Rattle.std.proofs.Math.Seq.{drop-cons}
 use Rattle.std.proofs.lemmas.List.{get_or-map, length-map}
 use Rattle.std.proofs.lemmas.List.Elements.{All-get_or}
@@ -29,7 +29,7 @@ use Rattle.rc_region_facts.proofs.Restricting.{greatest_removes}
 use Rattle.rc_elim.specs.Marking.{AreMarked, IsMarked}
 use Rattle.rc_elim.specs.Masks.{HasPoints, MarksRemovable}
 use Rattle.rc_rlang.specs.RegionFlow.{Effect, nothing, nulled, moved, fixed, beside, made, under, loaded, looked_at, stored, present, absent, called, entered, Edge, Node, routine_nodes}
-use Rattle.rc_annotations.specs.Annotations.{Annotation, asked, asked_of, asked_by, Proven, Removable}
+use Rattle.rc_annotations.specs.Annotations.{Annotation, asked, asked_of, asked_by, Proven}
 use Rattle.rc_flow.specs.Flow.{HaveVariables, no_set, set_at}
 use Rattle.rc_edges.specs.Edges.{EffectBelow, NodeEdge, spare, kept}
 use Rattle.rc_elim.specs.Asking.{AsksOver, bits_of}

@@ -1,9 +1,10 @@
 -- Which stores make no check. A mask has a bit for each point of each function; it is set where the check of the store there may go.
-use Rattle.std.specs.Prelude.{◌≡◌, ◌↔◌, ℕ, Bool, true, false, List, [], length, map, get_or, slice_get, Option, Some, None}
+use Rattle.std.specs.Prelude.{◌≡◌, ◌↔◌, ℕ, Bool, true, false, List, [], length, map, get_or, replicate, slice_get, Option, Some, None}
 use Rattle.std.specs.declared.vec.Vec.{Vec}
 use Rattle.std.specs.declared.alloc.Global.{Global}
 use Rattle.rc_rlang.specs.RegionCode.{Routine, Rlang}
 use Rattle.rc_rlang.specs.RegionFlow.{Node, routine_nodes}
+use Rattle.rc_rlang.specs.RegionPoints.{routine_points}
 use Rattle.rc_annotations.specs.Annotations.{Facts, Removable, asked_by}
 use Rattle.rc_annotations.specs.Heights.{temporaries_of}
 use Rattle.rc_facts.specs.declared.fact.Fact.{Fact}
@@ -14,6 +15,13 @@ marks_in rows g p = get_or (get_or rows g []) p false
 
 abbrev pub rows_of : List (Vec Bool Global) → List (List Bool)
 rows_of rows = map (λ (v : Vec Bool Global). v.items) rows
+
+-- a function without a mark, and the code
+abbrev pub unmarked : Routine → List Bool
+unmarked f = replicate (routine_points f) false
+
+abbrev pub no_marks : Rlang → List (List Bool)
+no_marks r = map unmarked r.functions
 
 -- there is a bit for each point
 pub record HasPoints (r : Rlang) (rows : List (List Bool)) : Type 0 where

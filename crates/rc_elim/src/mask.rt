@@ -1,7 +1,18 @@
 // Marks at stores.
-ghost use Rattle.std.specs.Prelude.{◌≡◌};
-ghost use Rattle.rc_elim.specs.Masks.{marks_in};
+ghost use Rattle.std.specs.Prelude.{◌≡◌, ◌<◌, ◌||◌, ℕ, List, [], false, get_or, length, map, nat_eq, ◌&&◌, replicate, slice_set, true, IfOk};
+ghost use Rattle.rc_core.specs.Laid.{AreLaidOut};
+ghost use Rattle.rc_core.specs.Programs.{Struct};
+ghost use Rattle.rc_core.specs.Shapes.{struct_of};
+ghost use Rattle.rc_rlang.specs.RegionCode.{Rlang as RegionCode};
+ghost use Rattle.rc_rlang.specs.Shapes.{rlang_of, routine_in};
+ghost use Rattle.rc_elim.specs.Masks.{HasPoints, marks_in, no_marks, rows_of, unmarked};
 
+use rc_base::NoMemory;
+use rc_core::Layouts;
+use rc_points::{code_points, points_behind};
+use rc_rlang::code::{RegionParts, Routine};
+use rc_rlang::rlang::Rlang;
+use std::alloc::Global;
 use std::marker::Model;
 
 /// Which points of region code are marked: those whose store makes no check. Points are numbered by
@@ -20,7 +31,74 @@ impl Model for Mask {
     ghost view = { λ m. rows_of m.rows.items };
 }
 
+/// For each point of a function that it isn't marked.
+fn unmarked(alloc: Global, layouts: &Layouts, routine: &Routine) -> Result<Vec<bool>, NoMemory>
+    ensures { (structs : List Struct) → AreLaidOut structs layouts.now → IfOk result (λ bits. bits.items ≡ unmarked (routine_in structs routine.now)) }
+{
+    let body = code_points(layouts, &routine.body)?;
+    let points = 1 + body as usize + points_behind(&routine.result) as usize;
+    Ok(Vec::from_elem(alloc, false, points)?)
+}
+
+/// The rows of all functions, without a mark.
+fn no_marks(
+    alloc: Global,
+    layouts: &Layouts,
+    parts: &RegionParts,
+) -> Result<Vec<Vec<bool>>, NoMemory>
+    requires { AreLaidOut (map struct_of parts.now.structs.items) layouts.now }
+    ensures { IfOk result (λ rows. rows_of rows.items ≡ no_marks (rlang_of parts.now)) }
+{
+    let mut rows = Vec::new(alloc);
+    for routine in parts.functions.as_slice() {
+        rows.push(unmarked(alloc, layouts, routine)?)?;
+    }
+    Ok(rows)
+}
+
+/// Sets a bit.
+fn set(bits: &mut [bool], point: usize)
+    requires { point < length bits.old }
+    ensures { bits.new ≡ slice_set bits.old point true }
+{
+    bits[point] = true;
+}
+
 impl Mask {
+    /// The mask of region code that marks none of its points.
+    ///
+    /// # Errors
+    ///
+    /// Out of memory.
+    pub fn none(alloc: Global, code: &Rlang) -> Result<Mask, NoMemory>
+        ensures points { IfOk result (HasPoints (rlang_of code.now)) }
+        ensures marks { IfOk result (λ mask. (g p : ℕ) → marks_in mask g p ≡ false) }
+    {
+        let parts = code.parts();
+        let layouts = Layouts::new(alloc, parts.structs.as_slice())?;
+        let rows = no_marks(alloc, &layouts, parts)?;
+        Ok(Mask { rows })
+    }
+
+    /// How many points a function has: none where it isn't there.
+    pub fn points(&self, function: u32) -> usize
+        ensures { result ≡ length (get_or self.now function []) }
+    {
+        match self.rows.get(function as usize) {
+            Some(row) => row.len(),
+            None => 0,
+        }
+    }
+
+    /// Marks a point that is there. All others are marked as before.
+    pub fn remove(&mut self, function: u32, point: u32)
+        requires { point < length (get_or self.old function []) }
+        ensures points { (r : RegionCode) → HasPoints r self.old → HasPoints r self.new }
+        ensures marks { (g p : ℕ) → marks_in self.new g p ≡ (nat_eq g function && nat_eq p point || marks_in self.old g p) }
+    {
+        set(&mut self.rows[function as usize], point as usize);
+    }
+
     /// Whether a point is marked. One that isn't there is not.
     pub fn removed(&self, function: u32, point: u32) -> bool
         ensures { result ≡ marks_in self.now function point }

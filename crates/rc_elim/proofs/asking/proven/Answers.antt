@@ -1,4 +1,4 @@
-use Rattle.std.proofs.Common.{◌∙◌, sym, subst, arith}
+use Rattle.std.proofs.Common.{arith}
 use Rattle.rc_graph.specs.Nodes.{nodes_of}
 use Rattle.rc_elim.specs.Asking.{bits_of}
 use Rattle.rc_elim.proofs.Removing.{asks_there, bits_pushed}

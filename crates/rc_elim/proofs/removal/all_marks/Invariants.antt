@@ -1,4 +1,3 @@
-use Rattle.std.proofs.Common.{length}
 use Rattle.rc_elim.specs.Marking.{AreMarked}
 use Rattle.rc_elim.specs.Masks.{rows_of}
 use Rattle.rc_elim.proofs.removal.all_marks.Given as goal

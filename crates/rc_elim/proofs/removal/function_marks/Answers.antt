@@ -1,16 +1,12 @@
-use Rattle.std.proofs.Common.{◌≡◌, ◌∙◌, ℕ, List, IfOk, ap, sym, subst, length, map, Some}
-use Rattle.std.specs.Prelude.{get_or, slice_get, Bool}
+use Rattle.std.proofs.Common.{◌∙◌, List, ap, sym, subst, length, map}
+use Rattle.std.specs.Prelude.{get_or, slice_get}
 use Rattle.std.proofs.lemmas.List.{length-map}
-use Rattle.std.specs.declared.vec.Vec.{Vec}
-use Rattle.std.specs.declared.alloc.Global.{Global as Alloc}
 use Rattle.rc_core.specs.Shapes.{struct_of}
 use Rattle.rc_facts.specs.Facts.{Known}
 use Rattle.rc_flow.specs.Flow.{no_set}
-use Rattle.rc_rlang.specs.RegionFlow.{Node, routine_nodes}
-use Rattle.rc_rlang.specs.Shapes.{routine_in}
+use Rattle.rc_rlang.specs.RegionFlow.{Node}
 use Rattle.rc_graph.specs.Nodes.{node_of, nodes_of}
-use Rattle.rc_elim.specs.Asking.{AsksOver, bits_of}
-use Rattle.rc_elim.specs.Marking.{IsMarked}
+use Rattle.rc_elim.specs.Asking.{AsksOver}
 use Rattle.rc_elim.proofs.Removing.{as_many_sets, marked_if, sets_asked}
 use Rattle.rc_elim.proofs.removal.function_marks.Goals as goal
 

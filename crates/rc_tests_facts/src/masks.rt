@@ -1,0 +1,74 @@
+// Masks that are made by hand: without a mark, and with a mark at one point.
+
+use rc_base::NoMemory;
+use rc_compile::program;
+use rc_elab::elaborate;
+use rc_elim::Mask;
+use rc_reports::{entries, removed_count};
+use rc_rlang::rlang::Rlang;
+use std::alloc::Global;
+use std::test::Fail;
+
+/// Two stores to annotated cells, in one function.
+const TEXT: &[u8] =
+    b"struct s { struct s *sameregion next; }; int main(void) { struct s *p = ralloc(newregion(), struct s); struct s *q = ralloc(newregion(), struct s); q->next = p; p->next = q; return 0; }";
+
+/// The mask with a mark at this point of the first function, where it has that point.
+fn marked_at(alloc: Global, code: &Rlang, point: u32) -> Result<Mask, NoMemory> {
+    let mut mask = Mask::none(alloc, code)?;
+    if (point as usize) < mask.points(0) {
+        mask.remove(0, point);
+    }
+    Ok(mask)
+}
+
+/// How many checks a mask removes.
+fn removed(alloc: Global, code: &Rlang, mask: &Mask) -> Result<u64, NoMemory> {
+    Ok(removed_count(entries(alloc, code, mask)?.as_slice()))
+}
+
+/// Whether of the first points, so many, this one is marked alone.
+fn is_alone(mask: &Mask, point: u32, points: u32) -> bool {
+    for other in 0..points {
+        if mask.removed(0, other) != (other == point) {
+            return false;
+        }
+    }
+    true
+}
+
+/// At how many points of the first function a mark alone removes one check, where none removes more.
+fn telling_points(alloc: Global, code: &Rlang) -> Result<Option<u64>, NoMemory> {
+    let points = u32::try_from(Mask::none(alloc, code)?.points(0)).map_err(|_| NoMemory)?;
+    let mut telling = 0u64;
+    for point in 0..points {
+        let mask = marked_at(alloc, code, point)?;
+        let checks = removed(alloc, code, &mask)?;
+        if checks > 1 || !is_alone(&mask, point, points) {
+            return Ok(None);
+        }
+        telling = telling.wrapping_add(checks);
+    }
+    Ok(Some(telling))
+}
+
+#[test]
+fn a_mask_without_a_mark_removes_no_check(rt: HostRuntime) -> Result<(), Fail> {
+    let alloc = rt.alloc();
+    let program = program(alloc, TEXT)?;
+    let code = elaborate(alloc, &program)?;
+    let mask = Mask::none(alloc, &code)?;
+    assert!(rt; entries(alloc, &code, &mask)?.len() == 2);
+    assert!(rt; removed(alloc, &code, &mask)? == 0);
+    assert!(rt; mask.points(1) == 0);
+    Ok(())
+}
+
+#[test]
+fn a_mark_removes_the_check_of_its_point(rt: HostRuntime) -> Result<(), Fail> {
+    let alloc = rt.alloc();
+    let program = program(alloc, TEXT)?;
+    let code = elaborate(alloc, &program)?;
+    assert!(rt; telling_points(alloc, &code)? == Some(2));
+    Ok(())
+}
