@@ -1,3 +1,5 @@
 mod Rights
+mod Aims
+mod Values
 mod Typed
 pub mod Whole

@@ -1,10 +1,7 @@
 -- The region code of a typed program keeps values to their types as it runs, and meets what is asked of a run: the annotation that an access
 -- names is the cell's, and a region or a pointer that is tested is no number.
-use Rattle.std.proofs.Common.{◌≡◌, ℕ, zero, suc, ℤ, pos, ◌+◌, Bool, true, false, ◌||◌, ◌&&◌, not, ◌+ℤ◌, List, [], ◌∷◌, ◌++◌, length, map, get_or, Option, Some, None, Result, refl, sym, ap, ◌∙◌, subst, arith}
-use Rattle.std.specs.Prelude.{IsTrue, IfSome, slice_get, take, is_some, option_map, unsigned_abs}
-use Rattle.std.specs.List.{AllZip, list_all}
-use Rattle.rc_base.specs.declared.ends.Trap.{Trap}
-use Rattle.rc_base.specs.declared.ends.Trap.TheVariants.{Bounds}
+use Rattle.std.proofs.Common.{◌≡◌, ℕ, zero, suc, pos, ◌+◌, Bool, true, false, ◌||◌, ◌&&◌, not, List, [], ◌∷◌, length, Option, Some, None, refl, sym, ap, ◌∙◌, subst, arith}
+use Rattle.std.specs.Prelude.{IsTrue, IfSome, slice_get, is_some, option_map}
 use Rattle.rc_core.specs.declared.ty.Note.TheVariants.{Plain}
 use Rattle.rc_core.specs.declared.ty.NumberType.{NumberType}
 use Rattle.rc_core.specs.declared.ty.NumberType.TheVariants.{Int, Unsigned, Char}
@@ -14,123 +11,53 @@ use Rattle.rc_core.specs.declared.operators.UnaryOperator.{UnaryOperator}
 use Rattle.rc_core.specs.declared.operators.UnaryOperator.TheVariants.{Negate, Plus, Complement}
 use Rattle.rc_core.specs.Arithmetic.{type_of, calculate_one}
 use Rattle.rc_core.specs.Numbers.{byte_of}
-use Rattle.rc_core.specs.Types.{Ty, int, unsigned, char, region, struct, pointer, CellKind}
-use Rattle.rc_core.specs.Layout.{Layout, cells, note_of, offset, count_of, stride}
-use Rattle.rc_core.specs.Heap.{Value, zero_of, Number, Null, Handle, Pointer, live, object_at}
-use Rattle.rc_core.specs.Runs.{Run, Go, Stopped, bind, branching, tested, touching, computed, spent, Target, Calls}
-use Rattle.rc_core.specs.Source.{World, Spot, at_address, is_index, chosen_in_range, cell_of, source}
-use Rattle.rc_core.specs.Evaluation.{number_in, is_true, same_value, as_wanted, toward, further, choosing, region_named, give_number}
+use Rattle.rc_core.specs.Types.{Ty, int, region, struct, pointer}
+use Rattle.rc_core.specs.Layout.{Layout, cells}
+use Rattle.rc_core.specs.Heap.{Value, zero_of, Number, Null, live}
+use Rattle.rc_core.specs.Runs.{Run, Go, Stopped, bind, branching, computed, spent, Target, Calls}
+use Rattle.rc_core.specs.Source.{World, source}
+use Rattle.rc_core.specs.Evaluation.{number_in, toward, give_number}
 use Rattle.rc_core.specs.Execution.{held, with_local, zero_result, local_type}
 use Rattle.rc_core.specs.Live.{Ways, then_live, round, at_end}
 use Rattle.rc_core.specs.declared.stmt.Change.{Change}
 use Rattle.rc_core.specs.declared.stmt.Change.TheVariants.{Compute, Step as Stepping}
 use Rattle.rc_core.specs.Laws.{IfGoes}
 use Rattle.rc_core.specs.Programs.{Stmt, block, declare, assign, store, update, copy, evaluate, delete, branch, while, repeat, for, break, continue, return, Stmts, done, then, Expr, constant, null, string, local, read, address, step, step_from, unary, binary, convert, not_zero, and, or, choose, is_null, same, call, new_region, new_subregion, region_of, allocate, allocate_array, putchar, getchar, Arguments, none, more, Place, global, pointed, indexed, Path, here, field, element, Function, Program}
-use Rattle.rc_core.specs.Typing.{number, arithmetic, value_type, is_struct, is_reference, is_pointer, result_type, parameters_of, NotNull, HasType, AreArguments, IsPlace, LeadsTo, IsValue, Runs, Takes, IsTyped, AreTyped}
-use Rattle.rc_core.specs.WellTyped.{IsVariable, IsWellTyped}
+use Rattle.rc_core.specs.Typing.{number, arithmetic, value_type, is_struct, result_type, parameters_of, NotNull, HasType, AreArguments, IsPlace, LeadsTo, IsValue, Runs, Takes, IsTyped, AreTyped}
+use Rattle.rc_core.specs.WellTyped.{IsWellTyped}
 use Rattle.std.proofs.lemmas.Option.{get_or_from_slice_get, slice_get-map}
-use Rattle.rc_kinds.specs.Suits.{Ledger, IsRegion, IsPointer, Leads, Suits, CellSuits, Grows, WorldSuits, AllSuit}
+use Rattle.rc_kinds.specs.Suits.{Ledger, IsPointer, Suits, CellSuits, Grows, WorldSuits, AllSuit}
 use Rattle.rc_kinds.specs.Kinds.{Of, ResultSuits}
-use Rattle.rc_kinds.proofs.InRange.{IfOk, InRange, converted_fits, number_suits, suits_number, calculated_suits, calculated_one_suits, wanted_suits, byte_of_fits}
-use Rattle.rc_kinds.proofs.Zips.{Stands, stands_itself, below_slice}
+use Rattle.rc_kinds.proofs.InRange.{InRange, converted_fits, number_suits, suits_number, calculated_suits, calculated_one_suits, byte_of_fits}
 use Rattle.rc_kinds.proofs.Locals.{zero_suits, set_suits}
 use Rattle.rc_kinds.proofs.Executions.{taken_has, taken_cell, changed_keeps}
 use Rattle.rc_kinds.proofs.Grown.{grows_on, still_suits, all_still_suit, value_suits, suits_value}
-use Rattle.rc_kinds.proofs.Kept.{Nothing, Keeps, keeps_here, keeps_then, keeps_more, keeps_branching, keeps_computed}
+use Rattle.rc_kinds.proofs.Kept.{Nothing, Keeps, keeps_here, keeps_then, keeps_more, keeps_branching}
 use Rattle.rc_kinds.proofs.Knowing.{goes_on}
-use Rattle.rc_kinds.proofs.Ledgers.{object_suits}
-use Rattle.rc_kinds.proofs.Paths.{Aims, there, aims_further, aims_choosing}
 use Rattle.rc_kinds.proofs.Operations.{held_suit, load_keeps, store_keeps, delete_keeps, turn_keeps, new_subregion_keeps, allocate_keeps, put_byte_keeps, enter_suits, leave_suits}
 use Rattle.rc_kinds.proofs.Evaluations.{number_of, of_type, step_of, eval_keeps}
 use Rattle.rc_rlang.specs.RegionCode as To
-use Rattle.rc_rlang.specs.RegionCode.{Kind, numeric, regional, kind_of, Index, Access, width, Operation, Step, Steps, both, one, Test, Routine, Rlang}
-use Rattle.rc_rlang.specs.RegionFlow.{is_regional, note_in}
+use Rattle.rc_rlang.specs.RegionCode.{numeric, regional, kind_of, width, Operation, Steps, both, one, Test, Routine, Rlang}
+use Rattle.rc_rlang.specs.RegionFlow.{note_in}
 use Rattle.rc_rlang.specs.RegionLive.{before_steps, before_act, before_code, before_codes, loop_head, repeat_tail}
 use Rattle.rc_rlang.specs.RegionRuns as R
-use Rattle.rc_rlang.specs.RegionRuns.{Temporaries, at_kind, temporary, with_temporary, temporaries_from, target_shifted, target_at, kept, kept_all, holds, convert_value, right_number, operation_value, step_run, steps_run, Way, test_value, act_run, code_run, codes_run}
-use Rattle.rc_translation.specs.Translation.{expression_type, pointer_type, index_type, signedness, parameter_types, argument_types, global_type, place_type, pointee, first_access, path_access, access, expression_code, arguments_code, place_code, path_code, whole, condition_code, condition_test, optional_condition, has_result, evaluate_code, returned_type, statement_code, body_code, routine_of, region_of_program}
+use Rattle.rc_rlang.specs.RegionRuns.{Temporaries, at_kind, temporary, with_temporary, temporaries_from, target_at, kept, kept_all, holds, convert_value, right_number, operation_value, step_run, steps_run, Way, test_value, act_run, code_run, codes_run}
+use Rattle.rc_translation.specs.Translation.{expression_type, pointer_type, index_type, signedness, parameter_types, argument_types, global_type, access, expression_code, arguments_code, place_code, path_code, whole, condition_code, condition_test, optional_condition, has_result, evaluate_code, returned_type, statement_code, body_code, routine_of, region_of_program}
 use Rattle.rc_translation.proofs.Temporaries.{Lower, lower_itself, lower_trans, at_lower, set_here, set_lower, before_both, run_both}
-use Rattle.rc_translation.proofs.ValueKinds.{kind_arithmetic, kind_number, kind_pointer, kind_value, kept_same, convert_is}
-use Rattle.rc_translation.proofs.TypesFound.{types_are, kind_found, place_is, number_not_null, char_not_null}
-use Rattle.rc_translation.proofs.Cells.{AimsAt, aims_at, still_at, next_at, load_suits, store_suits, kept_in_cell}
+use Rattle.rc_translation.proofs.ValueKinds.{kind_arithmetic, kind_number, kind_pointer, kind_value, convert_is}
+use Rattle.rc_translation.proofs.TypesFound.{kind_found, number_not_null, char_not_null}
+use Rattle.rc_translation.proofs.Cells.{AimsAt, aims_at, still_at, next_at, load_suits, store_suits}
 use Rattle.rc_translation.proofs.Updates.{new_same}
 use Rattle.rc_translation.proofs.Equations.{suits_so}
 use Rattle.rc_translation.proofs.Holding.{held_is}
 use Rattle.rc_translation.proofs.Instance.{all_of_kind}
-use Rattle.rc_translation.proofs.Expressions.{further_at, behind_index}
-use Rattle.rc_annotations.specs.Worlds.{note_behind}
-use Rattle.rc_along.specs.Along.{NoNumber, CallDemand, Named, CallMeets, StepMeets, StepsMeet, OptionMeets, MoveMeets, ActMeets, HeadMeets, nothing_more, CodeMeets, CodesMeet, behind_meets, body_meets, RoundsMeet, RoutineMeets, OptionRoutineMeets, CallsMeet}
-
--- a region or a pointer is no number
-pub no_number : (l : Ledger) (t : Ty) (v : Value) → kind_of t ≡ regional → Suits l t v → NoNumber v
-no_number l int v k s = cc
-no_number l unsigned v k s = cc
-no_number l char v k s = cc
-no_number l region (Number n) k s = s
-no_number l region Null k s = tt
-no_number l region (Handle r) k s = tt
-no_number l region (Pointer a) k s = tt
-no_number l (struct j) v k s = absurd s
-no_number l (pointer note target) (Number n) k s = s
-no_number l (pointer note target) Null k s = tt
-no_number l (pointer note target) (Handle r) k s = tt
-no_number l (pointer note target) (Pointer a) k s = tt
-
-pub regional_kind : (t : Ty) → is_regional t ≡ true → kind_of t ≡ regional
-regional_kind int e = cc
-regional_kind unsigned e = cc
-regional_kind char e = cc
-regional_kind region e = refl
-regional_kind (struct k) e = cc
-regional_kind (pointer note target) e = refl
+use Rattle.rc_along.specs.Along.{CallDemand, Named, CallMeets, StepMeets, StepsMeet, OptionMeets, MoveMeets, ActMeets, HeadMeets, nothing_more, CodeMeets, CodesMeet, behind_meets, body_meets, RoundsMeet, RoutineMeets, OptionRoutineMeets, CallsMeet}
+use Rattle.rc_checks.proofs.Values.{by_kind, kept_suits, stored_suits, kept_cell_suits, sized_suits, types_in, result_of_call, zero_of_result, computed_keeps, wanted_keeps, named_keeps}
+use Rattle.rc_checks.proofs.Aims.{no_number, regional_kind, kinds_named, type_named, type_of_global, path_element, pointer_is, place_aims, cell_is}
 
 unit_goes : {A : Type 0} (m : Run World A) → IfGoes (λ x w. Unit {0}) m
 unit_goes (Go x w) = tt
 unit_goes (Stopped s w) = tt
-
--- the annotation of the one cell of a type
-note_cell : (program : Program) (t : Ty) → IsTrue (not (is_struct t)) → (kind : CellKind) × (cells program.structs t ≡ kind ∷ []) × (note_of kind ≡ note_in t)
-note_cell program int h = (_, refl, refl)
-note_cell program unsigned h = (_, refl, refl)
-note_cell program char h = (_, refl, refl)
-note_cell program region h = (_, refl, refl)
-note_cell program (struct k) h = cc
-note_cell program (pointer note target) h = (_, refl, refl)
-
-note_stands : (whole : Layout) (kind : CellKind) (kinds : Layout) (at : ℕ) → Stands whole (kind ∷ kinds) at → get_or (map note_of whole) at Plain ≡ note_of kind
-note_stands whole kind kinds at s = subst (λ ks. get_or (map note_of ks) at Plain ≡ note_of kind) (sym s.whole_is) (subst (λ i. get_or (map note_of (s.before ++ (kind ∷ kinds ++ s.rest))) i Plain ≡ note_of kind) s.at_is (by s.before))
-  where
-    by : (before : Layout) → get_or (map note_of (before ++ (kind ∷ kinds ++ s.rest))) (length before) Plain ≡ note_of kind
-    by [] = refl
-    by (k ∷ before) = by before
-
--- what holds where all tests of a place pass
-passed : (G : Type 0) (line : ℕ) (spot : Spot) (w : World) (l i c : Bool) → (c ≡ true → G) → IfGoes (λ (s : Spot) w1. G) (touching l line w (tested i Bounds line w (tested c Bounds line w (Go spot w))))
-passed G line spot w true true true k = k refl
-passed G line spot w false i c k = tt
-passed G line spot w true false c k = tt
-passed G line spot w true true false k = tt
-
--- cells of these kinds are where a target aims, once its tests pass
-pub kinds_named : (program : Program) (l : Ledger) (line : ℕ) (u : Ty) (kind : CellKind) (kinds : Layout) (tg : Target) (w : World) → IsPointer l u tg.pointer → (list_all chosen_in_range tg.chosen ≡ true → Stands (cells program.structs u) (kind ∷ kinds) (cell_of tg)) → WorldSuits program l w → Named line tg (note_of kind) w
-kinds_named program l line u kind kinds tg w p stands suits = by tg.pointer p
-  where
-    by : (v : Value) → IsPointer l u v
-        → IfGoes (λ (spot : Spot) w1. note_behind w.heap v (cell_of tg) ≡ note_of kind) (at_address line v w (λ a. touching (live w.heap a.region) line w (tested (is_index (pos a.index +ℤ tg.shift) (object_at w.heap a.region a.object).count) Bounds line w (tested (list_all chosen_in_range tg.chosen) Bounds line w
-        (Go (record { region = a.region; object = a.object; element = unsigned_abs (pos a.index +ℤ tg.shift); cell = cell_of tg }) w)))))
-    by (Number n) q = absurd q
-    by Null q = tt
-    by (Handle r) q = absurd q
-    by (Pointer a) q =
-        passed (note_behind w.heap (Pointer a) (cell_of tg) ≡ note_of kind) line (record { region = a.region; object = a.object; element = unsigned_abs (pos a.index +ℤ tg.shift); cell = cell_of tg }) w
-        (live w.heap a.region) (is_index (pos a.index +ℤ tg.shift) (object_at w.heap a.region a.object).count) (list_all chosen_in_range tg.chosen)
-        (λ all. let o = object_suits program.structs l l w.heap a.region a.object _ suits.heap q.entry in
-        ap (λ ks. get_or (map note_of ks) (cell_of tg) Plain) o.layout ∙ note_stands (cells program.structs u) kind kinds (cell_of tg) (stands all))
-
-pub type_named : (program : Program) (l : Ledger) (line : ℕ) (t : Ty) (tg : Target) (w : World) → IsTrue (not (is_struct t)) → Aims program.structs l t tg → WorldSuits program l w → Named line tg (note_in t) w
-type_named program l line t tg w h a suits =
-    let c = note_cell program t h in
-    subst (λ note. Named line tg note w) c.2 (kinds_named program l line a.element c.0 [] tg w a.pointer (λ all. subst (λ ks. Stands (cells program.structs a.element) ks (cell_of tg)) c.1 (a.stands all)) suits)
 
 module _ (program : Program) (well : IsWellTyped program) (g : ℕ) (f : Function) (is_there : slice_get program.functions g ≡ Some f) where
   abbrev locals : List Ty
@@ -141,47 +68,6 @@ module _ (program : Program) (well : IsWellTyped program) (g : ℕ) (f : Functio
 
   abbrev found : Expr → Ty
   found e = expression_type program locals e
-
-  -- where the cell of a place stands, whatever the indices
-
-  abbrev AimsFor : Ty → Access → Type 0
-  AimsFor t a = (l : Ledger) (t1 : Temporaries) (h : ℕ) → IsPointer l a.element (t1.regions h) → Aims program.structs l t (target_at a t1 h)
-
-  path_aims : (path : Path) (u t : Ty) → LeadsTo program locals path u t → (a : Access) → AimsFor u a → AimsFor t (path_access program locals path a)
-  path_aims here u t hl a k = subst (λ x. AimsFor x a) hl k
-  path_aims (field s j rest) u t hl a k =
-      path_aims rest hl.1.0.ty t hl.1.1.2 (record a { offset = a.offset + offset program.structs s j }) (λ l t1 h p.
-      subst (Aims program.structs l hl.1.0.ty) (sym (further_at a (offset program.structs s j) t1 h))
-      (aims_further program.structs well.structs l s j hl.1.0 (target_at a t1 h) hl.1.1.0 hl.1.1.1 (subst (λ x. Aims program.structs l x (target_at a t1 h)) hl.0 (k l t1 h p))))
-  path_aims (element s j i rest) u t hl a k =
-      let ix : Index = record { count = count_of program.structs s j; stride = stride program.structs s j; kind = signedness program locals (found i) } in
-      let a1 : Access = record a { offset = a.offset + offset program.structs s j } in
-      path_aims rest hl.1.0.ty t hl.1.1.3 (record a1 { indices = a.indices ++ ix ∷ [] }) (λ l t1 h p.
-      let z = number_in (t1.numbers (h + width a)) in
-      subst (Aims program.structs l hl.1.0.ty) (sym (behind_index a1 ix t1 h (h + width a) refl ∙ ap (choosing (record { index = z; count = count_of program.structs s j; stride = stride program.structs s j })) (further_at a (offset program.structs s j) t1 h)))
-      (aims_choosing program.structs well.structs l s j hl.1.0 z (target_at a t1 h) hl.1.1.0 hl.1.1.1 (subst (λ x. Aims program.structs l x (target_at a t1 h)) hl.0 (k l t1 h p))))
-
-  first_aims : (u : Ty) (shift : Option Signedness) (cell : Ty) → AimsFor u (first_access program locals u shift cell)
-  first_aims u None cell l t1 h p = record { element = u; pointer = p; stands = λ all. stands_itself (cells program.structs u) 0 refl; reached = λ all. record { path = []; reaches = refl; at_is = refl } }
-  first_aims u (Some s) cell l t1 h p = record { element = u; pointer = p; stands = λ all. stands_itself (cells program.structs u) 0 refl; reached = λ all. record { path = []; reaches = refl; at_is = refl } }
-
-  path_element : (path : Path) (a : Access) → (path_access program locals path a).element ≡ a.element
-  path_element here a = refl
-  path_element (field s j rest) a = path_element rest _
-  path_element (element s j i rest) a = path_element rest _
-
-  abbrev type_of_global : Option Rattle.rc_core.specs.Programs.Global → Ty
-  type_of_global None = int
-  type_of_global (Some d) = d.ty
-
-  pointer_is : (p : Expr) (u : Ty) → HasType program locals p (pointer Plain u) → IsTrue (not (Rattle.rc_core.specs.Typing.is_null_word p)) → pointee (found p) ≡ u
-  pointer_is p u he nn = ap pointee (types_are program locals p (pointer Plain u) nn he)
-
-  pub place_aims : (place : Place) (t : Ty) → IsPlace program locals place t → AimsFor t (access program locals place)
-  place_aims (global k path) t hp = path_aims path hp.0.ty t hp.1.2 (first_access program locals (global_type program k) None (place_type program locals (global k path))) (subst (λ u. AimsFor u (first_access program locals (global_type program k) None (place_type program locals (global k path)))) (ap type_of_global hp.1.0) (first_aims (global_type program k) None (place_type program locals (global k path))))
-  place_aims (pointed p path) t hp = path_aims path hp.1.0 t hp.1.1.1 (first_access program locals (pointee (found p)) None (place_type program locals (pointed p path))) (subst (λ u. AimsFor u (first_access program locals (pointee (found p)) None (place_type program locals (pointed p path)))) (pointer_is p hp.1.0 hp.1.1.0 hp.0) (first_aims (pointee (found p)) None (place_type program locals (pointed p path))))
-  place_aims (indexed p i path) t hp =
-      path_aims path hp.1.0 t hp.1.1.2 (first_access program locals (pointee (found p)) (Some (signedness program locals (found i))) (place_type program locals (indexed p i path))) (subst (λ u. AimsFor u (first_access program locals (pointee (found p)) (Some (signedness program locals (found i))) (place_type program locals (indexed p i path)))) (pointer_is p hp.1.0 hp.1.1.0 hp.0) (first_aims (pointee (found p)) (Some (signedness program locals (found i))) (place_type program locals (indexed p i path))))
 
   module _ (deleting : ℕ → Bool) (calls : Calls World) (inside : CallDemand)
       (called : (k : ℕ) (callee : Function) (xs : List Value) (l : Ledger) (w : World) → slice_get program.functions k ≡ Some callee → AllSuit l (parameters_of callee) xs → WorldSuits program l w → inside k xs w × Keeps program l (ResultSuits callee.result) (calls k xs w)) where
@@ -262,34 +148,12 @@ module _ (program : Program) (well : IsWellTyped program) (g : ℕ) (f : Functio
     leaf_keeps : (e : Expr) (u : Ty) (l : Ledger) (env : List Value) (w : World) → HasType program locals e u → Own l env → WorldSuits program l w → Keeps program l (Of u) (Rattle.rc_core.specs.Evaluation.eval source program e (λ f xs w1. spent w1) env w)
     leaf_keeps e u l env w he own suits = eval_keeps program well.structs locals (λ f xs w1. spent w1) env (λ f g xs l1 w1 ef all own1 s1. alone f g xs l1 w1 ef all env own1 s1) e u l w he own suits
 
-    computed_keeps : (l : Ledger) (u : Ty) (line : ℕ) (r : Result ℤ Trap) (w : World) → WorldSuits program l w → IfOk (λ n. Suits l u (Number n)) r → Keeps program l (Of u) (bind (computed line r w) give_number)
-    computed_keeps l u line r w suits ok =
-        keeps_then program l (λ _ n. Suits l u (Number n)) (Of u) (computed line r w) give_number (keeps_computed program l (λ n. Suits l u (Number n)) line r w suits ok) (λ n l1 w1 g s1 p. keeps_here program l1 (Of u) (Number n) w1 s1 (still_suits l l1 g u (Number n) p))
-
-    wanted_keeps : (l : Ledger) (u : Ty) (wanted is : Bool) (w : World) → u ≡ int → WorldSuits program l w → Keeps program l (Of u) (Go (as_wanted wanted is) w)
-    wanted_keeps l u wanted is w e suits = of_type program l u int _ e (keeps_here program l (Of int) (as_wanted wanted is) w suits (wanted_suits l wanted is))
-
-    named_keeps : (l : Ledger) (line : ℕ) (u : Ty) (v : Value) (w : World) → IsTrue (is_pointer u) → Suits l u v → WorldSuits program l w → Keeps program l IsRegion (region_named line v w)
-    named_keeps l line int v w h s suits = cc
-    named_keeps l line unsigned v w h s suits = cc
-    named_keeps l line char v w h s suits = cc
-    named_keeps l line region v w h s suits = cc
-    named_keeps l line (struct k) v w h s suits = cc
-    named_keeps l line (pointer note target) (Number n) w h s suits = absurd s
-    named_keeps l line (pointer note target) Null w h s suits = record { holds = tt }
-    named_keeps l line (pointer note target) (Handle r) w h s suits = absurd s
-    named_keeps l line (pointer note target) (Pointer a) w h s suits = keeps_here program l IsRegion (Handle a.region) w suits (below_slice l a.region (get_or l a.region []) (there l a.region a.object _ s.entry))
-
     -- the value below another, once that stands
     still : (ty u : Ty) (h : ℕ) (t t1 t2 : Temporaries) (l l1 : Ledger) → Grows l l1 → Stands_at ty u h t l t1 → Lower (suc h) t1 t2 → Suits l1 u (temporary ty t2 h)
     still ty u h t t1 t2 l l1 g p lo = subst (Suits l1 u) (sym (at_lower (kind_of ty) (suc h) h t1 t2 lo (omega arith))) (still_suits l l1 g u (temporary ty t1 h) p.value)
 
     over : (h : ℕ) (t t1 t2 : Temporaries) → Lower h t t1 → Lower (suc h) t1 t2 → Lower h t t2
     over h t t1 t2 a b = lower_trans h (suc h) t t1 t2 (omega arith) a b
-
-    -- the value of a type, read by its kind
-    by_kind : (k : Kind) (own u : Ty) (h : ℕ) (l : Ledger) (t1 : Temporaries) → kind_of own ≡ k → Suits l u (temporary own t1 h) → Suits l u (at_kind k t1 h)
-    by_kind k own u h l t1 e s = subst (λ q. Suits l u (at_kind q t1 h)) e s
 
     abbrev Does : Expr → Type 0
     Does e = (u : Ty) → HasType program locals e u → (ty : Ty) (h : ℕ) → kind_of ty ≡ kind_of u → (live : ℕ → Bool) (env : List Value) (t : Temporaries) (w : World) (l : Ledger) → Own l env → WorldSuits program l w → Fine l (Stands_at ty u h t) (code e ty h) live env t w
@@ -319,9 +183,6 @@ module _ (program : Program) (well : IsWellTyped program) (g : ℕ) (f : Functio
       pub pointer : IsPointer l element (t1.regions h)
       pub lower : Lower h t t1
 
-    kept_suits : (l : Ledger) (ty : Ty) (v : Value) → Suits l (value_type ty) v → Suits l ty (kept ty v)
-    kept_suits l ty v s = subst (Suits l ty) (sym (kept_same ty v (suits_so l (value_type ty) v s))) (suits_value l ty v s)
-
     -- the call of a function, whose arguments stand there
     pub call_fine : (line h k : ℕ) (callee : Function) (live : ℕ → Bool) (env : List Value) (t : Temporaries) (w : World) (l : Ledger) → slice_get program.functions k ≡ Some callee → Own l env → WorldSuits program l w → AllSuit l (parameters_of callee) (kept_all (parameters_of callee) (temporaries_from (parameters_of callee) t h))
         → CallMeets deleting fr calls inside k (parameters_of callee) live env t h w × Keeps program l (ResultSuits callee.result) (operation_value source deleting locals line (To.call k (parameters_of callee)) calls live env t h w)
@@ -343,19 +204,11 @@ module _ (program : Program) (well : IsWellTyped program) (g : ℕ) (f : Functio
         left (Go v w2) q = record { holds = record { ledger = q.holds.ledger; grown = q.holds.grown; world = leave_suits program l q.holds.ledger w w2 q.holds.grown suits q.holds.world; value = q.holds.value } }
         left (Stopped stop w2) q = record { holds = tt }
 
-    result_of_call : (l : Ledger) (result : Option Ty) (t : Ty) (v : Value) → option_map value_type result ≡ Some t → ResultSuits result l v → Suits l t v
-    result_of_call l None t v e s = cc
-    result_of_call l (Some u) t v e s = let q : value_type u ≡ t = cc in subst (λ x. Suits l x v) q (value_suits l u v s)
-
     arguments_same : (es : Arguments) (tys : List Ty) → AreArguments program locals es tys → argument_types program locals es tys ≡ tys
     arguments_same none [] ha = refl
     arguments_same none (ty ∷ tys) ha = absurd ha
     arguments_same (more e es) [] ha = absurd ha
     arguments_same (more e es) (ty ∷ tys) ha = ap (λ ts. ty ∷ ts) (arguments_same es tys ha.1)
-
-    abbrev types_in : Option Function → List Ty
-    types_in None = []
-    types_in (Some h) = parameters_of h
 
     kind_index : (i : Expr) (s : Signedness) → kind_of (index_type program locals i) ≡ kind_of (arithmetic s)
     kind_index i s = kind_arithmetic (signedness program locals (found i)) ∙ sym (kind_arithmetic s)
@@ -367,17 +220,7 @@ module _ (program : Program) (well : IsWellTyped program) (g : ℕ) (f : Functio
     in_range s h l t1 v = number_of (type_of s) (t1.numbers h) (suits_number l (type_of s) (t1.numbers h) (by_kind numeric (arithmetic s) (arithmetic s) h l t1 (kind_arithmetic s) v))
 
     unary_keeps : (operator : UnaryOperator) (s : Signedness) (line h : ℕ) (l : Ledger) (t1 : Temporaries) (w : World) → WorldSuits program l w → Suits l (arithmetic s) (temporary (arithmetic s) t1 h) → Keeps program l (Of (arithmetic s)) (bind (computed line (calculate_one operator s (number_in (t1.numbers h))) w) give_number)
-    unary_keeps operator s line h l t1 w suits v = computed_keeps l (arithmetic s) line _ w suits (calculated_one_suits l operator s (number_in (t1.numbers h)) (in_range s h l t1 v))
-
-    path_cell : (path : Path) (a : Access) → (path_access program locals path a).cell ≡ a.cell
-    path_cell here a = refl
-    path_cell (field s j rest) a = path_cell rest _
-    path_cell (element s j i rest) a = path_cell rest _
-
-    pub cell_is : (place : Place) (t : Ty) → IsPlace program locals place t → (access program locals place).cell ≡ t
-    cell_is (global k path) t hp = path_cell path _ ∙ place_is program locals (global k path) t hp
-    cell_is (pointed p path) t hp = path_cell path _ ∙ place_is program locals (pointed p path) t hp
-    cell_is (indexed p i path) t hp = path_cell path _ ∙ place_is program locals (indexed p i path) t hp
+    unary_keeps operator s line h l t1 w suits v = computed_keeps program l (arithmetic s) line _ w suits (calculated_one_suits l operator s (number_in (t1.numbers h)) (in_range s h l t1 v))
 
     -- a path behind a pointer that stands there
     behind_pointer : (path : Path) (u el : Ty) → el ≡ u → (own : Ty) → kind_of own ≡ regional → (h : ℕ) (live : ℕ → Bool) (env : List Value) (t t1 : Temporaries) (w : World) (l : Ledger) → Fine l (λ l2 t2. Lower (suc h) t1 t2) (path_code program locals path (suc h)) live env t1 w → Stands_at own (pointer Plain u) h t l t1
@@ -395,8 +238,8 @@ module _ (program : Program) (well : IsWellTyped program) (g : ℕ) (f : Functio
       expression_fine (read line place) u he ty h hk live env t w l own suits =
           let a = access program locals place in
           fine_both l (Pointed a.element h t) (Stands_at ty u h t) (place_code program locals line place h) (one (To.set line h ty (To.load a))) live env t w (place_fine line place he.0 he.1.0 h _ env t w l own suits) (λ t1 l1 w1 g s p.
-          let aims = place_aims place he.0 he.1.0 l1 t1 h p.pointer in
-          fine_set line h ty u (To.load a) t l1 live env t1 w1 p.lower (subst (λ c. Named line (target_at a t1 h) (note_in c) w1) (sym (cell_is place he.0 he.1.0)) (type_named program l1 line he.0 (target_at a t1 h) w1 he.1.1 aims s))
+          let aims = place_aims program well locals place he.0 he.1.0 l1 t1 h p.pointer in
+          fine_set line h ty u (To.load a) t l1 live env t1 w1 p.lower (subst (λ c. Named line (target_at a t1 h) (note_in c) w1) (sym (cell_is program well locals place he.0 he.1.0)) (type_named program l1 line he.0 (target_at a t1 h) w1 he.1.1 aims s))
           (of_type program l1 u (value_type he.0) _ he.1.2 (keeps_more program l1 (Of he.0) (Of (value_type he.0)) (source.load line (target_at a t1 h) w1) (load_keeps program l1 line he.0 (target_at a t1 h) w1 he.1.1 aims s) (λ v l2 g2 q. value_suits l2 he.0 v q))))
       expression_fine (address line k) u he ty h hk live env t w l own suits = fine_set line h ty u (To.static k) t l live env t w (lower_itself h t) tt (leaf_keeps (address line k) u l env w he own suits)
       expression_fine (step line direction p i) u he ty h hk live env t w l own suits =
@@ -416,7 +259,7 @@ module _ (program : Program) (well : IsWellTyped program) (g : ℕ) (f : Functio
           two_operands a b (expression_fine a) (expression_fine b) (arithmetic s) (arithmetic he.2.0) (arithmetic s) (found b) he.1 he.2.1.1 refl (kind_found program locals b (arithmetic he.2.0) he.2.1.1) line h ty u (To.binary operator s (found b)) live env t w l own suits
           (λ t2 l2 w2 s2 v n. (
             tt,
-            of_type program l2 u (result_type operator s) _ he.0 (computed_keeps l2 (result_type operator s) line _ w2 s2
+            of_type program l2 u (result_type operator s) _ he.0 (computed_keeps program l2 (result_type operator s) line _ w2 s2
                 (calculated_suits l2 operator s (number_in (t2.numbers h)) (right_number operator (found b) (temporary (found b) t2 (suc h))) (in_range s h l2 t2 v))),
           ))
       expression_fine (convert line from to e) u he ty h hk live env t w l own suits =
@@ -424,27 +267,27 @@ module _ (program : Program) (well : IsWellTyped program) (g : ℕ) (f : Functio
           let v1 = by_kind numeric (number from) (number from) h l1 t1 (kind_number from) v in
           (tt, of_type program l1 u (number to) _ he.0 (keeps_here program l1 (Of (number to)) (convert_value from to (t1.numbers h)) w1 s1 (subst (Suits l1 (number to)) (convert_is from to (t1.numbers h) he.1 (suits_so l1 (number from) (t1.numbers h) v1)) (number_suits l1 to _ (converted_fits to (number_in (t1.numbers h))))))))
       expression_fine (not_zero line e) u he ty h hk live env t w l own suits =
-          one_operand e (expression_fine e) (number he.1.0) (found e) he.1.1 (kind_found program locals e (number he.1.0) he.1.1) line h ty u (To.not_zero (found e)) live env t w l own suits (λ t1 l1 w1 s1 v. (tt, wanted_keeps l1 u false _ w1 he.0 s1))
+          one_operand e (expression_fine e) (number he.1.0) (found e) he.1.1 (kind_found program locals e (number he.1.0) he.1.1) line h ty u (To.not_zero (found e)) live env t w l own suits (λ t1 l1 w1 s1 v. (tt, wanted_keeps program l1 u false _ w1 he.0 s1))
       expression_fine (and line a b) u he ty h hk live env t w l own suits =
           fine_fork (code a (found a) h) line h (found a) he.3.0 ty u (both (code b (found b) h) (one (To.set line h ty (To.truth (found b))))) (one (To.set line h ty (To.constant Signed (pos 0)))) t l live env t w (kind_found program locals a he.3.0 he.3.1)
           (expression_fine a he.3.0 he.3.1 (found a) h (kind_found program locals a he.3.0 he.3.1) _ env t w l own suits)
-          (λ t1 l1 w1 g s1. one_operand b (expression_fine b) he.4.0 (found b) he.4.1 (kind_found program locals b he.4.0 he.4.1) line h ty u (To.truth (found b)) live env t1 w1 l1 (all_still_suit l l1 g locals env own) s1 (λ t2 l2 w2 s2 v. (tt, wanted_keeps l2 u true _ w2 he.0 s2)))
+          (λ t1 l1 w1 g s1. one_operand b (expression_fine b) he.4.0 (found b) he.4.1 (kind_found program locals b he.4.0 he.4.1) line h ty u (To.truth (found b)) live env t1 w1 l1 (all_still_suit l l1 g locals env own) s1 (λ t2 l2 w2 s2 v. (tt, wanted_keeps program l2 u true _ w2 he.0 s2)))
           (λ t1 l1 w1 g s1. fine_set line h ty u (To.constant Signed (pos 0)) t1 l1 live env t1 w1 (lower_itself h t1) tt (of_type program l1 u int _ he.0 (keeps_here program l1 (Of int) (Number (pos 0)) w1 s1 refl)))
       expression_fine (or line a b) u he ty h hk live env t w l own suits =
           fine_fork (code a (found a) h) line h (found a) he.3.0 ty u (one (To.set line h ty (To.constant Signed (pos 1)))) (both (code b (found b) h) (one (To.set line h ty (To.truth (found b))))) t l live env t w (kind_found program locals a he.3.0 he.3.1)
           (expression_fine a he.3.0 he.3.1 (found a) h (kind_found program locals a he.3.0 he.3.1) _ env t w l own suits)
           (λ t1 l1 w1 g s1. fine_set line h ty u (To.constant Signed (pos 1)) t1 l1 live env t1 w1 (lower_itself h t1) tt (of_type program l1 u int _ he.0 (keeps_here program l1 (Of int) (Number (pos 1)) w1 s1 refl)))
-          (λ t1 l1 w1 g s1. one_operand b (expression_fine b) he.4.0 (found b) he.4.1 (kind_found program locals b he.4.0 he.4.1) line h ty u (To.truth (found b)) live env t1 w1 l1 (all_still_suit l l1 g locals env own) s1 (λ t2 l2 w2 s2 v. (tt, wanted_keeps l2 u true _ w2 he.0 s2)))
+          (λ t1 l1 w1 g s1. one_operand b (expression_fine b) he.4.0 (found b) he.4.1 (kind_found program locals b he.4.0 he.4.1) line h ty u (To.truth (found b)) live env t1 w1 l1 (all_still_suit l l1 g locals env own) s1 (λ t2 l2 w2 s2 v. (tt, wanted_keeps program l2 u true _ w2 he.0 s2)))
       expression_fine (choose line test a b) u he ty h hk live env t w l own suits =
           fine_fork (code test (found test) h) line h (found test) he.1.0 ty u (code a ty h) (code b ty h) t l live env t w (kind_found program locals test he.1.0 he.1.1)
           (expression_fine test he.1.0 he.1.1 (found test) h (kind_found program locals test he.1.0 he.1.1) _ env t w l own suits)
           (λ t1 l1 w1 g s1. expression_fine a u he.3 ty h hk live env t1 w1 l1 (all_still_suit l l1 g locals env own) s1)
           (λ t1 l1 w1 g s1. expression_fine b u he.4 ty h hk live env t1 w1 l1 (all_still_suit l l1 g locals env own) s1)
       expression_fine (is_null line wanted e) u he ty h hk live env t w l own suits =
-          one_operand e (expression_fine e) he.2.0 (found e) he.2.1.1 (kind_found program locals e he.2.0 he.2.1.1) line h ty u (To.is_null wanted (found e)) live env t w l own suits (λ t1 l1 w1 s1 v. (tt, wanted_keeps l1 u wanted _ w1 he.0 s1))
+          one_operand e (expression_fine e) he.2.0 (found e) he.2.1.1 (kind_found program locals e he.2.0 he.2.1.1) line h ty u (To.is_null wanted (found e)) live env t w l own suits (λ t1 l1 w1 s1 v. (tt, wanted_keeps program l1 u wanted _ w1 he.0 s1))
       expression_fine (same line wanted a b) u he ty h hk live env t w l own suits =
           two_operands a b (expression_fine a) (expression_fine b) he.3.0 he.3.0 (found a) (found a) he.3.1.1 he.3.1.2 (kind_found program locals a he.3.0 he.3.1.1) (kind_found program locals a he.3.0 he.3.1.1) line h ty u (To.same wanted (found a)) live env t w l own suits
-          (λ t2 l2 w2 s2 v n. (tt, wanted_keeps l2 u wanted _ w2 he.0 s2))
+          (λ t2 l2 w2 s2 v n. (tt, wanted_keeps program l2 u wanted _ w2 he.0 s2))
       expression_fine (call line k es) u he ty h hk live env t w l own suits =
           let tys : parameter_types program k ≡ parameters_of he.0 = ap types_in he.1.0 in
           let now = λ (ts us : List Ty). both (arguments_code program locals es ts h) (one (To.set line h ty (To.call k us))) in
@@ -458,7 +301,7 @@ module _ (program : Program) (well : IsWellTyped program) (g : ℕ) (f : Functio
       expression_fine (new_subregion line e) u he ty h hk live env t w l own suits =
           one_operand e (expression_fine e) region region he.1 refl line h ty u To.new_subregion live env t w l own suits (λ t1 l1 w1 s1 v. (tt, of_type program l1 u region _ he.0 (new_subregion_keeps program l1 line (t1.regions h) w1 v s1)))
       expression_fine (region_of line e) u he ty h hk live env t w l own suits =
-          one_operand e (expression_fine e) he.2.0 (found e) he.2.1.1 (kind_found program locals e he.2.0 he.2.1.1) line h ty u (To.region_of (found e)) live env t w l own suits (λ t1 l1 w1 s1 v. (tt, of_type program l1 u region _ he.0 (named_keeps l1 line he.2.0 (temporary (found e) t1 h) w1 he.2.1.0 v s1)))
+          one_operand e (expression_fine e) he.2.0 (found e) he.2.1.1 (kind_found program locals e he.2.0 he.2.1.1) line h ty u (To.region_of (found e)) live env t w l own suits (λ t1 l1 w1 s1 v. (tt, of_type program l1 u region _ he.0 (named_keeps program l1 line he.2.0 (temporary (found e) t1 h) w1 he.2.1.0 v s1)))
       expression_fine (allocate line e made) u he ty h hk live env t w l own suits =
           one_operand e (expression_fine e) region region he.2 refl line h ty u (To.allocate made (cells program.structs made)) live env t w l own suits (λ t1 l1 w1 s1 v. (tt, of_type program l1 u (pointer Plain made) _ he.0 (allocate_keeps program l1 line (t1.regions h) (pos 1) made w1 he.1 v s1)))
       expression_fine (allocate_array line e k made) u he ty h hk live env t w l own suits =
@@ -487,11 +330,11 @@ module _ (program : Program) (well : IsWellTyped program) (g : ℕ) (f : Functio
           let first = one (To.set line h (pointer Plain (global_type program k)) (To.static k)) in
           fine_both l (Stands_at (pointer Plain (global_type program k)) (pointer Plain hp.0.ty) h t) (Pointed (access program locals (global k path)).element h t) first (path_code program locals path (suc h)) live env t w
           (fine_set line h (pointer Plain (global_type program k)) (pointer Plain hp.0.ty) (To.static k) t l _ env t w (lower_itself h t) tt (leaf_keeps (address line k) (pointer Plain hp.0.ty) l env w (hp.0, (hp.1.0, refl)) own suits)) (λ t1 l1 w1 g1 s1 p1.
-          behind_pointer path hp.0.ty (access program locals (global k path)).element (path_element path _ ∙ ap type_of_global hp.1.0) (pointer Plain (global_type program k)) refl h live env t t1 w1 l1 (path_fine path hp.0.ty pt hp.1.2 (suc h) live env t1 w1 l1 (all_still_suit l l1 g1 locals env own) s1) p1)
+          behind_pointer path hp.0.ty (access program locals (global k path)).element (path_element program well locals path _ ∙ ap (type_of_global program well locals) hp.1.0) (pointer Plain (global_type program k)) refl h live env t t1 w1 l1 (path_fine path hp.0.ty pt hp.1.2 (suc h) live env t1 w1 l1 (all_still_suit l l1 g1 locals env own) s1) p1)
       place_fine line (pointed p path) pt hp h live env t w l own suits =
           fine_both l (Stands_at (pointer_type program locals p) (pointer Plain hp.1.0) h t) (Pointed (access program locals (pointed p path)).element h t) (code p (pointer_type program locals p) h) (path_code program locals path (suc h)) live env t w
           (expression_fine p (pointer Plain hp.1.0) hp.1.1.0 (pointer_type program locals p) h refl _ env t w l own suits) (λ t1 l1 w1 g1 s1 p1.
-          behind_pointer path hp.1.0 (access program locals (pointed p path)).element (path_element path _ ∙ pointer_is p hp.1.0 hp.1.1.0 hp.0) (pointer_type program locals p) refl h live env t t1 w1 l1 (path_fine path hp.1.0 pt hp.1.1.1 (suc h) live env t1 w1 l1 (all_still_suit l l1 g1 locals env own) s1) p1)
+          behind_pointer path hp.1.0 (access program locals (pointed p path)).element (path_element program well locals path _ ∙ pointer_is program well locals p hp.1.0 hp.1.1.0 hp.0) (pointer_type program locals p) refl h live env t t1 w1 l1 (path_fine path hp.1.0 pt hp.1.1.1 (suc h) live env t1 w1 l1 (all_still_suit l l1 g1 locals env own) s1) p1)
       place_fine line (indexed p i path) pt hp h live env t w l own suits =
           let it = index_type program locals i in
           let el = (access program locals (indexed p i path)).element in
@@ -501,7 +344,7 @@ module _ (program : Program) (well : IsWellTyped program) (g : ℕ) (f : Functio
           (expression_fine i (arithmetic hp.1.1.1.0) hp.1.1.1.1 it (suc h) (kind_index i hp.1.1.1.0) _ env t1 w1 l1 (all_still_suit l l1 g1 locals env own) s1) (λ t2 l2 w2 g2 s2 p2.
           fine_more l2 (λ l3 t3. Lower (suc (suc h)) t2 t3) (Pointed el h t) (path_code program locals path (suc (suc h))) live env t2 w2 (path_fine path hp.1.0 pt hp.1.1.2 (suc (suc h)) live env t2 w2 l2 (all_still_suit l1 l2 g2 locals env (all_still_suit l l1 g1 locals env own)) s2) (λ t3 l3 g3 lo.
           let low : Lower (suc h) t1 t3 = lower_trans (suc h) (suc (suc h)) t1 t2 t3 (omega arith) p2.lower lo in
-          record { pointer = subst (λ x. IsPointer l3 x (t3.regions h)) (sym (path_element path _ ∙ pointer_is p hp.1.0 hp.1.1.0 hp.0)) (still_suits l2 l3 g3 (pointer Plain hp.1.0) (t3.regions h) (still (pointer_type program locals p) (pointer Plain hp.1.0) h t t1 t3 l1 l2 g2 p1 low)); lower = over h t t1 t3 p1.lower low })))
+          record { pointer = subst (λ x. IsPointer l3 x (t3.regions h)) (sym (path_element program well locals path _ ∙ pointer_is program well locals p hp.1.0 hp.1.1.0 hp.0)) (still_suits l2 l3 g3 (pointer Plain hp.1.0) (t3.regions h) (still (pointer_type program locals p) (pointer Plain hp.1.0) h t t1 t3 l1 l2 g2 p1 low)); lower = over h t t1 t3 p1.lower low })))
 
       path_fine : (path : Path) (u pt : Ty) → LeadsTo program locals path u pt → (h : ℕ) (live : ℕ → Bool) (env : List Value) (t : Temporaries) (w : World) (l : Ledger) → Own l env → WorldSuits program l w → Fine l (λ l1 t1. Lower h t t1) (path_code program locals path h) live env t w
       path_fine here u pt hl h live env t w l own suits = record { meets = tt; keeps = keeps_here program l (λ l1 t1. Lower h t t1) t w suits (lower_itself h t) }
@@ -577,13 +420,8 @@ module _ (program : Program) (well : IsWellTyped program) (g : ℕ) (f : Functio
         fine_more l1 (Stands_at own v (width a) t1) (Both a.element own v (width a)) (code e own (width a)) live env t1 w1 (expression_fine e v he own (width a) hk live env t1 w1 l1 (stays l l1 env g1 own_l) s1) (λ t2 l2 g2 p2.
         record { pointer = subst (IsPointer l2 a.element) (sym (p2.lower.regions 0 (omega arith))) (still_suits l1 l2 g2 (pointer Plain a.element) (t1.regions 0) p1.pointer); value = p2.value }))
 
-    -- what is stored
-    stored_suits : (l : Ledger) (t : Temporaries) (k : ℕ) (pt cell : Ty) → cell ≡ pt → Suits l (value_type pt) (temporary (value_type cell) t k) → Suits l pt (kept cell (temporary cell t k))
-    stored_suits l t k pt cell e s =
-        subst (λ c. Suits l (value_type pt) (temporary (value_type c) t k) → Suits l pt (kept c (temporary c t k))) (sym e) (λ v. kept_suits l pt (temporary pt t k) (by_kind (kind_of pt) (value_type pt) (value_type pt) k l t (kind_value pt) v)) s
-
     place_named : (line : ℕ) (place : Place) (pt : Ty) → IsPlace program locals place pt → IsTrue (not (is_struct pt)) → (l : Ledger) (t : Temporaries) (w : World) → IsPointer l (access program locals place).element (t.regions 0) → WorldSuits program l w → Named line (target_at (access program locals place) t 0) (note_in (access program locals place).cell) w
-    place_named line place pt hp h l t w p s = subst (λ c. Named line (target_at (access program locals place) t 0) (note_in c) w) (sym (cell_is place pt hp)) (type_named program l line pt (target_at (access program locals place) t 0) w h (place_aims place pt hp l t 0 p) s)
+    place_named line place pt hp h l t w p s = subst (λ c. Named line (target_at (access program locals place) t 0) (note_in c) w) (sym (cell_is program well locals place pt hp)) (type_named program l line pt (target_at (access program locals place) t 0) w h (place_aims program well locals place pt hp l t 0 p) s)
 
     then_on : (l : Ledger) (env : List Value) (t : Temporaries) (m : Run World (Unit {0})) → Own l env → Keeps program l Nothing m → Keeps program l WaySuits (bind m (λ _ w1. Go (R.Next env t) w1))
     then_on l env t m own k = keeps_then program l Nothing WaySuits m (λ _ w1. Go (R.Next env t) w1) k (λ u l1 w1 g s p. keeps_here program l1 WaySuits (R.Next env t) w1 s (stays l l1 env g own))
@@ -592,10 +430,10 @@ module _ (program : Program) (well : IsWellTyped program) (g : ℕ) (f : Functio
     store_holds line place pt hp h e he ways =
         let a = access program locals place in
         simple_holds (λ t. Both a.element (value_type a.cell) (value_type pt) (width a)) (both (place_code program locals line place 0) (code e (value_type a.cell) (width a))) (To.store line a) ways
-        (λ l env t w own suits. place_then line place pt hp e (value_type pt) (value_type a.cell) he (ap (λ c. kind_of (value_type c)) (cell_is place pt hp)) _ l env t w own suits)
+        (λ l env t w own suits. place_then line place pt hp e (value_type pt) (value_type a.cell) he (ap (λ c. kind_of (value_type c)) (cell_is program well locals place pt hp)) _ l env t w own suits)
         (λ l1 env t t1 w1 own s p. (
           place_named line place pt hp h l1 t1 w1 p.pointer s,
-          then_on l1 env t1 _ own (store_keeps program l1 line pt (target_at a t1 0) (kept a.cell (temporary a.cell t1 (width a))) w1 h (place_aims place pt hp l1 t1 0 p.pointer) (stored_suits l1 t1 (width a) pt a.cell (cell_is place pt hp) p.value) s),
+          then_on l1 env t1 _ own (store_keeps program l1 line pt (target_at a t1 0) (kept a.cell (temporary a.cell t1 (width a))) w1 h (place_aims program well locals place pt hp l1 t1 0 p.pointer) (stored_suits l1 t1 (width a) pt a.cell (cell_is program well locals place pt hp) p.value) s),
         ))
 
     -- a new value is what the program has
@@ -620,7 +458,7 @@ module _ (program : Program) (well : IsWellTyped program) (g : ℕ) (f : Functio
         let tg = target_at a t1 0 in
         let v = temporary (found e) t1 (width a) in
         let finish = λ (new : Value) (w3 : World). bind (source.store line tg (kept a.cell new) w3) (λ _ w4. Go (R.Next env t1) w4) in
-        let loads = load_keeps program l1 line pt tg w1 h (place_aims place pt hp l1 t1 0 p.pointer) s in
+        let loads = load_keeps program l1 line pt tg w1 h (place_aims program well locals place pt hp l1 t1 0 p.pointer) s in
         let news = λ (old : Value) (l2 : Ledger) (w2 : World) (g2 : Grows l1 l2) (s2 : WorldSuits program l2 w2) (q2 : Suits l2 pt old). new_keeps line pt change e takes old v l2 w2 q2 (still_suits l1 l2 g2 has.0 v p.value) s2 in
         let pointer_at = λ (l3 : Ledger) (g3 : Grows l1 l3). still_suits l1 l3 g3 (pointer Plain a.element) (t1.regions 0) p.pointer in (
           (
@@ -632,13 +470,10 @@ module _ (program : Program) (well : IsWellTyped program) (g : ℕ) (f : Functio
           keeps_then program l1 (Of pt) WaySuits (source.load line tg w1) (λ old w2. bind (R.new_value source deleting locals line change (found e) old v w2) finish) loads (λ old l2 w2 g2 s2 q2.
               keeps_then program l2 (Of pt) WaySuits (R.new_value source deleting locals line change (found e) old v w2) finish (news old l2 w2 g2 s2 q2) (λ new l3 w3 g3 s3 q3.
               then_on l3 env t1 _ (stays l2 l3 env g3 (stays l1 l2 env g2 own))
-              (store_keeps program l3 line pt tg (kept a.cell new) w3 h (place_aims place pt hp l3 t1 0 (pointer_at l3 (grows_on l1 l2 l3 g2 g3))) (subst (λ c. Suits l3 pt (kept c new)) (sym (cell_is place pt hp)) (kept_suits l3 pt new (value_suits l3 pt new q3))) s3))),
+              (store_keeps program l3 line pt tg (kept a.cell new) w3 h (place_aims program well locals place pt hp l3 t1 0 (pointer_at l3 (grows_on l1 l2 l3 g2 g3))) (subst (λ c. Suits l3 pt (kept c new)) (sym (cell_is program well locals place pt hp)) (kept_suits l3 pt new (value_suits l3 pt new q3))) s3))),
         ))
 
     -- a struct copy
-    kept_cell_suits : (l : Ledger) (kind : CellKind) (v : Value) → CellSuits l kind v → CellSuits l kind (R.kept_cell kind v)
-    kept_cell_suits l kind v s = subst (CellSuits l kind) (sym (kept_in_cell l kind v s)) s
-
     move_holds : (line : ℕ) (kinds : Layout) (l : Ledger) (from to : Target) (w : World) → AimsAt program l kinds from → AimsAt program l kinds to → WorldSuits program l w → MoveMeets line kinds from to w × Keeps program l Nothing (R.cells_moved source deleting locals line kinds from to w)
     move_holds line [] l from to w af at s = (tt, keeps_here program l Nothing tt w s tt)
     move_holds line (kind ∷ kinds) l from to w af at s =
@@ -674,7 +509,7 @@ module _ (program : Program) (well : IsWellTyped program) (g : ℕ) (f : Functio
         fine_more l1 (Pointed b.element (width a) t1) (Pair a.element b.element (width a)) (place_code program locals line right (width a)) _ env t1 w1 (place_fine line right (struct s) hr (width a) _ env t1 w1 l1 (stays l l1 env g1 own) s1) (λ t2 l2 g2 p2.
         record { first = subst (IsPointer l2 a.element) (sym (p2.lower.regions 0 (omega arith))) (still_suits l1 l2 g2 (pointer Plain a.element) (t1.regions 0) p1.pointer); second = p2.pointer })))
         (λ l1 env t t1 w1 own s1 p.
-        let q = move_holds line kinds l1 (target_at b t1 (width a)) (target_at a t1 0) w1 (aims_at program l1 (struct s) (target_at b t1 (width a)) (place_aims right (struct s) hr l1 t1 (width a) p.second)) (aims_at program l1 (struct s) (target_at a t1 0) (place_aims left (struct s) hl l1 t1 0 p.first)) s1 in
+        let q = move_holds line kinds l1 (target_at b t1 (width a)) (target_at a t1 0) w1 (aims_at program l1 (struct s) (target_at b t1 (width a)) (place_aims program well locals right (struct s) hr l1 t1 (width a) p.second)) (aims_at program l1 (struct s) (target_at a t1 0) (place_aims program well locals left (struct s) hl l1 t1 0 p.first)) s1 in
         (q.0, then_on l1 env t1 _ own q.1))
 
     -- a value that is let go
@@ -923,22 +758,11 @@ module _ (program : Program) (well : IsWellTyped program) (g : ℕ) (f : Functio
       statements_hold loop (then s rest) h ways = then_holds (statement_code program f s) (body_code program f rest) ways (λ k. statement_holds loop s h.0 k) (statements_hold loop rest h.1 ways)
 
     -- a whole call of the function
-    zero_of_result : (l : Ledger) (result : Option Ty) → IfSome result (IsVariable program.structs) → ResultSuits result l (zero_result result)
-    zero_of_result l None h = tt
-    zero_of_result l (Some t) h = zero_suits l t h.1
-
     ending_keeps : (way : Way) (l : Ledger) (w : World) → WaySuits l way → WorldSuits program l w → Keeps program l (ResultSuits f.result) (R.result_of f.result way w)
-    ending_keeps (R.Next env t) l w s suits = keeps_here program l (ResultSuits f.result) (zero_result f.result) w suits (zero_of_result l f.result (well.functions g f is_there).result)
-    ending_keeps (R.Broke env t) l w s suits = keeps_here program l (ResultSuits f.result) (zero_result f.result) w suits (zero_of_result l f.result (well.functions g f is_there).result)
-    ending_keeps (R.Continued env t) l w s suits = keeps_here program l (ResultSuits f.result) (zero_result f.result) w suits (zero_of_result l f.result (well.functions g f is_there).result)
+    ending_keeps (R.Next env t) l w s suits = keeps_here program l (ResultSuits f.result) (zero_result f.result) w suits (zero_of_result program l f.result (well.functions g f is_there).result)
+    ending_keeps (R.Broke env t) l w s suits = keeps_here program l (ResultSuits f.result) (zero_result f.result) w suits (zero_of_result program l f.result (well.functions g f is_there).result)
+    ending_keeps (R.Continued env t) l w s suits = keeps_here program l (ResultSuits f.result) (zero_result f.result) w suits (zero_of_result program l f.result (well.functions g f is_there).result)
     ending_keeps (R.Returned v) l w s suits = keeps_here program l (ResultSuits f.result) v w suits s
-
-    sized_suits : (l : Ledger) (n : ℕ) (tys : List Ty) (xs : List Value) → ((x : ℕ) (t : Ty) → slice_get tys x ≡ Some t → IsTrue (not (is_struct t))) → AllSuit l (take n tys) xs → AllSuit l tys (R.sized tys xs)
-    sized_suits l n [] xs k all = tt
-    sized_suits l zero (ty ∷ tys) [] k all = (zero_suits l ty (k 0 ty refl), sized_suits l zero tys [] (λ x u e. k (suc x) u e) tt)
-    sized_suits l zero (ty ∷ tys) (x ∷ xs) k all = absurd all
-    sized_suits l (suc n) (ty ∷ tys) [] k all = absurd all
-    sized_suits l (suc n) (ty ∷ tys) (x ∷ xs) k all = (all.0, sized_suits l n tys xs (λ y u e. k (suc y) u e) all.1)
 
     pub routine_holds : (xs : List Value) (l : Ledger) (w : World) → AllSuit l (parameters_of f) xs → WorldSuits program l w → RoutineMeets deleting fr calls inside xs w × Keeps program l (ResultSuits f.result) (R.run_routine source deleting calls (Some fr) xs w)
     routine_holds xs l w all suits =

@@ -12,7 +12,8 @@ use Rattle.rc_syntax.specs.Grammar.{Symbol, Level, Unary, TreeOf, placed}
 use Rattle.rc_syntax.specs.Place.{Answers, IsRead, IsRefused, IsTooDeep}
 use Rattle.rc_syntax.specs.reader.Steps.{bottom, about, entry, run}
 use Rattle.rc_syntax.proofs.Whole.{Root, of_expression, of_unary, Means, means}
-use Rattle.rc_expr.specs.Goes.{boxed_of, unboxed, from, ReaderAnswers}
+use Rattle.rc_words.specs.Words.{from}
+use Rattle.rc_expr.specs.Goes.{boxed_of, unboxed, ReaderAnswers}
 
 placed_drop : (n i : ℕ) (ts : List CodeToken) → placed (n + i) (tokens_of (drop i ts)) ≡ drop i (placed n (tokens_of ts))
 placed_drop n zero ts = ap (λ m. placed m (tokens_of ts)) (let e : n + zero ≡ n = omega arith in e)

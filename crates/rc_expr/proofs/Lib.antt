@@ -1,4 +1,3 @@
-pub mod Standing
 pub mod Running
 pub mod Values
 pub mod Tests

@@ -22,7 +22,8 @@ use Rattle.rc_syntax.specs.Grammar.{Symbol, Level, Unary, Arm, TreeOf, Placed, a
 use Rattle.rc_syntax.specs.reader.Todo.{Todo, build, read, sees, enter, stop}
 use Rattle.rc_syntax.specs.reader.Reading.{is_close, is_colon, chosen, otherwise, unary_in, prefixed, cast_in, parenthesized}
 use Rattle.rc_syntax.specs.reader.Steps.{Stack, bottom, place, next, Accepts, about, amid as at, run, step, taken, first_of, give, Refuses, Sinks}
-use Rattle.rc_expr.specs.Goes.{boxed_of, amid, inside, spot_of, from, word_at, Within, word_in, Stands, Misses, operator_from, starts, prefix_in, cast_of, key_of, cast_rest, Quiet, Reads, ReaderAnswers, no_postfix}
+use Rattle.rc_words.specs.Words.{spot_of, from, word_at, word_in, Stands, Misses}
+use Rattle.rc_expr.specs.Goes.{boxed_of, amid, inside, Within, operator_from, starts, prefix_in, cast_of, key_of, cast_rest, Quiet, Reads, ReaderAnswers, no_postfix}
 use Rattle.rc_expr.proofs.Running.{around, deeper, enters, begins_with, closes, part, took, begins, begins_too_deep, begins_too_far, stops_about, skips}
 use Rattle.rc_expr.proofs.Tests.{quiet_plain, quiet_expression, quiet_unary, operates}
 

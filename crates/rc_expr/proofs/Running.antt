@@ -14,8 +14,9 @@ use Rattle.rc_syntax.specs.Grammar.{Symbol, Stars, Star, TreeOf, Placed, adds, r
 use Rattle.rc_syntax.specs.reader.Todo.{Todo, build, stop, try, enter, begin, read, sees, when, only, within}
 use Rattle.rc_syntax.specs.reader.Reading.{first, tail, starred}
 use Rattle.rc_syntax.specs.reader.Steps.{Stack, frame, State, about, amid as at, Answer, Refuses, Sinks, run, next, verdict, step, finish, place, taken, give, first_of, opened, reached, too_deep}
-use Rattle.rc_expr.specs.Goes.{from, line_of, spot_of, word_in, word_at, Stands, Misses, Takes, amid, inside, Around, Within, Faults, Goes, Quiet}
-use Rattle.rc_expr.proofs.Standing.{spot_first}
+use Rattle.rc_words.specs.Words.{from, line_of, spot_of, word_in, word_at, Stands, Misses, Takes}
+use Rattle.rc_expr.specs.Goes.{amid, inside, Around, Within, Faults, Goes, Quiet}
+use Rattle.rc_words.proofs.Standing.{spot_first}
 
 -- Two states that answer the next word in the same way.
 pub same_run : {root : Symbol} (round : ℕ) (a b : State root) (ws : List Placed) → finish a ≡ finish b → ((p : Placed) (ps : List Placed) → ws ≡ p ∷ ps → step a p ≡ step b p) → run round a ws ≡ run round b ws

@@ -13,7 +13,8 @@ use Rattle.rc_syntax.specs.Tree as t
 use Rattle.rc_syntax.specs.Grammar.{Symbol, Level, Unary, Arguments, Stars, TreeOf, Placed, level_of, mark_of, with_last}
 use Rattle.rc_syntax.specs.reader.Todo.{stop, only, enter, build, when}
 use Rattle.rc_syntax.specs.reader.Reading.{tail, is_open, is_close, is_close_bracket, is_comma, is_colon, is_int, is_question, more_stars, postfix_in, binary_of, operated, beside, chosen}
-use Rattle.rc_expr.specs.Goes.{from, word_in, word_at, Misses, Quiet, no_postfix, at_least, operator_from}
+use Rattle.rc_words.specs.Words.{from, word_in, word_at, Misses}
+use Rattle.rc_expr.specs.Goes.{Quiet, no_postfix, at_least, operator_from}
 
 pub open_else : (x : Word) → (x ≡ mark m.OpenParenthesis → ⊥) → is_open x ≡ false
 open_else (mark m.OpenParenthesis) h = absurd (h refl)

@@ -1,5 +1,5 @@
 // Names, calls and allocations (ISO C 6.5.1, 6.5.2.2, and RC's allocations).
-ghost use Rattle.std.specs.Prelude.{◌≡◌, ◌<◌, ◌≤◌, ◌+◌, IfOk, length};
+ghost use Rattle.std.specs.Prelude.{◌<◌, ◌≤◌, ◌+◌, IfOk, length};
 ghost use Rattle.rc_base.specs.Limits.{most_depth, most_words};
 ghost use Rattle.rc_syntax.specs.declared.word.Key.TheVariants.{Ralloc, RarrayAlloc};
 ghost use Rattle.rc_syntax.specs.declared.word.Mark.TheVariants as m;
@@ -9,15 +9,16 @@ ghost use Rattle.rc_syntax.specs.Tree as t;
 ghost use Rattle.rc_syntax.specs.Grammar as g;
 ghost use Rattle.rc_syntax.specs.reader.Reading as r;
 ghost use Rattle.rc_syntax.specs.Shape.{exprs_of, type_of};
-ghost use Rattle.rc_expr.specs.Goes.{boxed_of, spot_of, Reads, Continues, Misses, typed_rest};
+ghost use Rattle.rc_words.specs.Words.{spot_of, Misses};
+ghost use Rattle.rc_expr.specs.Goes.{boxed_of, Reads, Continues, typed_rest};
 
 use crate::expressions::conditional;
 use crate::nodes::{add, call_node, leaf, ralloc_node, rarrayalloc_node};
 use crate::types::type_name;
-use crate::words::{expect_mark, is_mark, shared, spot_at, taken};
 use rc_syntax::fault::ParseFault;
 use rc_syntax::tree::{Expr, Name, TypeName};
 use rc_syntax::word::{Mark, Text, Token};
+use rc_words::{expect_mark, is_mark, shared, spot_at, taken};
 use std::alloc::Global;
 
 // NAME | NAME "(" [expr { "," expr }] ")"

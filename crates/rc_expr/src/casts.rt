@@ -4,12 +4,13 @@ ghost use Rattle.rc_base.specs.Limits.{most_depth, most_words};
 ghost use Rattle.rc_syntax.specs.Tokens.{key};
 ghost use Rattle.rc_syntax.specs.reader.Todo.{read, sees};
 ghost use Rattle.rc_syntax.specs.reader.Reading as r;
-ghost use Rattle.rc_expr.specs.Goes.{spot_of, word_at, Stands, ReadsCast, cast_of, key_of, unsigned_rest};
+ghost use Rattle.rc_words.specs.Words.{spot_of, word_at, Stands};
+ghost use Rattle.rc_expr.specs.Goes.{ReadsCast, cast_of, key_of, unsigned_rest};
 
-use crate::words::{expect_mark, is_key, key_at, taken};
 use rc_syntax::fault::ParseFault;
 use rc_syntax::tree::CastType;
 use rc_syntax::word::{Key, Mark, Token};
+use rc_words::{expect_mark, is_key, key_at, taken};
 
 /// The type of a cast whose first word stands at a place.
 pub fn cast_at(tokens: &[Token], at: u32) -> Option<CastType>

@@ -9,16 +9,17 @@ ghost use Rattle.rc_syntax.specs.Grammar as g;
 ghost use Rattle.rc_syntax.specs.Grammar.{level_of};
 ghost use Rattle.rc_syntax.specs.reader.Todo.{build};
 ghost use Rattle.rc_syntax.specs.Shape.{expr_of};
-ghost use Rattle.rc_expr.specs.Goes.{boxed_of, unboxed, word_at, ReaderAnswers, Reads, Continues, Stands, Misses, operator_from, no_postfix};
+ghost use Rattle.rc_words.specs.Words.{word_at, Stands, Misses};
+ghost use Rattle.rc_expr.specs.Goes.{boxed_of, unboxed, ReaderAnswers, Reads, Continues, operator_from, no_postfix};
 
 use crate::nodes::{binary_node, conditional_node};
 use crate::operands::operand;
 use crate::operators::{operator_at, tightness};
-use crate::words::{expect_mark, is_mark, spot_at, taken};
 use rc_base::MOST_REACH;
 use rc_syntax::fault::ParseFault;
 use rc_syntax::tree::{BinaryOp, Expr};
 use rc_syntax::word::{Mark, Token};
+use rc_words::{expect_mark, is_mark, spot_at, taken};
 use std::alloc::Global;
 
 // expr = cond .

@@ -8,7 +8,8 @@ ghost use Rattle.rc_syntax.specs.WordShapes.{word_of};
 ghost use Rattle.rc_syntax.specs.Grammar as g;
 ghost use Rattle.rc_syntax.specs.reader.Todo.{build, enter, read, sees};
 ghost use Rattle.rc_syntax.specs.reader.Reading as r;
-ghost use Rattle.rc_expr.specs.Goes.{boxed_of, line_of, spot_of, word_at, Reads, Continues, Stands, starts, key_of, no_postfix};
+ghost use Rattle.rc_words.specs.Words.{line_of, spot_of, word_at, Stands};
+ghost use Rattle.rc_expr.specs.Goes.{boxed_of, Reads, Continues, starts, key_of, no_postfix};
 
 use crate::calls::{named, ralloc, rarrayalloc};
 use crate::casts::{cast_at, cast_type};
@@ -16,11 +17,11 @@ use crate::expressions::conditional;
 use crate::nodes::{cast_node, leaf, unary_node};
 use crate::operators::prefix_of;
 use crate::postfixes::postfixes;
-use crate::words::{deep_at, expect_mark, refused_at, shared, spot_at, word_here};
 use rc_base::MOST_DEPTH;
 use rc_syntax::fault::ParseFault;
 use rc_syntax::tree::{CastType, Expr, UnaryOp};
 use rc_syntax::word::{Key, Mark, Token, Word};
+use rc_words::{deep_at, expect_mark, refused_at, shared, spot_at, word_here};
 use std::alloc::Global;
 
 /// Whether an expression begins with this word.

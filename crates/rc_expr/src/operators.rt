@@ -6,11 +6,12 @@ ghost use Rattle.rc_syntax.specs.Grammar as g;
 ghost use Rattle.rc_syntax.specs.Grammar.{level_of};
 ghost use Rattle.rc_syntax.specs.reader.Reading as r;
 ghost use Rattle.rc_expr.specs.Goes as Goes;
-ghost use Rattle.rc_expr.specs.Goes.{word_at, Stands, prefix_in, operator_from};
+ghost use Rattle.rc_words.specs.Words.{word_at, Stands};
+ghost use Rattle.rc_expr.specs.Goes.{prefix_in, operator_from};
 
-use crate::words::mark_at;
 use rc_syntax::tree::{BinaryOp, UnaryOp};
 use rc_syntax::word::{Mark, Token};
+use rc_words::mark_at;
 
 /// The operator of this mark.
 fn operator_of(mark: Mark) -> Option<BinaryOp>

@@ -5,14 +5,15 @@ ghost use Rattle.rc_syntax.specs.declared.word.Mark.TheVariants as m;
 ghost use Rattle.rc_syntax.specs.Tokens.{mark};
 ghost use Rattle.rc_syntax.specs.Grammar as g;
 ghost use Rattle.rc_syntax.specs.reader.Todo.{build};
-ghost use Rattle.rc_expr.specs.Goes.{boxed_of, word_at, Continues, Stands, no_postfix};
+ghost use Rattle.rc_words.specs.Words.{word_at, Stands};
+ghost use Rattle.rc_expr.specs.Goes.{boxed_of, Continues, no_postfix};
 
 use crate::expressions::conditional;
 use crate::nodes::{arrow_node, index_node, member_node};
-use crate::words::{expect_mark, mark_at, name, spot_at, taken};
 use rc_syntax::fault::ParseFault;
 use rc_syntax::tree::Expr;
 use rc_syntax::word::{Mark, Token};
+use rc_words::{expect_mark, mark_at, name, spot_at, taken};
 use std::alloc::Global;
 
 // postfix = primary { "[" expr "]" | "." NAME | "->" NAME } .

@@ -7,14 +7,15 @@ ghost use Rattle.rc_syntax.specs.Grammar as g;
 ghost use Rattle.rc_syntax.specs.reader.Todo.{build};
 ghost use Rattle.rc_syntax.specs.reader.Reading as r;
 ghost use Rattle.rc_syntax.specs.Shape.{type_of};
-ghost use Rattle.rc_expr.specs.Goes.{spot_of, word_at, Stands, Misses, ReadsAnywhere, ContinuesAnywhere, begins_base};
+ghost use Rattle.rc_words.specs.Words.{word_at, Stands, Misses};
+ghost use Rattle.rc_expr.specs.Goes.{ReadsAnywhere, ContinuesAnywhere, begins_base};
 
 use crate::nodes::add;
-use crate::words::{deep_at, is_key, is_mark, key_at, name, refused_at, spot_at, taken};
 use rc_base::MOST_DEPTH;
 use rc_syntax::fault::ParseFault;
 use rc_syntax::tree::{Base, Note, TypeName};
 use rc_syntax::word::{Key, Mark, Token};
+use rc_words::{deep_at, is_key, is_mark, key_at, name, refused_at, spot_at, taken};
 use std::alloc::Global;
 
 /// Whether a base type begins at a place.

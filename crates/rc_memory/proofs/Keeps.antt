@@ -18,7 +18,9 @@ use Rattle.rc_values.proofs.Lists.{drop_mapped}
 use Rattle.rc_memory.specs.Change.{mapped, Agree}
 use Rattle.rc_values.specs.Cells as of_kind
 use Rattle.rc_memory.specs.Kept as k
-use Rattle.rc_memory.specs.Kept.{KeptObject, KeptHeap, kept_object, kept_region, kept_heap, count_in, size_in, kinds_in, values_in, in_bounds, object_names, is_named}
+use Rattle.rc_memory.specs.Kept.{KeptHeap, kept_region, kept_heap, count_in, size_in, kinds_in, values_in, in_bounds, is_named}
+use Rattle.rc_objects.specs.Objects as of_object
+use Rattle.rc_objects.specs.Objects.{KeptObject, kept_object, object_names}
 use Rattle.rc_memory.specs.KeptWorld as kw
 use Rattle.rc_memory.specs.KeptWorld.{KeptWorld, kept_world, giving, leaving, in_region, kept}
 
@@ -126,16 +128,16 @@ blank_values_kept : (layout : Layout) (n : ℕ) → flat_map (map blank_cell) (r
 blank_values_kept layout zero = refl
 blank_values_kept layout (suc n) = ap (λ l. l ++ flat_map (map blank_cell) (replicate n layout)) (blank_cells_kept layout) ∙ ap (λ l. map of_kind.blank_cell (map kind_of layout) ++ l) (blank_values_kept layout n)
 
-pub blank_kept : (layout : Layout) (n : ℕ) → kept_object (blank layout n) ≡ k.blank (map kind_of layout) n
+pub blank_kept : (layout : Layout) (n : ℕ) → kept_object (blank layout n) ≡ of_object.blank (map kind_of layout) n
 blank_kept layout n = ap (λ (vs : List Value). record { kinds = map kind_of layout; count = n; values = vs }) (blank_values_kept layout n)
 
-added_kept : (heap : Heap) (r n : ℕ) (layout : Layout) → live heap r ≡ true → kept_heap (with_objects heap r (λ os. os ++ blank layout n ∷ [])) ≡ k.with_objects (kept_heap heap) r (λ os. os ++ k.blank (map kind_of layout) n ∷ [])
+added_kept : (heap : Heap) (r n : ℕ) (layout : Layout) → live heap r ≡ true → kept_heap (with_objects heap r (λ os. os ++ blank layout n ∷ [])) ≡ k.with_objects (kept_heap heap) r (λ os. os ++ of_object.blank (map kind_of layout) n ∷ [])
 added_kept heap r n layout is = changed_kept heap r _ _ is (map-append kept_object (objects heap r) (blank layout n ∷ []) ∙ ap (λ o. map kept_object (objects heap r) ++ o ∷ []) (blank_kept layout n))
 
 number_kept : (heap : Heap) (r : ℕ) → live heap r ≡ true → length (k.objects (kept_heap heap) r) ≡ length (objects heap r)
 number_kept heap r is = ap length (objects_kept heap r is) ∙ length-map (objects heap r) kept_object
 
-allocated_by : (b c : Bool) (line r : ℕ) (count : ℤ) (layout : Layout) (w : World) → live w.heap r ≡ true → mapped kept_world (tested b Size line w (tested c Full line w (Go (Pointer (record { region = r; object = length (objects w.heap r); index = 0 })) (with_heap w (with_objects w.heap r (λ os. os ++ blank layout (unsigned_abs count) ∷ [])))))) ≡ leaving (Pointer (record { region = r; object = length (objects w.heap r); index = 0 })) (if b then (if c then Ok (k.with_objects (kept_heap w.heap) r (λ os. os ++ k.blank (map kind_of layout) (unsigned_abs count) ∷ [])) else trapped Full line) else trapped Size line) (kept_world w)
+allocated_by : (b c : Bool) (line r : ℕ) (count : ℤ) (layout : Layout) (w : World) → live w.heap r ≡ true → mapped kept_world (tested b Size line w (tested c Full line w (Go (Pointer (record { region = r; object = length (objects w.heap r); index = 0 })) (with_heap w (with_objects w.heap r (λ os. os ++ blank layout (unsigned_abs count) ∷ [])))))) ≡ leaving (Pointer (record { region = r; object = length (objects w.heap r); index = 0 })) (if b then (if c then Ok (k.with_objects (kept_heap w.heap) r (λ os. os ++ of_object.blank (map kind_of layout) (unsigned_abs count) ∷ [])) else trapped Full line) else trapped Size line) (kept_world w)
 allocated_by true true line r count layout w is = ap (λ hs. Go (Pointer (record { region = r; object = length (objects w.heap r); index = 0 })) (kw.with_heap (kept_world w) hs)) (added_kept w.heap r (unsigned_abs count) layout is)
 allocated_by true false line r count layout w is = refl
 allocated_by false c line r count layout w is = refl
@@ -143,7 +145,7 @@ allocated_by false c line r count layout w is = refl
 allocated_kept : (line r : ℕ) (count : ℤ) (layout : Layout) (w : World) → live w.heap r ≡ true → mapped kept_world (allocated line r count layout w) ≡ in_region (Ok r) line count layout (kept_world w)
 allocated_kept line r count layout w is =
     allocated_by (int_le (pos 0) count) (nat_lt (length (objects w.heap r)) w.blocks) line r count layout w is
-    ∙ ap (λ n. leaving (Pointer (record { region = r; object = n; index = 0 })) (if int_le (pos 0) count then (if nat_lt n w.blocks then Ok (k.with_objects (kept_heap w.heap) r (λ os. os ++ k.blank (map kind_of layout) (unsigned_abs count) ∷ [])) else trapped Full line) else trapped Size line) (kept_world w)) (sym (number_kept w.heap r is))
+    ∙ ap (λ n. leaving (Pointer (record { region = r; object = n; index = 0 })) (if int_le (pos 0) count then (if nat_lt n w.blocks then Ok (k.with_objects (kept_heap w.heap) r (λ os. os ++ of_object.blank (map kind_of layout) (unsigned_abs count) ∷ [])) else trapped Full line) else trapped Size line) (kept_world w)) (sym (number_kept w.heap r is))
 
 allocate_by : (b : Bool) (line r : ℕ) (count : ℤ) (layout : Layout) (w : World) → live w.heap r ≡ b → mapped kept_world (touching b line w (allocated line r count layout w)) ≡ in_region (passing b (Stale line) (Ok r)) line count layout (kept_world w)
 allocate_by true line r count layout w is = allocated_kept line r count layout w is
@@ -225,14 +227,14 @@ values_same heap r o element cell is =
     ap (λ n. drop (element * n + cell) (object_at heap r o).values) (sym (size_at heap r o is))
     ∙ ap (drop (element * size_in (k.object_at (kept_heap heap) r o) + cell)) (sym (values_at heap r o is))
 
-first_same : (xs : List Value) → first_of (take 1 xs) ≡ k.first_of xs
+first_same : (xs : List Value) → first_of (take 1 xs) ≡ of_object.first_of xs
 first_same [] = refl
 first_same (x ∷ xs) = refl
 
 load_kept : (line : ℕ) (t : Target) (w : World) → mapped kept_world (source.load line t w) ≡ kept.load line t (kept_world w)
 load_kept line t w =
-    spot_kept line t.pointer t.shift t.offset t.chosen w (λ spot. Go (first_of (values_from w.heap spot 1)) w) (λ spot. Ok (k.first_of (k.values_at (kept_heap w.heap) spot))) (λ o. giving o (kept_world w)) (λ stop. refl)
-    (λ a is. ap (λ v. Go v (kept_world w)) (first_same (drop (unsigned_abs (pos a.index +ℤ t.shift) * length (object_at w.heap a.region a.object).layout + cell_of t) (object_at w.heap a.region a.object).values) ∙ ap k.first_of (values_same w.heap a.region a.object (unsigned_abs (pos a.index +ℤ t.shift)) (cell_of t) is)))
+    spot_kept line t.pointer t.shift t.offset t.chosen w (λ spot. Go (first_of (values_from w.heap spot 1)) w) (λ spot. Ok (of_object.first_of (k.values_at (kept_heap w.heap) spot))) (λ o. giving o (kept_world w)) (λ stop. refl)
+    (λ a is. ap (λ v. Go v (kept_world w)) (first_same (drop (unsigned_abs (pos a.index +ℤ t.shift) * length (object_at w.heap a.region a.object).layout + cell_of t) (object_at w.heap a.region a.object).values) ∙ ap of_object.first_of (values_same w.heap a.region a.object (unsigned_abs (pos a.index +ℤ t.shift)) (cell_of t) is)))
 
 load_all_kept : (line : ℕ) (t : Target) (size : ℕ) (w : World) → mapped kept_world (source.load_all line t size w) ≡ kept.load_all line t size (kept_world w)
 load_all_kept line t size w =

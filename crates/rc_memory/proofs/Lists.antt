@@ -1,23 +1,10 @@
 -- Regions that are searched at a place, and who is above whom.
-use Rattle.std.proofs.Common.{◌≡◌, ◌≢◌, ◌≤◌, ◌<◌, ℕ, zero, suc, ◌+◌, Bool, true, false, ◌||◌, List, [], ◌∷◌, ◌++◌, length, map, take, drop, replicate, get_or, set, Some, None, refl, sym, ap, ◌∙◌, arith, append_assoc, append-nil, add-one, subst}
-use Rattle.std.proofs.lemmas.List.{length-map, reverse-append}
-use Rattle.std.specs.Prelude.{reverse, slice_get, flat_map, not, ◌&&◌, nat_eq}
-use Rattle.std.proofs.lemmas.List.Folds.{list_any_more, list_any_at}
+use Rattle.std.proofs.Common.{◌≡◌, ◌≢◌, ◌<◌, ℕ, zero, suc, ◌+◌, Bool, true, false, ◌||◌, [], ◌∷◌, length, drop, get_or, refl, sym, ap, ◌∙◌, arith, add-one}
+use Rattle.std.specs.Prelude.{not, ◌&&◌, nat_eq}
 use Rattle.std.specs.List.{list_any}
-use Rattle.rc_core.specs.Heap.{Value, Null, is_above_within}
-use Rattle.rc_memory.specs.Kept.{first_of, KeptRegion, KeptHeap, is_named, object_names}
-
-pub first_there : (xs : List Value) (i : ℕ) (v : Value) → slice_get xs i ≡ Some v → first_of (drop i xs) ≡ v
-first_there [] zero v is = absurd cc
-first_there [] (suc i) v is = absurd cc
-first_there (x ∷ xs) zero v is = cc
-first_there (x ∷ xs) (suc i) v is = first_there xs i v is
-
-pub first_missing : (xs : List Value) (i : ℕ) → slice_get xs i ≡ None → first_of (drop i xs) ≡ Null
-first_missing [] zero is = refl
-first_missing [] (suc i) is = refl
-first_missing (x ∷ xs) zero is = absurd cc
-first_missing (x ∷ xs) (suc i) is = first_missing xs i is
+use Rattle.rc_core.specs.Heap.{is_above_within}
+use Rattle.rc_memory.specs.Kept.{KeptRegion, KeptHeap, is_named}
+use Rattle.rc_objects.specs.Objects.{object_names}
 
 named_drop : (r at i : ℕ) (xs : KeptHeap) (d : KeptRegion) → i < length xs → is_named r at (drop i xs) ≡ ((not (nat_eq at r) && ((get_or xs i d).alive && list_any (object_names r) (get_or xs i d).objects)) || is_named r (suc at) (drop (suc i) xs))
 named_drop r at i [] d within = absurd (omega (arith, within))

@@ -1,24 +1,15 @@
--- The heap as far as it has to be kept: of a cell's type whether it is a number, a region or a pointer, and what annotation it
--- has; of a dead region its parent alone.
-use Rattle.std.specs.Prelude.{ℕ, suc, ℤ, pos, ◌+◌, ◌-◌, ◌*◌, ◌+ℤ◌, Bool, true, false, not, ◌||◌, ◌&&◌, nat_eq, nat_lt, nat_le, int_le, unsigned_abs, List, [], ◌∷◌, ◌++◌, length, map, take, drop, replicate, flat_map, slice_get, Option, Some, None, Ok, if◌then◌else◌}
+-- The heap as far as it has to be kept: of a dead region its parent alone.
+use Rattle.std.specs.Prelude.{ℕ, suc, ℤ, pos, ◌+◌, ◌-◌, ◌*◌, ◌+ℤ◌, Bool, true, false, not, ◌||◌, ◌&&◌, nat_eq, nat_lt, nat_le, int_le, unsigned_abs, List, [], ◌∷◌, ◌++◌, length, map, take, drop, slice_get, Option, Some, None, Ok, if◌then◌else◌}
 use Rattle.std.specs.List.{list_any, list_all}
 use Rattle.rc_base.specs.declared.ends.Trap.TheVariants.{Null as NullTrap, Bounds, Size, Root, Subregion, Reference, Full}
-use Rattle.rc_core.specs.declared.ty.Note.{Note}
-use Rattle.rc_core.specs.declared.ty.Note.TheVariants.{Plain}
-use Rattle.rc_core.specs.Heap.{Value, Number, Null, Handle, Pointer, Address, Object, Region, Heap, update, is_fresh, fits, names}
+use Rattle.rc_core.specs.Heap.{Value, Number, Null, Handle, Pointer, Address, Region, Heap, update, is_fresh, fits, names}
 use Rattle.rc_core.specs.Runs.{Stale, Target}
 use Rattle.rc_core.specs.Source.{is_index, chosen_in_range, cell_of, unfit, overwritten}
 use Rattle.rc_core.specs.declared.layouts.Kind.{Kind}
-use Rattle.rc_core.specs.declared.layouts.Kind.TheVariants.{Number as NumberKind, Region as RegionKind, Pointer as PointerKind}
 use Rattle.rc_memory.specs.declared.heap.Spot.{Spot}
-use Rattle.rc_values.specs.Cells.{blank_cell, note_of}
-use Rattle.rc_core.specs.Laid.{kind_of}
+use Rattle.rc_values.specs.Cells.{note_of}
+use Rattle.rc_objects.specs.Objects.{KeptObject, kept_object, blank, object_names, first_of}
 use Rattle.rc_values.specs.Outcomes.{Outcome, trapped, passing, after}
-
-pub record KeptObject : Type 0 where
-  pub kinds : List Kind
-  pub count : ℕ
-  pub values : List Value
 
 pub record KeptRegion : Type 0 where
   pub parent : ℕ
@@ -27,9 +18,6 @@ pub record KeptRegion : Type 0 where
 
 abbrev pub KeptHeap : Type 0
 KeptHeap = List KeptRegion
-
-abbrev pub kept_object : Object → KeptObject
-kept_object o = record { kinds = map kind_of o.layout; count = o.count; values = o.values }
 
 abbrev pub kept_region : Region → KeptRegion
 kept_region g = record { parent = g.parent; alive = g.alive; objects = if g.alive then map kept_object g.objects else [] }
@@ -77,9 +65,6 @@ objects heap r = objects_in (slice_get heap r)
 abbrev pub object_at : KeptHeap → (r o : ℕ) → Option KeptObject
 object_at heap r o = slice_get (objects heap r) o
 
-abbrev pub blank : List Kind → (count : ℕ) → KeptObject
-blank kinds count = record { kinds = kinds; count = count; values = flat_map (map blank_cell) (replicate count kinds) }
-
 -- behind the null test, in a live region
 abbrev pub live_region : KeptHeap → (line : ℕ) → Value → Outcome ℕ
 live_region heap line (Handle r) = passing (live heap r) (Stale line) (Ok r)
@@ -110,10 +95,6 @@ spot_of heap line t =
 
 abbrev pub values_at : KeptHeap → Spot → List Value
 values_at heap spot = drop spot.place (values_in (object_at heap spot.region spot.object))
-
-abbrev pub first_of : List Value → Value
-first_of [] = Null
-first_of (v ∷ vs) = v
 
 abbrev pub load : KeptHeap → (line : ℕ) → Target → Outcome Value
 load heap line t = after (spot_of heap line t) (λ spot. Ok (first_of (values_at heap spot)))
@@ -164,9 +145,6 @@ step heap line v n =
 
 abbrev pub has_child : ℕ → KeptHeap → Bool
 has_child r heap = list_any (λ (g : KeptRegion). g.alive && nat_eq g.parent r) heap
-
-abbrev pub object_names : ℕ → KeptObject → Bool
-object_names r o = list_any (names r) o.values
 
 -- a cell of a live region but r names r; `at` is the number of the first region
 abbrev pub is_named : (r at : ℕ) → KeptHeap → Bool

@@ -10,20 +10,21 @@ ghost use Rattle.rc_core.specs.Layout.{Layout};
 ghost use Rattle.rc_core.specs.Programs.{Struct as Fields};
 ghost use Rattle.rc_core.specs.Shapes.{bytes_of, global_of, program_of, ty_of};
 ghost use Rattle.rc_core.specs.Source.{unfit};
-ghost use Rattle.rc_memory.specs.Kept.{allocated, count_in, object_names, killed, with_objects, deleted, fitting, has_child, is_named, kept_heap, kept_object, kinds_in, live, live_address, live_region, load, load_all, made, object_at, objects, parent, room, spot_of, step, store, written};
+ghost use Rattle.rc_memory.specs.Kept.{allocated, count_in, killed, with_objects, deleted, fitting, has_child, is_named, kept_heap, kinds_in, live, live_address, live_region, load, load_all, made, object_at, objects, parent, room, spot_of, step, store, written};
+ghost use Rattle.rc_objects.specs.Objects.{object_names, kept_object};
 ghost use Rattle.rc_memory.specs.KeptWorld.{KeptWorld, kept};
 ghost use Rattle.rc_memory.specs.Leaving.{Leaves};
 ghost use Rattle.rc_values.specs.Outcomes.{Is, Does};
 ghost use Rattle.rc_values.specs.Values.{address_of, value_of};
 ghost use Rattle.rc_values.specs.declared.stop.Stop.TheVariants.{Cut};
 
-use crate::object::{Object, blank, literal, number_object};
 use crate::region::Region;
 use rc_base::Trap;
 use rc_core::operators::Direction;
 use rc_core::parts::{Global as Variable, Parts};
 use rc_core::ty::{Note, Ty};
 use rc_core::{Kind, Layouts};
+use rc_objects::{Object, blank, literal, number_object};
 use rc_values::{
     Address, Stop, Target, Value, Values, front_of, is_index, note_of, product_of_cells,
     sum_of_cells, trap,

@@ -6,7 +6,6 @@
 #![tactic(auto)]
 
 mod heap;
-mod object;
 mod region;
 
 pub use heap::Heap;

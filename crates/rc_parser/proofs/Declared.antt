@@ -15,8 +15,9 @@ use Rattle.rc_syntax.specs.Grammar.{Symbol, TreeOf, Placed, FieldDec, Stars, Bas
 use Rattle.rc_syntax.specs.reader.Todo.{Todo, begin, build, stop, is_stop, read, sees, Deeper, within}
 use Rattle.rc_syntax.specs.reader.Reading.{field_starred, base, base_in, fields_of, first, tail, type_name, param_typed, params_end_in, constant_in, is_close}
 use Rattle.rc_syntax.specs.reader.Steps.{Stack, frame, State, about, run, amid as at, step, place, taken}
-use Rattle.rc_expr.specs.Goes.{from, spot_of, word_at, amid, inside, begins_base, Goes, Misses}
-use Rattle.rc_expr.proofs.Standing.{spot_first}
+use Rattle.rc_words.specs.Words.{from, spot_of, word_at, Misses}
+use Rattle.rc_expr.specs.Goes.{amid, inside, begins_base, Goes}
+use Rattle.rc_words.proofs.Standing.{spot_first}
 use Rattle.rc_expr.proofs.Running.{same_run, faults_along}
 use Rattle.rc_stmt.specs.Along.{Parses, Starts, Proceeds}
 use Rattle.rc_parser.specs.Items.{constant_of}

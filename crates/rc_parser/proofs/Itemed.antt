@@ -11,8 +11,9 @@ use Rattle.rc_syntax.specs.Grammar.{Symbol, TreeOf, Placed, Item, Base, BodyEnd,
 use Rattle.rc_syntax.specs.reader.Todo.{begin, build, read, Deeper, within}
 use Rattle.rc_syntax.specs.reader.Reading.{first, base, item_in, item_based, item_named, named, body_end_in, function_end_in}
 use Rattle.rc_syntax.specs.reader.Steps.{Stack, frame, about, amid as at, run, step, place}
-use Rattle.rc_expr.specs.Goes.{from, spot_of, word_in, word_at, amid, inside, Misses, Goes}
-use Rattle.rc_expr.proofs.Standing.{spot_first}
+use Rattle.rc_words.specs.Words.{from, spot_of, word_in, word_at, Misses}
+use Rattle.rc_expr.specs.Goes.{amid, inside, Goes}
+use Rattle.rc_words.proofs.Standing.{spot_first}
 use Rattle.rc_expr.proofs.Running.{same_run, faults_along}
 use Rattle.rc_stmt.specs.Along.{Parses, Starts, Proceeds}
 use Rattle.rc_stmt.proofs.Going.{along}

@@ -1,5 +1,5 @@
 -- Numbers that are read, and words that are none.
-use Rattle.std.proofs.Common.{ℕ, ◌≡◌, ◌≤◌, ◌+◌, ◌-◌, List, Some, None, Bool, false, length, refl, ap, sym, ◌∙◌, arith, Result, Ok, Err}
+use Rattle.std.proofs.Common.{ℕ, ◌≡◌, ◌≤◌, ◌+◌, ◌-◌, List, Some, None, Bool, false, length, refl, ap, sym, ◌∙◌, arith, Result, Err}
 use Rattle.rc_syntax.specs.declared.fault.ParseFault.{ParseFault}
 use Rattle.rc_syntax.specs.declared.fault.ParseFault.TheVariants.{Syntax, Deep, Memory}
 use Rattle.rc_syntax.specs.declared.word.Token.{Token as CodeToken}
@@ -9,7 +9,8 @@ use Rattle.rc_syntax.specs.Grammar.{Symbol, TreeOf, adds}
 use Rattle.rc_syntax.specs.reader.Todo.{Todo, stop, read, is_stop}
 use Rattle.rc_syntax.specs.reader.Reading.{numbered, number_in}
 use Rattle.rc_syntax.specs.reader.Steps.{Stack, frame, run, taken, first_of, opened}
-use Rattle.rc_expr.specs.Goes.{from, spot_of, word_at, Stands, amid}
+use Rattle.rc_words.specs.Words.{from, spot_of, Stands}
+use Rattle.rc_expr.specs.Goes.{amid}
 use Rattle.rc_expr.proofs.Running.{takes, stops}
 use Rattle.rc_stmt.specs.Along.{Outside, Proceeds}
 use Rattle.rc_stmt.proofs.Going.{near, takes_some, along}

@@ -18,8 +18,9 @@ use Rattle.rc_syntax.specs.reader.Todo.{Todo, build, read}
 use Rattle.rc_syntax.specs.reader.Reading.{first, base_in, item_based, item_deleting, function_named, named, struct_named}
 use Rattle.rc_syntax.specs.reader.Steps.{Stack, bottom, frame, State, entry, about, amid as at, Answer, Accepts, run, next, place, first_of}
 use Rattle.rc_syntax.proofs.Whole.{MeansAll, text_means}
-use Rattle.rc_expr.specs.Goes.{from, line_of, word_in, word_at, Faults}
-use Rattle.rc_expr.proofs.Standing.{from_more, from_past}
+use Rattle.rc_words.specs.Words.{from, line_of, word_in, word_at}
+use Rattle.rc_expr.specs.Goes.{Faults}
+use Rattle.rc_words.proofs.Standing.{from_more, from_past}
 use Rattle.rc_stmt.specs.Along.{Outside, Parses}
 use Rattle.rc_parser.specs.Items.{begins_item}
 use Rattle.rc_stmt.proofs.Inside.{goes_into_at}

@@ -14,7 +14,7 @@ use Rattle.rc_syntax.specs.Tokens.{Word}
 use Rattle.rc_syntax.specs.Grammar as g
 use Rattle.rc_syntax.specs.reader.Todo.{Todo, build, resume}
 use Rattle.rc_syntax.specs.reader.Reading.{initialised, field_named}
-use Rattle.rc_expr.specs.Goes.{line_of, word_at, Stands}
+use Rattle.rc_words.specs.Words.{line_of, word_at, Stands}
 use Rattle.rc_parser.specs.declared.parts.Numeral.{Numeral}
 
 abbrev pub is_number : Option Word → Bool

@@ -5,16 +5,17 @@ ghost use Rattle.rc_syntax.specs.declared.fault.ParseFault.TheVariants.{Memory};
 ghost use Rattle.rc_syntax.specs.Grammar as g;
 ghost use Rattle.rc_syntax.specs.reader.Reading as r;
 ghost use Rattle.rc_syntax.specs.Shape as shape;
-ghost use Rattle.rc_expr.specs.Goes.{spot_of};
+ghost use Rattle.rc_words.specs.Words.{spot_of};
 ghost use Rattle.rc_stmt.specs.Along.{Parses, Proceeds};
 ghost use Rattle.rc_parser.specs.Shapes.{declarator_of};
 
 use crate::parts::{append, number};
-use rc_expr::{add, base_begins, is_mark, spot_at};
+use rc_expr::{add, base_begins};
 use rc_stmt::{base, expect_mark, name, shared_base, stars};
 use rc_syntax::fault::ParseFault;
 use rc_syntax::tree::{Base, Field, Name, Note, Spot, TypeName};
 use rc_syntax::word::{Mark, Token};
+use rc_words::{is_mark, spot_at};
 use std::alloc::Global;
 
 /// What a declarator of a field or of a global says: stars, a name, and perhaps a length.

@@ -6,17 +6,17 @@ ghost use Rattle.rc_syntax.specs.Tokens.{key};
 ghost use Rattle.rc_syntax.specs.Grammar as g;
 ghost use Rattle.rc_syntax.specs.reader.Reading as r;
 ghost use Rattle.rc_syntax.specs.Shape as shape;
-ghost use Rattle.rc_expr.specs.Goes.{spot_of, Stands};
+ghost use Rattle.rc_words.specs.Words.{spot_of, Stands};
 ghost use Rattle.rc_stmt.specs.Along.{Parses, Proceeds};
 ghost use Rattle.rc_parser.specs.Shapes.{ending_of};
 
 use crate::params::params_end;
 use crate::parts::only;
-use rc_expr::{is_key, is_mark, spot_at};
 use rc_stmt::{block, expect_mark, name, type_name};
 use rc_syntax::fault::ParseFault;
 use rc_syntax::tree::{Item, Name, Param, Spot, Stmt, TypeName};
 use rc_syntax::word::{Key, Mark, Token};
+use rc_words::{is_key, is_mark, spot_at};
 use std::alloc::Global;
 
 /// What stands after the parameters of a function: perhaps `deletes`, and a body or none.

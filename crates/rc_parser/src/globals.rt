@@ -9,7 +9,7 @@ ghost use Rattle.rc_syntax.specs.Grammar as g;
 ghost use Rattle.rc_syntax.specs.reader.Todo.{build};
 ghost use Rattle.rc_syntax.specs.reader.Reading as r;
 ghost use Rattle.rc_syntax.specs.Shape as shape;
-ghost use Rattle.rc_expr.specs.Goes.{spot_of, Stands};
+ghost use Rattle.rc_words.specs.Words.{spot_of, Stands};
 ghost use Rattle.rc_stmt.specs.Along.{Parses, Proceeds};
 ghost use Rattle.rc_parser.specs.Shapes.{declarator_of, global_of};
 ghost use Rattle.rc_parser.specs.Items as items;
@@ -17,11 +17,12 @@ ghost use Rattle.rc_parser.specs.Items.{declarator_rest, dec_rest};
 
 use crate::fields::{Declarator, field_dec, field_named};
 use crate::parts::number;
-use rc_expr::{add, is_mark, refused_at, spot_at, word_here};
+use rc_expr::add;
 use rc_stmt::shared_base;
 use rc_syntax::fault::ParseFault;
 use rc_syntax::tree::{Base, Constant, Item, Name, Note, Spot, TypeName};
 use rc_syntax::word::{Key, Mark, Token, Word};
+use rc_words::{is_mark, refused_at, spot_at, word_here};
 use std::alloc::Global;
 
 /// A declarator of a global, and what the global begins with.

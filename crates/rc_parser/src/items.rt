@@ -8,7 +8,7 @@ ghost use Rattle.rc_syntax.specs.Place.{AnswersAll};
 ghost use Rattle.rc_syntax.specs.Grammar as g;
 ghost use Rattle.rc_syntax.specs.reader.Reading as r;
 ghost use Rattle.rc_syntax.specs.Shape as shape;
-ghost use Rattle.rc_expr.specs.Goes.{spot_of, word_at, Stands, Misses};
+ghost use Rattle.rc_words.specs.Words.{spot_of, word_at, Stands, Misses};
 ghost use Rattle.rc_stmt.specs.Along.{Parses, Proceeds};
 ghost use Rattle.rc_parser.specs.Items.{begins_item};
 
@@ -16,11 +16,11 @@ use crate::fields::fields;
 use crate::functions::{deleting, function_params, resultless};
 use crate::globals::{decs_named, globals_of};
 use crate::parts::{append, only};
-use rc_expr::{is_key, is_mark, key_at, refused_at, spot_at};
 use rc_stmt::{base, expect_mark, name, stars};
 use rc_syntax::fault::ParseFault;
 use rc_syntax::tree::{Base, Item, Name, Note, Tree, TypeName};
 use rc_syntax::word::{Key, Mark, Token};
+use rc_words::{is_key, is_mark, key_at, refused_at, spot_at};
 use std::alloc::Global;
 
 // unit = { item } .

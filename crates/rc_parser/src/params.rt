@@ -1,5 +1,5 @@
 // Parameters (ISO C 6.7.6.3).
-ghost use Rattle.std.specs.Prelude.{◌≡◌, ◌<◌, ◌≤◌, IfOk, length, map};
+ghost use Rattle.std.specs.Prelude.{◌<◌, ◌≤◌, IfOk, length, map};
 ghost use Rattle.rc_base.specs.Limits.{most_depth, most_words};
 ghost use Rattle.rc_syntax.specs.declared.word.Mark.TheVariants as m;
 ghost use Rattle.rc_syntax.specs.declared.word.Key.TheVariants.{Void};
@@ -7,15 +7,16 @@ ghost use Rattle.rc_syntax.specs.Tokens.{mark, key};
 ghost use Rattle.rc_syntax.specs.Grammar as g;
 ghost use Rattle.rc_syntax.specs.reader.Reading as r;
 ghost use Rattle.rc_syntax.specs.Shape as shape;
-ghost use Rattle.rc_expr.specs.Goes.{spot_of, Misses};
+ghost use Rattle.rc_words.specs.Words.{spot_of, Misses};
 ghost use Rattle.rc_stmt.specs.Along.{Parses, Proceeds};
 
 use crate::parts::is_name_at;
-use rc_expr::{add, is_key, is_mark, spot_at};
+use rc_expr::add;
 use rc_stmt::{expect_mark, name, type_name};
 use rc_syntax::fault::ParseFault;
 use rc_syntax::tree::{Param, TypeName};
 use rc_syntax::word::{Key, Mark, Token};
+use rc_words::{is_key, is_mark, spot_at};
 use std::alloc::Global;
 
 // [params] ")", where

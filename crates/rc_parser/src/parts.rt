@@ -2,12 +2,13 @@
 ghost use Rattle.std.specs.Prelude.{◌≡◌, ◌≤◌, ◌++◌, ◌∷◌, [], IfOk, IfErr, OnOk, length};
 ghost use Rattle.rc_base.specs.Limits.{most_words};
 ghost use Rattle.rc_syntax.specs.declared.fault.ParseFault.TheVariants.{Memory};
-ghost use Rattle.rc_expr.specs.Goes.{word_at, is_name};
+ghost use Rattle.rc_words.specs.Words.{word_at, is_name};
 ghost use Rattle.rc_parser.specs.Items.{IsNumber};
 
-use rc_expr::{add, refused_at, word_here};
+use rc_expr::add;
 use rc_syntax::fault::ParseFault;
 use rc_syntax::word::{Token, Word};
+use rc_words::{refused_at, word_here};
 use std::alloc::Global;
 
 /// Whether a name stands at a place.

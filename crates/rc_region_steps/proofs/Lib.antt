@@ -1,5 +1,3 @@
 pub mod Behind
-pub mod PathTypes
-pub mod Accesses
 pub mod Walks
 pub mod FromGlobals

@@ -14,8 +14,8 @@ use Rattle.rc_rlang.specs.RegionCode as to
 use Rattle.rc_rlang.specs.RegionCode.{Steps, both}
 use Rattle.rc_translation.proofs.Expressions.{both_assoc}
 use Rattle.rc_translation.specs.Translation.{expression_type, argument_types, expression_code, arguments_code, index_type, path_code}
-use Rattle.rc_region_steps.specs.Inner.{or_own, argument_at}
-use Rattle.rc_region_steps.proofs.PathTypes.{front, nothing_left}
+use Rattle.rc_region_steps.specs.Arguments.{or_own, argument_at}
+use Rattle.rc_accesses.proofs.PathTypes.{front, nothing_left}
 
 -- what is left of the parameters, from an argument on
 rest_there : (tys : List Ty) (i : ℕ) (t : Ty) → slice_get tys i ≡ Some t → drop i tys ≡ t ∷ drop (suc i) tys

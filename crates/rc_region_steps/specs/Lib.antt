@@ -1,2 +1,2 @@
 pub mod Adding
-pub mod Inner
+pub mod Arguments

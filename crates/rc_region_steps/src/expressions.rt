@@ -1,27 +1,26 @@
 // The code of expressions. Each node has a function of its own.
 
-ghost use Rattle.std.specs.Prelude.{◌≡◌, List, map, IfOk, OnOk};
+ghost use Rattle.std.specs.Prelude.{◌≡◌, map, IfOk, OnOk};
 ghost use Rattle.rc_core.specs.Laid.{AreLaidOut};
 ghost use Rattle.rc_core.specs.Programs as from;
-ghost use Rattle.rc_core.specs.Shapes.{expr_of, place_of, path_of, arguments_of, ty_of, program_of};
+ghost use Rattle.rc_core.specs.Shapes.{expr_of, place_of, arguments_of, ty_of, program_of};
 ghost use Rattle.rc_core.specs.declared.ty.Signedness.TheVariants.{Signed};
 ghost use Rattle.rc_rlang.specs.RegionCode as rlang;
 ghost use Rattle.rc_rlang.specs.RegionCode.{both, one};
 ghost use Rattle.rc_rlang.specs.Shapes.{steps_of};
 ghost use Rattle.rc_translation.specs.Translation as translation;
-ghost use Rattle.rc_region_steps.specs.Inner.{argument_at};
-ghost use Rattle.rc_region_steps.specs.Adding.{Adds, AddsExpression, AddsArguments, AddsPlace, AddsPath};
+ghost use Rattle.rc_region_steps.specs.Arguments.{argument_at};
+ghost use Rattle.rc_region_steps.specs.Adding.{AddsExpression, AddsArguments};
 
-use crate::into::{Into, at, fork, set};
-use crate::places::{access, narrowed, together};
-use crate::scope::Scope;
-use crate::types::{
-    arithmetic, expression_type, global_type, index_type, number, parameter_types, pointer_to,
-    pointer_type, value_type,
+use crate::into::{Into, at, constant, fork, set};
+use crate::places::place;
+use rc_accesses::{
+    Scope, access, arithmetic, expression_type, index_type, narrowed, number, parameter_types,
+    pointer_type, together, value_type,
 };
 use rc_base::NoMemory;
 use rc_core::cells::copy_of;
-use rc_core::expr::{Expr, PathStep, Place};
+use rc_core::expr::{Expr, Place};
 use rc_core::operators::{Direction, Operator, UnaryOperator};
 use rc_core::ty::{NumberType, Signedness, Ty};
 use rc_rlang::steps::{Operation, Step};
@@ -296,18 +295,6 @@ fn truth(e: &Expr, scope: &Scope<'_>, into: &Into) -> Result<Vec<Step>, NoMemory
         Operation::Truth { operand },
     )?;
     Ok(steps)
-}
-
-/// A number of the program.
-pub(crate) fn constant(
-    steps: &mut Vec<Step>,
-    into: Into,
-    signedness: Signedness,
-    value: i64,
-) -> Result<(), NoMemory>
-    ensures { (structs : List from.Struct) → OnOk result (Adds structs steps.old.items steps.new.items (one (rlang.set into.line into.temporary (ty_of into.ty) (rlang.constant signedness value)))) }
-{
-    set(steps, into, Operation::Constant { signedness, value })
 }
 
 /// The value of `&&` or `||` that the left side decides.
@@ -806,109 +793,4 @@ fn argument_type(
         Some(ty) => copy_of(scope.alloc, ty),
         None => expression_type(scope, e),
     }
-}
-
-/// Adds the code of a pointer from which a place or a step goes.
-#[cycle(expressions)]
-fn base(
-    pointer: &Expr,
-    scope: &Scope<'_>,
-    steps: &mut Vec<Step>,
-    temporary: u32,
-) -> Result<(), NoMemory>
-    requires laid { AreLaidOut (program_of scope.now.parts.now).structs scope.now.layouts.now }
-    ensures { OnOk result (AddsExpression (program_of scope.now.parts.now) (map ty_of scope.now.locals.now) steps.old.items steps.new.items (expr_of pointer.now) (translation.pointer_type (program_of scope.now.parts.now) (map ty_of scope.now.locals.now) (expr_of pointer.now)) temporary) }
-{
-    let ty = pointer_type(scope, pointer)?;
-    expression(pointer, scope, steps, ty, temporary)
-}
-
-/// Adds the code of an index.
-#[cycle(expressions)]
-fn index(
-    index: &Expr,
-    scope: &Scope<'_>,
-    steps: &mut Vec<Step>,
-    temporary: u32,
-) -> Result<(), NoMemory>
-    requires laid { AreLaidOut (program_of scope.now.parts.now).structs scope.now.layouts.now }
-    ensures { OnOk result (AddsExpression (program_of scope.now.parts.now) (map ty_of scope.now.locals.now) steps.old.items steps.new.items (expr_of index.now) (translation.index_type (program_of scope.now.parts.now) (map ty_of scope.now.locals.now) (expr_of index.now)) temporary) }
-{
-    let ty = index_type(scope, index)?;
-    expression(index, scope, steps, ty, temporary)
-}
-
-/// Adds the code of a place: its pointer, its shift and its indices, from this temporary on.
-///
-/// # Errors
-///
-/// Out of memory.
-#[cycle(expressions)]
-#[tactic(auto, using(rc_core::proofs::ShapeRows::global_is, rc_core::proofs::ShapeRows::pointed_is, rc_core::proofs::ShapeRows::indexed_is, crate::proofs::Behind::two_on, crate::proofs::Behind::three_on))]
-pub fn place(
-    place: &Place,
-    scope: &Scope<'_>,
-    steps: &mut Vec<Step>,
-    line: u32,
-    temporary: u32,
-) -> Result<(), NoMemory>
-    requires laid { AreLaidOut (program_of scope.now.parts.now).structs scope.now.layouts.now }
-    ensures { OnOk result (AddsPlace (program_of scope.now.parts.now) (map ty_of scope.now.locals.now) steps.old.items steps.new.items line (place_of place.now) temporary) }
-{
-    let next = together(temporary, 1)?;
-    match place {
-        Place::Global { global, path } => {
-            let ty = pointer_to(scope, global_type(scope, *global)?)?;
-            set(
-                steps,
-                Into {
-                    line,
-                    temporary,
-                    ty,
-                },
-                Operation::Static { object: *global },
-            )?;
-            self::path(path, scope, steps, next)
-        }
-        Place::Pointed { pointer, path } => {
-            base(pointer, scope, steps, temporary)?;
-            self::path(path, scope, steps, next)
-        }
-        Place::Indexed {
-            pointer,
-            index,
-            path,
-        } => {
-            base(pointer, scope, steps, temporary)?;
-            self::index(index, scope, steps, next)?;
-            self::path(path, scope, steps, together(next, 1)?)
-        }
-    }
-}
-
-#[cycle(expressions)]
-#[tactic(auto, using(crate::proofs::Walks::path_field, crate::proofs::Walks::path_element, crate::proofs::Walks::path_end))]
-fn path(
-    path: &[PathStep],
-    scope: &Scope<'_>,
-    steps: &mut Vec<Step>,
-    temporary: u32,
-) -> Result<(), NoMemory>
-    requires laid { AreLaidOut (program_of scope.now.parts.now).structs scope.now.layouts.now }
-    ensures { OnOk result (AddsPath (program_of scope.now.parts.now) (map ty_of scope.now.locals.now) steps.old.items steps.new.items (path_of path.now) temporary) }
-{
-    let mut free = temporary;
-    for step in path {
-        match step {
-            PathStep::Field {
-                structure: _structure,
-                field: _field,
-            } => {}
-            PathStep::Element { index, .. } => {
-                self::index(index, scope, steps, free)?;
-                free = together(free, 1)?;
-            }
-        }
-    }
-    Ok(())
 }

@@ -9,7 +9,7 @@ ghost use Rattle.rc_rlang.specs.Shapes.{operation_of, steps_of};
 ghost use Rattle.rc_region_steps.specs.Adding.{Adds};
 
 use rc_base::NoMemory;
-use rc_core::ty::Ty;
+use rc_core::ty::{Signedness, Ty};
 use rc_rlang::steps::{Operation, Step};
 
 /// Where a value comes: the temporary, the type as which it stands there, and the line of its step.
@@ -44,6 +44,18 @@ pub(crate) fn set(steps: &mut Vec<Step>, into: Into, operation: Operation) -> Re
         operation,
     })?;
     Ok(())
+}
+
+/// Adds a step that gives a number of the program.
+pub(crate) fn constant(
+    steps: &mut Vec<Step>,
+    into: Into,
+    signedness: Signedness,
+    value: i64,
+) -> Result<(), NoMemory>
+    ensures { (structs : List Struct) → OnOk result (Adds structs steps.old.items steps.new.items (one (rlang.set into.line into.temporary (ty_of into.ty) (rlang.constant signedness value)))) }
+{
+    set(steps, into, Operation::Constant { signedness, value })
 }
 
 /// Adds a step that goes one of two ways, by a value of this type.

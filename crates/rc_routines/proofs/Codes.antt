@@ -15,7 +15,7 @@ use Rattle.rc_rlang.specs.declared.code.Code.{Code as CodeCode, Block}
 use Rattle.rc_rlang.specs.RegionCode.{Code, Codes, done, then, block, loop, Steps, Test}
 use Rattle.rc_rlang.specs.Shapes.{code_of, codes_of}
 use Rattle.rc_rlang.proofs.ShapeRows.{made_block}
-use Rattle.rc_region_steps.proofs.PathTypes.{front, nothing_left}
+use Rattle.rc_accesses.proofs.PathTypes.{front, nothing_left}
 use Rattle.rc_translation.specs.Translation.{has_result, statement_code, body_code}
 
 abbrev pub joined : Codes → Codes → Codes

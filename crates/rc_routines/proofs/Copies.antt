@@ -6,7 +6,7 @@ use Rattle.rc_core.specs.Programs.{Program, Struct}
 use Rattle.rc_core.specs.Shapes.{function_of}
 use Rattle.rc_rlang.specs.declared.code.Routine.{Routine as CodeRoutine}
 use Rattle.rc_rlang.specs.Shapes.{routine_in}
-use Rattle.rc_region_steps.proofs.PathTypes.{front, nothing_left}
+use Rattle.rc_accesses.proofs.PathTypes.{front, nothing_left}
 use Rattle.rc_translation.specs.Translation.{routine_of}
 
 map_behind : {A B : Type 0} (f : A → B) (xs : List A) (x : A) (rest : List B) → map f (xs ++ x ∷ []) ++ rest ≡ map f xs ++ f x ∷ rest

@@ -1,21 +1,20 @@
 // The region code of a whole program: its functions' code, beside copies of its structs, globals and
 // strings.
 
-ghost use Rattle.std.specs.Prelude.{◌≡◌, List, map, option_map, IfOk};
+ghost use Rattle.std.specs.Prelude.{◌≡◌, map, option_map, IfOk};
 ghost use Rattle.rc_core.specs.Laid.{AreLaidOut};
-ghost use Rattle.rc_core.specs.Programs.{Program as CleanProgram, Struct as Fields};
 ghost use Rattle.rc_core.specs.Shapes.{bytes_of, field_of, function_of, global_of, program_of, struct_of, ty_of};
 ghost use Rattle.rc_rlang.specs.Shapes.{rlang_of, routine_in};
 ghost use Rattle.rc_translation.specs.Translation.{region_of_program, routine_of};
 
 use crate::statements::statement;
+use rc_accesses::Scope;
 use rc_base::NoMemory;
 use rc_core::Layouts;
 use rc_core::cells::copy_of;
 use rc_core::parts::{Field, Function, Global as Variable, Parts, Struct};
 use rc_core::program::Program;
 use rc_core::ty::Ty;
-use rc_region_steps::Scope;
 use rc_rlang::code::{RegionParts, Routine};
 use std::alloc::Global;
 

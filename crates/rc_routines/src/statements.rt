@@ -10,15 +10,13 @@ ghost use Rattle.rc_rlang.specs.Shapes.{act_of, code_of, codes_of, steps_of, tes
 ghost use Rattle.rc_translation.specs.Translation as translation;
 ghost use Rattle.rc_routines.specs.Bodies.{with_locals};
 
+use rc_accesses::{Scope, access, expression_type, local_type, parameter_types, value_type, width};
 use rc_base::NoMemory;
 use rc_core::cells::copy_of;
 use rc_core::expr::{Expr, Place};
 use rc_core::stmt::{Change, Stmt};
 use rc_core::ty::Ty;
-use rc_region_steps::{
-    Scope, access, arguments, expression, expression_type, local_type, parameter_types, place,
-    value_type, width,
-};
+use rc_region_steps::{arguments, expression, place};
 use rc_rlang::access::Access;
 use rc_rlang::code::{Act, Code, Test};
 use rc_rlang::steps::Step;

@@ -1,4 +1,3 @@
 pub mod Beside
 pub mod Above
-pub mod Cells
 pub mod Refs

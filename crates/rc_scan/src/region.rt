@@ -6,9 +6,9 @@ ghost use Rattle.rc_store.specs.Kept.{blank, object_refs, view_refs};
 ghost use Rattle.rc_store.specs.Stores.{HasCell, cell_value, cells_in, no_object, objects_with, size_of};
 ghost use Rattle.rc_store.specs.Values.{value_of};
 
-use crate::object::Object;
 use rc_base::{NoMemory, Steps};
 use rc_core::layout::Layout;
+use rc_plain_objects::Object;
 use rc_store::Cell;
 use std::alloc::Global;
 use std::marker::Model;

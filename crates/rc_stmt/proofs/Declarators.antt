@@ -10,8 +10,9 @@ use Rattle.rc_syntax.specs.Grammar.{Symbol, TreeOf, LocalDec, Stars}
 use Rattle.rc_syntax.specs.reader.Todo.{begin}
 use Rattle.rc_syntax.specs.reader.Reading.{local_starred}
 use Rattle.rc_syntax.specs.reader.Steps.{Stack, about, amid as at, step}
-use Rattle.rc_expr.specs.Goes.{from, spot_of, amid}
-use Rattle.rc_expr.proofs.Standing.{spot_first}
+use Rattle.rc_words.specs.Words.{from, spot_of}
+use Rattle.rc_expr.specs.Goes.{amid}
+use Rattle.rc_words.proofs.Standing.{spot_first}
 use Rattle.rc_expr.proofs.Running.{same_run}
 use Rattle.rc_stmt.specs.Along.{Starts, Proceeds}
 use Rattle.rc_stmt.proofs.Going.{along_start}

@@ -16,8 +16,9 @@ use Rattle.rc_syntax.specs.Grammar.{Symbol, TreeOf, Placed, adds, reach}
 use Rattle.rc_syntax.specs.reader.Todo.{Todo, build, stop, try, enter, begin, read, sees, when, is_stop, only, within}
 use Rattle.rc_syntax.specs.reader.Reading.{first, tail, named, name_in, is_comma}
 use Rattle.rc_syntax.specs.reader.Steps.{Stack, frame, about, amid as at, Answer, Refuses, run, next, step, place, taken, offer, give, closed, first_of, opened, reached}
-use Rattle.rc_expr.specs.Goes.{from, line_of, spot_of, word_in, word_at, Stands, Misses, amid, inside, Around, Within, Faults, Goes, Quiet, Reads, ReadsAnywhere, ContinuesAnywhere, TakesName, is_name}
-use Rattle.rc_expr.proofs.Standing.{spot_first}
+use Rattle.rc_words.specs.Words.{from, line_of, spot_of, word_in, word_at, Stands, Misses, TakesName, is_name}
+use Rattle.rc_expr.specs.Goes.{amid, inside, Around, Within, Faults, Goes, Quiet, Reads, ReadsAnywhere, ContinuesAnywhere}
+use Rattle.rc_words.proofs.Standing.{spot_first}
 use Rattle.rc_expr.proofs.Running.{same_run, takes, begins, enters, opens, skips, stops, stops_about, missed, faults_along}
 use Rattle.rc_stmt.specs.Along.{Outside, Parses, Starts, Proceeds, IsNamed}
 

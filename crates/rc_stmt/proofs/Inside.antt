@@ -7,7 +7,8 @@ use Rattle.rc_syntax.specs.Grammar.{Symbol, TreeOf, Placed}
 use Rattle.rc_syntax.specs.reader.Todo.{Todo, build, resume, within}
 use Rattle.rc_syntax.specs.reader.Reading.{first, tail}
 use Rattle.rc_syntax.specs.reader.Steps.{Stack, frame, State, about, amid as at, run, next, step, finish, place, offer, give, closed, first_of}
-use Rattle.rc_expr.specs.Goes.{from, spot_of, word_in, word_at, amid, inside}
+use Rattle.rc_words.specs.Words.{from, spot_of, word_in, word_at}
+use Rattle.rc_expr.specs.Goes.{amid, inside}
 use Rattle.rc_expr.proofs.Running.{same_run, faults_along}
 use Rattle.rc_stmt.specs.Along.{Parses, Proceeds}
 use Rattle.rc_stmt.proofs.Going.{Flat, inner, along}

@@ -29,12 +29,14 @@ use Rattle.rc_syntax.specs.reader.Todo.{Todo, build, stop, try, enter, resume, r
 use Rattle.rc_syntax.specs.reader.Reading as r
 use Rattle.rc_syntax.specs.reader.Reading.{first, tail, is_semicolon, is_close, is_close_brace, is_open_brace}
 use Rattle.rc_syntax.specs.reader.Steps.{Stack, frame, State, about, amid as at, Sinks, run, next, place, taken, offer, give, closed, first_of, opened, too_deep}
-use Rattle.rc_expr.specs.Goes.{boxed_of, from, line_of, spot_of, word_in, word_at, Stands, Misses, amid, inside, Within, Faults, Goes, Reads, no_postfix, begins_base}
-use Rattle.rc_expr.proofs.Standing.{spot_first, word_stands}
+use Rattle.rc_words.specs.Words.{from, line_of, spot_of, word_in, word_at, Stands, Misses}
+use Rattle.rc_expr.specs.Goes.{boxed_of, amid, inside, Within, Faults, Goes, Reads, no_postfix, begins_base}
+use Rattle.rc_words.proofs.Standing.{spot_first, word_stands}
 use Rattle.rc_expr.proofs.Running.{same_run, takes, stops, stops_about, skips, begins_with, enters, closes, faults_along}
 use Rattle.rc_expr.proofs.Running as running
 use Rattle.rc_expr.proofs.Tests.{quiet_unary, open_else, close_else}
-use Rattle.rc_stmt.specs.Along.{Outside, Parses, Starts, Proceeds, Grows, ReadsCondition, conditioned, behind_body, assignment_in, assignment_at, head_in, begins_stmt}
+use Rattle.rc_words.specs.Begins.{head_in, begins_stmt}
+use Rattle.rc_stmt.specs.Along.{Outside, Parses, Starts, Proceeds, Grows, ReadsCondition, conditioned, behind_body, assignment_in, assignment_at}
 use Rattle.rc_stmt.proofs.Going.{near, inner, takes_some, word, ends_plain, along, unread, counted, from_counted}
 use Rattle.rc_stmt.proofs.Inside.{closes_calm}
 use Rattle.rc_stmt.proofs.Tests.{close_brace_else}

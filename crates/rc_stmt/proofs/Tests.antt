@@ -8,7 +8,8 @@ use Rattle.rc_syntax.specs.Tokens.{Word, mark, key}
 use Rattle.rc_syntax.specs.Grammar.{Symbol, TreeOf, Placed}
 use Rattle.rc_syntax.specs.reader.Todo.{Todo, only, sees, when}
 use Rattle.rc_syntax.specs.reader.Reading.{tail, is_open_brace, is_close_brace, is_open_bracket, is_semicolon, is_comma, is_equal, is_void, is_while, is_else}
-use Rattle.rc_expr.specs.Goes.{from, word_in, Misses, Quiet}
+use Rattle.rc_words.specs.Words.{from, word_in, Misses}
+use Rattle.rc_expr.specs.Goes.{Quiet}
 use Rattle.rc_expr.proofs.Tests.{comma_else}
 
 pub open_brace_else : (x : Word) → (x ≡ mark m.OpenBrace → ⊥) → is_open_brace x ≡ false

@@ -1,12 +1,11 @@
 -- How code that reads a symbol goes along with the reader of one word at a time, where the symbol stands inside another and
 -- no expression is open around it.
-use Rattle.std.specs.Prelude.{ℕ, ◌≡◌, ◌+◌, ◌-◌, ◌≤◌, List, [], ◌∷◌, Option, Some, None, Result, Ok, Err, Bool, true, false}
+use Rattle.std.specs.Prelude.{ℕ, ◌≡◌, ◌+◌, ◌-◌, ◌≤◌, List, Option, Some, None, Result, Ok, Err, false}
 use Rattle.std.specs.declared.vec.Vec.{Vec}
 use Rattle.std.specs.declared.alloc.Global.{Global}
 use Rattle.rc_syntax.specs.declared.fault.ParseFault.{ParseFault}
 use Rattle.rc_syntax.specs.declared.fault.ParseFault.TheVariants.{Syntax, Deep, Memory}
 use Rattle.rc_syntax.specs.declared.word.Token.{Token as CodeToken}
-use Rattle.rc_syntax.specs.declared.word.Key.TheVariants.{Null, Eof, Ralloc, RarrayAlloc, Break, Continue, Do, For, If, Return, While}
 use Rattle.rc_syntax.specs.declared.word.Mark.{Mark}
 use Rattle.rc_syntax.specs.declared.word.Mark.TheVariants as m
 use Rattle.rc_syntax.specs.declared.tree.Name.{Name}
@@ -17,8 +16,6 @@ use Rattle.rc_syntax.specs.declared.tree.BinaryOp.TheVariants as o
 use Rattle.rc_syntax.specs.declared.tree.StepOp.TheVariants.{Increment, Decrement}
 use Rattle.rc_stmt.specs.declared.simples.Assignment.{Assignment}
 use Rattle.rc_stmt.specs.declared.simples.Assignment.TheVariants as a
-use Rattle.rc_stmt.specs.declared.begins.Head.{Head}
-use Rattle.rc_stmt.specs.declared.begins.Head.TheVariants as h
 use Rattle.rc_syntax.specs.declared.tree.Stmt.{Stmt}
 use Rattle.rc_syntax.specs.Tokens as w
 use Rattle.rc_syntax.specs.Tokens.{Word}
@@ -29,7 +26,8 @@ use Rattle.rc_syntax.specs.Grammar.{Symbol, TreeOf, adds}
 use Rattle.rc_syntax.specs.reader.Todo.{Todo, build, read, sees, enter, is_stop}
 use Rattle.rc_syntax.specs.reader.Reading.{is_close_brace, is_open, is_close}
 use Rattle.rc_syntax.specs.reader.Steps.{Stack, frame, about, amid as at, run, opened, reached}
-use Rattle.rc_expr.specs.Goes.{boxed_of, from, line_of, spot_of, word_at, Stands, amid, inside, Goes, is_name}
+use Rattle.rc_words.specs.Words.{from, line_of, spot_of, word_at, Stands, is_name}
+use Rattle.rc_expr.specs.Goes.{boxed_of, amid, inside, Goes}
 
 -- The words of the symbol itself are nested so deep, and the reach of a word is what it is inside of the symbol.
 pub record Outside (round depth : ℕ) {root s : Symbol} (k : Stack root s) : Type 0 where
@@ -93,30 +91,6 @@ assignment_at _ = None
 abbrev pub AssignmentStands : List CodeToken → ℕ → Assignment → Type 0
 AssignmentStands tokens i a = (x : Mark) × Stands tokens i (w.mark x) × (assignment_in x ≡ Some a)
 
--- How a statement begins that is more than what it does by itself.
-abbrev pub head_in : Option Word → Option Head
-head_in (Some (w.mark m.Semicolon)) = Some h.Empty
-head_in (Some (w.mark m.OpenBrace)) = Some h.Block
-head_in (Some (w.key If)) = Some h.If
-head_in (Some (w.key While)) = Some h.While
-head_in (Some (w.key Do)) = Some h.Do
-head_in (Some (w.key For)) = Some h.For
-head_in (Some (w.key Break)) = Some h.Break
-head_in (Some (w.key Continue)) = Some h.Continue
-head_in (Some (w.key Return)) = Some h.Return
-head_in _ = None
-
-abbrev pub first_word : Head → Word
-first_word h.Empty = w.mark m.Semicolon
-first_word h.Block = w.mark m.OpenBrace
-first_word h.If = w.key If
-first_word h.While = w.key While
-first_word h.Do = w.key Do
-first_word h.For = w.key For
-first_word h.Break = w.key Break
-first_word h.Continue = w.key Continue
-first_word h.Return = w.key Return
-
 -- A condition in parentheses, and what is left after it.
 abbrev pub conditioned : (t.Expr → Todo g.Stmt) → Todo g.Stmt
 conditioned f = read (sees is_open (enter (g.Level 0) (λ e. read (sees is_close (f e)))))
@@ -129,33 +103,3 @@ pub record ReadsCondition (depth : ℕ) (tokens : List CodeToken) (i p : ℕ) (r
 -- What is left of a `for` after the first part of its head.
 abbrev pub for_rest : Spot → t.ForStart → Todo g.Stmt
 for_rest sp start = enter g.ExprEnd (λ e. enter g.SimpleEnd (λ x. enter g.Stmt (λ a. build (t.for_do sp start e x a))))
-
--- A statement begins with the word, one that is no declarator.
-abbrev pub begins_stmt : Option Word → Bool
-begins_stmt (Some (w.name x)) = true
-begins_stmt (Some (w.number i unsigned)) = true
-begins_stmt (Some (w.character i)) = true
-begins_stmt (Some (w.string bytes)) = true
-begins_stmt (Some (w.key Null)) = true
-begins_stmt (Some (w.key Eof)) = true
-begins_stmt (Some (w.key Ralloc)) = true
-begins_stmt (Some (w.key RarrayAlloc)) = true
-begins_stmt (Some (w.key Break)) = true
-begins_stmt (Some (w.key Continue)) = true
-begins_stmt (Some (w.key Do)) = true
-begins_stmt (Some (w.key For)) = true
-begins_stmt (Some (w.key If)) = true
-begins_stmt (Some (w.key Return)) = true
-begins_stmt (Some (w.key While)) = true
-begins_stmt (Some (w.mark m.Minus)) = true
-begins_stmt (Some (w.mark m.Plus)) = true
-begins_stmt (Some (w.mark m.Exclamation)) = true
-begins_stmt (Some (w.mark m.Tilde)) = true
-begins_stmt (Some (w.mark m.Star)) = true
-begins_stmt (Some (w.mark m.Ampersand)) = true
-begins_stmt (Some (w.mark m.OpenParenthesis)) = true
-begins_stmt (Some (w.mark m.Semicolon)) = true
-begins_stmt (Some (w.mark m.OpenBrace)) = true
-begins_stmt (Some (w.mark m.PlusPlus)) = true
-begins_stmt (Some (w.mark m.MinusMinus)) = true
-begins_stmt _ = false

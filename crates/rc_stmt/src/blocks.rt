@@ -8,17 +8,19 @@ ghost use Rattle.rc_syntax.specs.Tree as t;
 ghost use Rattle.rc_syntax.specs.Grammar as g;
 ghost use Rattle.rc_syntax.specs.reader.Reading as r;
 ghost use Rattle.rc_syntax.specs.Shape as shape;
-ghost use Rattle.rc_expr.specs.Goes.{word_at, Stands, Misses, begins_base};
+ghost use Rattle.rc_words.specs.Words.{word_at, Stands, Misses};
+ghost use Rattle.rc_expr.specs.Goes.{begins_base};
 ghost use Rattle.rc_stmt.specs.Shapes.{boxed_stmt};
 ghost use Rattle.rc_stmt.specs.Along.{Parses, Proceeds, Starts, Grows};
 
 use crate::locals::locals;
 use crate::parts::expect_mark;
 use crate::statements::statement;
-use rc_expr::{add, base_begins, boxed, is_mark, spot_at};
+use rc_expr::{add, base_begins, boxed};
 use rc_syntax::fault::ParseFault;
 use rc_syntax::tree::{Local, Stmt};
 use rc_syntax::word::{Mark, Token};
+use rc_words::{is_mark, spot_at};
 use std::alloc::Global;
 
 /// Reads a block that is a statement.

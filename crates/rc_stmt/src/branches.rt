@@ -1,21 +1,22 @@
 // `if` statements (ISO C 6.8.4.1), and the conditions of statements.
-ghost use Rattle.std.specs.Prelude.{◌≡◌, ◌<◌, ◌≤◌, IfOk, length};
+ghost use Rattle.std.specs.Prelude.{◌<◌, ◌≤◌, IfOk, length};
 ghost use Rattle.rc_base.specs.Limits.{most_depth, most_words};
 ghost use Rattle.rc_syntax.specs.declared.word.Key.TheVariants.{If};
 ghost use Rattle.rc_syntax.specs.Tokens.{key};
 ghost use Rattle.rc_syntax.specs.Grammar as g;
 ghost use Rattle.rc_syntax.specs.reader.Reading as r;
-ghost use Rattle.rc_expr.specs.Goes.{boxed_of, spot_of, Stands};
+ghost use Rattle.rc_words.specs.Words.{spot_of, Stands};
+ghost use Rattle.rc_expr.specs.Goes.{boxed_of};
 ghost use Rattle.rc_stmt.specs.Shapes.{boxed_stmt};
 ghost use Rattle.rc_stmt.specs.Along.{Proceeds, Starts, ReadsCondition};
 
 use crate::nodes::{if_else_node, if_node};
 use crate::parts::{expect_mark, expression};
 use crate::statements::statement;
-use rc_expr::{is_key, spot_at};
 use rc_syntax::fault::ParseFault;
 use rc_syntax::tree::{Expr, Stmt};
 use rc_syntax::word::{Key, Mark, Token};
+use rc_words::{is_key, spot_at};
 use std::alloc::Global;
 
 // "(" expr ")"

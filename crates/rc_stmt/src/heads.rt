@@ -5,17 +5,19 @@ ghost use Rattle.rc_syntax.specs.declared.word.Mark.TheVariants as m;
 ghost use Rattle.rc_syntax.specs.Tokens.{mark};
 ghost use Rattle.rc_syntax.specs.Grammar as g;
 ghost use Rattle.rc_syntax.specs.Shape as shape;
-ghost use Rattle.rc_expr.specs.Goes.{boxed_of, word_at, Misses, begins_base};
+ghost use Rattle.rc_words.specs.Words.{word_at, Misses};
+ghost use Rattle.rc_expr.specs.Goes.{boxed_of, begins_base};
 ghost use Rattle.rc_stmt.specs.Shapes.{boxed_simple, boxed_start};
 ghost use Rattle.rc_stmt.specs.Along.{Parses};
 
 use crate::locals::locals;
 use crate::parts::{expect_mark, expression};
 use crate::simples::simple;
-use rc_expr::{base_begins, boxed, is_mark};
+use rc_expr::{base_begins, boxed};
 use rc_syntax::fault::ParseFault;
 use rc_syntax::tree::{Expr, ForStart, Simple};
 use rc_syntax::word::{Mark, Token};
+use rc_words::is_mark;
 use std::alloc::Global;
 
 // local | [simple] ";"

@@ -1,7 +1,6 @@
 //! Reads statements, blocks and declarations of locals.
 #![tactic(auto)]
 
-mod begins;
 mod blocks;
 mod branches;
 mod heads;

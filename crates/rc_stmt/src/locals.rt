@@ -5,16 +5,17 @@ ghost use Rattle.rc_syntax.specs.declared.fault.ParseFault.TheVariants.{Memory};
 ghost use Rattle.rc_syntax.specs.Grammar as g;
 ghost use Rattle.rc_syntax.specs.reader.Reading as r;
 ghost use Rattle.rc_syntax.specs.Shape as shape;
-ghost use Rattle.rc_expr.specs.Goes.{spot_of};
+ghost use Rattle.rc_words.specs.Words.{spot_of};
 ghost use Rattle.rc_stmt.specs.Shapes.{local_declarator_of};
 ghost use Rattle.rc_stmt.specs.Along.{Parses, Proceeds};
 
 use crate::nodes::unboxed;
 use crate::parts::{base, expect_mark, expression, name, shared_base, stars};
-use rc_expr::{add, is_mark, spot_at};
+use rc_expr::add;
 use rc_syntax::fault::ParseFault;
 use rc_syntax::tree::{Base, Expr, Local, Name, Note, Spot, TypeName};
 use rc_syntax::word::{Mark, Token};
+use rc_words::{is_mark, spot_at};
 use std::alloc::Global;
 
 /// A declarator of a local, and what the local begins with.

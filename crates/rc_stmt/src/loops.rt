@@ -1,11 +1,11 @@
 // Loops (ISO C 6.8.5).
-ghost use Rattle.std.specs.Prelude.{◌≡◌, ◌<◌, ◌≤◌, IfOk, length};
+ghost use Rattle.std.specs.Prelude.{◌<◌, ◌≤◌, IfOk, length};
 ghost use Rattle.rc_base.specs.Limits.{most_depth, most_words};
 ghost use Rattle.rc_syntax.specs.declared.word.Key.TheVariants.{While, Do, For};
 ghost use Rattle.rc_syntax.specs.Tokens.{key};
 ghost use Rattle.rc_syntax.specs.Grammar as g;
 ghost use Rattle.rc_syntax.specs.reader.Reading as r;
-ghost use Rattle.rc_expr.specs.Goes.{spot_of, Stands};
+ghost use Rattle.rc_words.specs.Words.{spot_of, Stands};
 ghost use Rattle.rc_stmt.specs.Shapes.{boxed_start, boxed_stmt};
 ghost use Rattle.rc_stmt.specs.Along as along;
 ghost use Rattle.rc_stmt.specs.Along.{Proceeds, Starts};
@@ -15,10 +15,10 @@ use crate::heads::{expr_end, for_start, simple_end};
 use crate::nodes::{do_node, for_node, while_node};
 use crate::parts::{expect_key, expect_mark};
 use crate::statements::statement;
-use rc_expr::spot_at;
 use rc_syntax::fault::ParseFault;
 use rc_syntax::tree::{ForStart, Stmt};
 use rc_syntax::word::{Key, Mark, Token};
+use rc_words::spot_at;
 use std::alloc::Global;
 
 // "while" "(" expr ")" stmt

@@ -7,14 +7,15 @@ ghost use Rattle.rc_syntax.specs.Tokens.{mark, key};
 ghost use Rattle.rc_syntax.specs.Grammar as g;
 ghost use Rattle.rc_syntax.specs.reader.Todo.{build};
 ghost use Rattle.rc_syntax.specs.Shape.{type_of};
-ghost use Rattle.rc_expr.specs.Goes.{boxed_of, line_of, Stands, Misses};
+ghost use Rattle.rc_words.specs.Words.{line_of, Stands, Misses};
+ghost use Rattle.rc_expr.specs.Goes.{boxed_of};
 ghost use Rattle.rc_stmt.specs.Along.{Parses, Proceeds, IsNamed};
 
 use rc_base::MOST_WORDS;
-use rc_expr::{is_key, is_mark, refused_at, shared};
 use rc_syntax::fault::ParseFault;
 use rc_syntax::tree::{Base, Expr, Name, Note, TypeName};
 use rc_syntax::word::{Key, Mark, Token};
+use rc_words::{is_key, is_mark, refused_at, shared};
 use std::alloc::Global;
 
 /// Takes this mark, and answers the place after it.
@@ -46,7 +47,7 @@ pub fn name(tokens: &[Token], at: u32) -> Result<(Name, u32), ParseFault>
     requires { length tokens.now ≤ most_words }
     ensures { IsNamed tokens.now at result }
 {
-    rc_expr::name(tokens, at, MOST_WORDS)
+    rc_words::name(tokens, at, MOST_WORDS)
 }
 
 // base = "int" | "unsigned" ["int"] | "char" | "region" | "struct" NAME .

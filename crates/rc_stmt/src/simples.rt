@@ -5,17 +5,19 @@ ghost use Rattle.rc_syntax.specs.declared.word.Mark.TheVariants as m;
 ghost use Rattle.rc_syntax.specs.Tokens.{mark};
 ghost use Rattle.rc_syntax.specs.Grammar as g;
 ghost use Rattle.rc_syntax.specs.reader.Reading as r;
-ghost use Rattle.rc_expr.specs.Goes.{boxed_of, spot_of, word_at, Stands, Misses};
+ghost use Rattle.rc_words.specs.Words.{spot_of, word_at, Stands, Misses};
+ghost use Rattle.rc_expr.specs.Goes.{boxed_of};
 ghost use Rattle.rc_stmt.specs.Shapes.{boxed_simple};
 ghost use Rattle.rc_stmt.specs.Along as along;
 ghost use Rattle.rc_stmt.specs.Along.{Parses, Proceeds, AssignmentStands, assignment_in};
 
 use crate::nodes::{assign_node, update_node};
 use crate::parts::{expression, operand};
-use rc_expr::{boxed, is_mark, mark_at, spot_at};
+use rc_expr::boxed;
 use rc_syntax::fault::ParseFault;
 use rc_syntax::tree::{BinaryOp, Expr, Simple, StepOp};
 use rc_syntax::word::{Mark, Token};
+use rc_words::{is_mark, mark_at, spot_at};
 use std::alloc::Global;
 
 /// What a mark after a left side does with it.

@@ -5,12 +5,11 @@ ghost use Rattle.rc_syntax.specs.declared.word.Key.TheVariants.{Break, Continue,
 ghost use Rattle.rc_syntax.specs.declared.word.Mark.TheVariants as m;
 ghost use Rattle.rc_syntax.specs.Tokens.{mark, key};
 ghost use Rattle.rc_syntax.specs.Grammar as g;
-ghost use Rattle.rc_expr.specs.Goes.{word_at, Stands};
+ghost use Rattle.rc_words.specs.Words.{word_at, Stands};
 ghost use Rattle.rc_stmt.specs.Shapes.{boxed_stmt};
-ghost use Rattle.rc_stmt.specs.Along as along;
+ghost use Rattle.rc_words.specs.Begins.{first_word, head_in};
 ghost use Rattle.rc_stmt.specs.Along.{Parses, Starts};
 
-use crate::begins::{Head, head_at, too_deep};
 use crate::blocks::block_statement;
 use crate::branches::if_statement;
 use crate::heads::expr_end;
@@ -19,10 +18,11 @@ use crate::nodes::unboxed;
 use crate::parts::expect_mark;
 use crate::simples::simple;
 use rc_base::MOST_DEPTH;
-use rc_expr::{boxed, spot_at};
+use rc_expr::boxed;
 use rc_syntax::fault::ParseFault;
 use rc_syntax::tree::Stmt;
 use rc_syntax::word::{Mark, Token};
+use rc_words::{Head, head_at, spot_at, too_deep};
 use std::alloc::Global;
 
 // stmt = block | ";" | simple ";"
@@ -81,7 +81,7 @@ fn headed(
     depth: u32,
 ) -> Result<(Box<Stmt>, u32), ParseFault>
     requires few { length tokens.now ≤ most_words }
-    requires here { Stands tokens.now at (along.first_word head) }
+    requires here { Stands tokens.now at (first_word head) }
     requires shallow { depth ≤ most_depth }
     ensures reads { Starts g.Stmt depth tokens.now at boxed_stmt result }
     ensures place { IfOk result (λ r. (at < r.1) × (r.1 ≤ length tokens.now)) }
@@ -128,7 +128,7 @@ fn simple_statement(
     requires few { length tokens.now ≤ most_words }
     requires within { at ≤ length tokens.now }
     requires shallow { depth ≤ most_depth }
-    requires other { along.head_in (word_at tokens.now at) ≡ None }
+    requires other { head_in (word_at tokens.now at) ≡ None }
     ensures reads { Starts g.Stmt depth tokens.now at boxed_stmt result }
     ensures place { IfOk result (λ r. (at < r.1) × (r.1 ≤ length tokens.now)) }
 {

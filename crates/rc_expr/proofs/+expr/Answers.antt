@@ -10,7 +10,8 @@ use Rattle.rc_syntax.specs.reader.Todo.{Todo, build, read, sees, try, enter}
 use Rattle.rc_syntax.specs.reader.Reading.{is_close, is_comma, is_colon, is_open, is_close_bracket, otherwise, unary_in, call, allocated, array_allocated}
 use Rattle.rc_syntax.specs.Shape.{expr_of, exprs_of, type_of}
 use Rattle.rc_syntax.specs.reader.Steps.{run}
-use Rattle.rc_expr.specs.Goes.{boxed_of, amid, inside, spot_of, from, typed_rest}
+use Rattle.rc_words.specs.Words.{spot_of, from}
+use Rattle.rc_expr.specs.Goes.{boxed_of, amid, inside, typed_rest}
 use Rattle.rc_expr.proofs.Running.{passes, goes_along, begins_with, around, deeper, closes, enters, part, took, far_fault, expected, expected_fault, missed}
 use Rattle.rc_expr.proofs.Tests.{open_else, close_else, close_bracket_else, comma_else, colon_else, quiet_unary, quiet_level, quiet_expression, quiet_arguments}
 use Rattle.rc_expr.proofs.Values.{exprs_with_last}

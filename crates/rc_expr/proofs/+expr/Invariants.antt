@@ -4,7 +4,8 @@ use Rattle.rc_syntax.specs.Grammar.{Symbol, Level, Unary, Arguments}
 use Rattle.rc_syntax.specs.reader.Todo.{build}
 use Rattle.rc_syntax.specs.Shape.{exprs_of}
 use Rattle.rc_syntax.specs.reader.Steps.{Stack, about, run}
-use Rattle.rc_expr.specs.Goes.{boxed_of, from, amid, Within}
+use Rattle.rc_words.specs.Words.{from}
+use Rattle.rc_expr.specs.Goes.{boxed_of, amid, Within}
 use Rattle.rc_expr.proofs.+expr.Given as goal
 
 abbrev pub decreases-calls::arguments : goal.decreases-calls::arguments

@@ -1,4 +1,4 @@
-use Rattle.std.proofs.Common.{◌≤◌, ◌+◌, Some, refl, sym, ap, ◌∙◌, subst, arith}
+use Rattle.std.proofs.Common.{◌≤◌, ◌+◌, Some, refl, sym, ap, ◌∙◌, arith}
 use Rattle.rc_syntax.specs.declared.word.Key.TheVariants.{If, While, Do, For}
 use Rattle.rc_syntax.specs.declared.word.Key.TheVariants as y
 use Rattle.rc_syntax.specs.declared.word.Mark.TheVariants as m
@@ -8,17 +8,18 @@ use Rattle.rc_syntax.specs.Tree as t
 use Rattle.rc_syntax.specs.Grammar.{TreeOf, Stmt, Block, Body, ForStart, ExprEnd, SimpleEnd, joined}
 use Rattle.rc_syntax.specs.reader.Todo.{Todo, build, read, sees, enter, only, when}
 use Rattle.rc_syntax.specs.reader.Reading as r
-use Rattle.rc_syntax.specs.reader.Reading.{is_open, is_close, is_semicolon, is_else, is_close_brace, is_open_brace}
+use Rattle.rc_syntax.specs.reader.Reading.{is_open, is_else}
 use Rattle.rc_syntax.specs.Shape.{mapped, stmts_of as all_of}
 use Rattle.rc_stmt.specs.Shapes.{boxed_simple, boxed_start, boxed_stmt}
 use Rattle.rc_expr.specs.Goes.{boxed_of}
 use Rattle.rc_syntax.specs.reader.Steps.{run}
 use Rattle.rc_syntax.proofs.Rows.{block_is}
-use Rattle.rc_expr.specs.Goes.{from, spot_of, amid, inside, Stands}
-use Rattle.rc_expr.proofs.Standing.{word_stands}
+use Rattle.rc_words.specs.Words.{from, spot_of}
+use Rattle.rc_expr.specs.Goes.{amid, inside}
+use Rattle.rc_words.proofs.Standing.{word_stands}
 use Rattle.rc_expr.proofs.Running.{opens}
 use Rattle.rc_expr.proofs.Tests.{open_else}
-use Rattle.rc_stmt.specs.Along.{for_rest, behind_body, first_word as head_word}
+use Rattle.rc_stmt.specs.Along.{for_rest, behind_body}
 use Rattle.rc_stmt.proofs.Going.{fails, fails_first, fails_start, flat, first_word, first_refused, word, no_word, word_refused, part, part_refused, ends_plain}
 use Rattle.rc_stmt.proofs.Tests.{else_else, open_brace_else}
 use Rattle.rc_stmt.proofs.Stated.{first_part_at, first_part_refused_at, nested_in, too_deep_at, condition_part, condition_refused, stmt_block, grows, grows_not, grows_fails, body_stmt, body_refused, body_read}

@@ -5,7 +5,8 @@ use Rattle.rc_syntax.specs.reader.Todo.{build}
 use Rattle.rc_syntax.specs.reader.Reading.{block_body}
 use Rattle.rc_syntax.specs.Shape.{stmts_of}
 use Rattle.rc_syntax.specs.reader.Steps.{Stack, run}
-use Rattle.rc_expr.specs.Goes.{from, amid, inside}
+use Rattle.rc_words.specs.Words.{from}
+use Rattle.rc_expr.specs.Goes.{amid, inside}
 use Rattle.rc_stmt.specs.Along.{Outside, behind_body}
 use Rattle.rc_stmt.proofs.+statement.Given as goal
 

@@ -6,7 +6,8 @@ use Rattle.rc_syntax.specs.Grammar.{TypeName, Unary}
 use Rattle.rc_syntax.specs.reader.Todo.{Todo, build, read, sees, enter}
 use Rattle.rc_syntax.specs.reader.Reading.{is_close, is_comma}
 use Rattle.rc_syntax.specs.Shape.{type_of}
-use Rattle.rc_expr.specs.Goes.{inside, spot_of, from}
+use Rattle.rc_words.specs.Words.{spot_of, from}
+use Rattle.rc_expr.specs.Goes.{inside}
 use Rattle.rc_expr.proofs.Running.{passes, around, deeper_around, expected, expected_fault, part, enters}
 use Rattle.rc_expr.proofs.Tests.{comma_else, close_else, quiet_plain}
 use Rattle.rc_expr.proofs.calls.type_argument.Goals as goal

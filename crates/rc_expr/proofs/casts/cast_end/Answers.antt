@@ -2,7 +2,7 @@ use Rattle.std.proofs.Common.{◌≤◌, ◌+◌, refl, arith}
 use Rattle.rc_syntax.specs.declared.word.Mark.TheVariants as m
 use Rattle.rc_syntax.specs.Tokens.{mark}
 use Rattle.rc_syntax.specs.reader.Reading.{is_close, cast_to}
-use Rattle.rc_expr.specs.Goes.{spot_of}
+use Rattle.rc_words.specs.Words.{spot_of}
 use Rattle.rc_expr.proofs.Running.{passes, around, expected, expected_fault}
 use Rattle.rc_expr.proofs.Tests.{close_else}
 use Rattle.rc_expr.proofs.casts.cast_end.Goals as goal

@@ -2,7 +2,8 @@ use Rattle.std.proofs.Common.{◌≤◌, ◌+◌, ◌-◌, ap, refl, ◌∙◌, 
 use Rattle.rc_syntax.specs.Tokens.{key}
 use Rattle.rc_syntax.specs.reader.Reading.{parenthesized, cast_to}
 use Rattle.rc_syntax.specs.reader.Steps.{run}
-use Rattle.rc_expr.specs.Goes.{amid, spot_of, from, cast_rest, key_of}
+use Rattle.rc_words.specs.Words.{spot_of, from}
+use Rattle.rc_expr.specs.Goes.{amid, cast_rest, key_of}
 use Rattle.rc_expr.proofs.Running.{passes, goes_along, around, took, far_fault}
 use Rattle.rc_expr.proofs.Parts.{cast_step}
 use Rattle.rc_expr.proofs.casts.cast_type.Goals as goal

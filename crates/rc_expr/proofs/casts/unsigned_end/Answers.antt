@@ -6,7 +6,8 @@ use Rattle.rc_syntax.specs.Tokens.{key}
 use Rattle.rc_syntax.specs.Grammar.{Unary}
 use Rattle.rc_syntax.specs.reader.Todo.{Todo, read, sees}
 use Rattle.rc_syntax.specs.reader.Reading.{is_close, is_int, cast_to}
-use Rattle.rc_expr.specs.Goes.{amid, spot_of, unsigned_rest}
+use Rattle.rc_words.specs.Words.{spot_of}
+use Rattle.rc_expr.specs.Goes.{amid, unsigned_rest}
 use Rattle.rc_expr.proofs.Running.{passes, goes_along, around, took, far_fault, missed}
 use Rattle.rc_expr.proofs.Tests.{int_else}
 use Rattle.rc_expr.proofs.casts.unsigned_end.Goals as goal

@@ -2,7 +2,8 @@ use Rattle.std.proofs.Common.{◌≤◌, ◌+◌, ◌++◌, ◌∷◌, [], lengt
 use Rattle.rc_syntax.specs.reader.Todo.{build}
 use Rattle.rc_syntax.specs.reader.Reading.{starred}
 use Rattle.rc_syntax.specs.reader.Steps.{run}
-use Rattle.rc_expr.specs.Goes.{amid, from}
+use Rattle.rc_words.specs.Words.{from}
+use Rattle.rc_expr.specs.Goes.{amid}
 use Rattle.rc_expr.proofs.Running.{goes_along, star_taken}
 use Rattle.rc_expr.proofs.types.star.Goals as goal
 

@@ -2,7 +2,8 @@ use Rattle.std.proofs.Common.{◌≡◌, ◌≤◌, ◌-◌, ℕ, [], length}
 use Rattle.rc_syntax.specs.Grammar.{Symbol, Stars}
 use Rattle.rc_syntax.specs.reader.Todo.{build}
 use Rattle.rc_syntax.specs.reader.Steps.{Stack, run}
-use Rattle.rc_expr.specs.Goes.{from, amid, Around}
+use Rattle.rc_words.specs.Words.{from}
+use Rattle.rc_expr.specs.Goes.{amid, Around}
 use Rattle.rc_expr.proofs.types.stars.Given as goal
 
 abbrev pub invariant-loop-notes : goal.invariant-loop-notes

@@ -3,7 +3,8 @@ use Rattle.rc_syntax.specs.declared.tree.Note.{Note}
 use Rattle.rc_syntax.specs.Grammar.{Base, Stars, TypeName, typed}
 use Rattle.rc_syntax.specs.reader.Todo.{Todo, build}
 use Rattle.rc_syntax.specs.reader.Reading.{with_stars}
-use Rattle.rc_expr.specs.Goes.{inside, spot_of, from}
+use Rattle.rc_words.specs.Words.{spot_of, from}
+use Rattle.rc_expr.specs.Goes.{inside}
 use Rattle.rc_expr.proofs.Running.{passes, begins_with, deeper_around, closes, opens}
 use Rattle.rc_expr.proofs.Tests.{quiet_plain, quiet_stars}
 use Rattle.rc_expr.proofs.types.type_name.Goals as goal

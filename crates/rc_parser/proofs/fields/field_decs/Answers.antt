@@ -2,7 +2,7 @@ use Rattle.std.proofs.Common.{◌<◌, ◌≤◌, ◌+◌, [], ◌∷◌, ◌++�
 use Rattle.std.proofs.lemmas.List.{map-append}
 use Rattle.rc_syntax.specs.Grammar.{TreeOf, FieldDecs, FieldDec}
 use Rattle.rc_syntax.specs.reader.Todo.{Todo, build, enter}
-use Rattle.rc_expr.specs.Goes.{spot_of}
+use Rattle.rc_words.specs.Words.{spot_of}
 use Rattle.rc_parser.specs.Shapes.{declarator_of}
 use Rattle.rc_stmt.specs.Along.{Proceeds}
 use Rattle.rc_stmt.proofs.Going.{fails, fails_first, flat, first_part, first_part_refused, comma, part, part_refused, ends}

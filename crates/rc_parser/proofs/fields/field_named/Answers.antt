@@ -5,7 +5,7 @@ use Rattle.rc_syntax.specs.Tokens.{mark}
 use Rattle.rc_syntax.specs.reader.Todo.{build, read, sees}
 use Rattle.rc_syntax.specs.Grammar.{FieldDeclarator}
 use Rattle.rc_syntax.specs.reader.Reading.{is_open_bracket, is_close_bracket, length_in}
-use Rattle.rc_expr.specs.Goes.{spot_of}
+use Rattle.rc_words.specs.Words.{spot_of}
 use Rattle.rc_expr.proofs.Tests.{close_bracket_else}
 use Rattle.rc_stmt.proofs.Going.{fails, word, no_word, word_refused, ends_plain}
 use Rattle.rc_parser.proofs.Numbers.{number_read, number_refused}

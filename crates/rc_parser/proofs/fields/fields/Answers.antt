@@ -4,7 +4,7 @@ use Rattle.rc_syntax.specs.Tree as t
 use Rattle.rc_syntax.specs.Grammar.{Fields, Field as FieldSymbol}
 use Rattle.rc_syntax.specs.reader.Todo.{Todo, build}
 use Rattle.rc_syntax.specs.Shape.{field_of}
-use Rattle.rc_expr.specs.Goes.{spot_of}
+use Rattle.rc_words.specs.Words.{spot_of}
 use Rattle.rc_stmt.specs.Along.{Proceeds}
 use Rattle.rc_stmt.proofs.Going.{fails, fails_first, flat, first_part, first_part_refused}
 use Rattle.rc_stmt.proofs.Inside.{more_part, more_part_refused, ends_calm}

@@ -7,7 +7,7 @@ use Rattle.rc_syntax.specs.Grammar.{Item, TypeName}
 use Rattle.rc_syntax.specs.reader.Todo.{Todo, enter}
 use Rattle.rc_syntax.specs.reader.Reading.{is_void, item_deleting, function_named}
 use Rattle.rc_syntax.specs.Shape.{type_of}
-use Rattle.rc_expr.specs.Goes.{spot_of}
+use Rattle.rc_words.specs.Words.{spot_of}
 use Rattle.rc_stmt.proofs.Going.{fails_first, flat, first_word, word, no_word, part, part_refused}
 use Rattle.rc_stmt.proofs.Tests.{void_else}
 use Rattle.rc_parser.proofs.functions.deleting.Goals as goal

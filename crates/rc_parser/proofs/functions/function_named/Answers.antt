@@ -8,7 +8,7 @@ use Rattle.rc_syntax.specs.Grammar.{Item}
 use Rattle.rc_syntax.specs.reader.Todo.{Todo, stop, read, sees}
 use Rattle.rc_syntax.specs.reader.Reading.{is_open, function_params}
 use Rattle.rc_syntax.specs.Shape.{type_of, mapped}
-use Rattle.rc_expr.specs.Goes.{spot_of}
+use Rattle.rc_words.specs.Words.{spot_of}
 use Rattle.rc_expr.proofs.Tests.{open_else}
 use Rattle.rc_stmt.proofs.Going.{fails, name_read, name_refused, word, word_refused}
 use Rattle.rc_parser.proofs.functions.function_named.Goals as goal

@@ -6,7 +6,7 @@ use Rattle.rc_syntax.specs.Grammar.{Item, ParamsEnd, FunctionEnd, FunctionEnding
 use Rattle.rc_syntax.specs.reader.Todo.{Todo, build, enter}
 use Rattle.rc_syntax.specs.reader.Reading.{function_of}
 use Rattle.rc_syntax.specs.Shape.{item_of, param_of, type_of, mapped}
-use Rattle.rc_expr.specs.Goes.{spot_of}
+use Rattle.rc_words.specs.Words.{spot_of}
 use Rattle.rc_parser.specs.Shapes.{ending_of}
 use Rattle.rc_stmt.proofs.Going.{fails, part, part_refused, ends_plain}
 use Rattle.rc_parser.proofs.functions.function_params.Goals as goal

@@ -2,7 +2,7 @@ use Rattle.std.proofs.Common.{◌≤◌, ◌+◌, None, false, refl, arith}
 use Rattle.rc_syntax.specs.declared.word.Key.TheVariants.{Void}
 use Rattle.rc_syntax.specs.Tokens.{key}
 use Rattle.rc_syntax.specs.reader.Reading.{function_named}
-use Rattle.rc_expr.specs.Goes.{spot_of}
+use Rattle.rc_words.specs.Words.{spot_of}
 use Rattle.rc_stmt.proofs.Going.{flat, first_word}
 use Rattle.rc_parser.proofs.functions.resultless.Goals as goal
 

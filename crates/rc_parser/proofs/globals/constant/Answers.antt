@@ -1,8 +1,8 @@
 use Rattle.std.proofs.Common.{◌≡◌, ◌≤◌, ◌+◌, Some, refl, sym, ap, ◌∙◌, arith}
 use Rattle.rc_syntax.specs.reader.Todo.{build, only}
 use Rattle.rc_syntax.specs.WordShapes.{word_of}
-use Rattle.rc_expr.specs.Goes.{spot_of}
-use Rattle.rc_expr.proofs.Standing.{word_stands}
+use Rattle.rc_words.specs.Words.{spot_of}
+use Rattle.rc_words.proofs.Standing.{word_stands}
 use Rattle.rc_parser.specs.Items.{constant_of}
 use Rattle.rc_stmt.proofs.Going.{flat, first_word, ends_plain}
 use Rattle.rc_parser.proofs.Declared.{given, constant_reads}

@@ -1,7 +1,7 @@
 use Rattle.std.proofs.Common.{◌≡◌, ◌≤◌, ◌-◌, refl, arith}
 use Rattle.rc_syntax.specs.Grammar.{FieldDec}
 use Rattle.rc_syntax.specs.reader.Reading.{initialised, field_named}
-use Rattle.rc_expr.specs.Goes.{spot_of}
+use Rattle.rc_words.specs.Words.{spot_of}
 use Rattle.rc_parser.specs.Shapes.{declarator_of}
 use Rattle.rc_stmt.proofs.Going.{fails}
 use Rattle.rc_stmt.proofs.Inside.{resumed, resumed_refused}

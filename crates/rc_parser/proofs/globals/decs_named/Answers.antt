@@ -1,7 +1,7 @@
 use Rattle.std.proofs.Common.{◌≡◌, ◌≤◌, ◌-◌, [], ◌∷◌, refl, arith}
 use Rattle.rc_syntax.specs.Grammar.{TreeOf, Dec, Decs}
 use Rattle.rc_syntax.specs.reader.Todo.{Todo, build}
-use Rattle.rc_expr.specs.Goes.{spot_of}
+use Rattle.rc_words.specs.Words.{spot_of}
 use Rattle.rc_parser.specs.Shapes.{global_of}
 use Rattle.rc_parser.specs.Items.{declarator_rest}
 use Rattle.rc_stmt.proofs.Going.{fails}

@@ -6,7 +6,7 @@ use Rattle.rc_syntax.specs.Tokens.{mark}
 use Rattle.rc_syntax.specs.Grammar.{Constant}
 use Rattle.rc_syntax.specs.reader.Todo.{Todo, build}
 use Rattle.rc_syntax.specs.reader.Reading.{constant_in}
-use Rattle.rc_expr.specs.Goes.{spot_of}
+use Rattle.rc_words.specs.Words.{spot_of}
 use Rattle.rc_stmt.proofs.Going.{fails_first, flat, first_word, ends_plain}
 use Rattle.rc_parser.proofs.Numbers.{number_read, number_refused}
 use Rattle.rc_parser.proofs.globals.negative.Goals as goal

@@ -5,7 +5,7 @@ use Rattle.rc_syntax.specs.Tokens.{mark}
 use Rattle.rc_syntax.specs.Grammar.{TreeOf, Item, Decs, global}
 use Rattle.rc_syntax.specs.reader.Todo.{Todo, build, stop, read, sees}
 use Rattle.rc_syntax.specs.reader.Reading.{is_semicolon}
-use Rattle.rc_expr.specs.Goes.{spot_of}
+use Rattle.rc_words.specs.Words.{spot_of}
 use Rattle.rc_parser.specs.Shapes.{global_of}
 use Rattle.rc_parser.specs.Items.{dec_rest}
 use Rattle.rc_stmt.proofs.Going.{fails, word, word_refused, ends_plain}

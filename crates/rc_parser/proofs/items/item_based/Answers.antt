@@ -5,7 +5,7 @@ use Rattle.rc_syntax.specs.declared.tree.Note.{Note}
 use Rattle.rc_syntax.specs.Grammar.{Item, Stars}
 use Rattle.rc_syntax.specs.reader.Todo.{Todo, stop, read}
 use Rattle.rc_syntax.specs.reader.Reading.{named, item_named}
-use Rattle.rc_expr.specs.Goes.{spot_of}
+use Rattle.rc_words.specs.Words.{spot_of}
 use Rattle.rc_stmt.proofs.Going.{fails, opened_part, opened_part_refused, name_read, name_refused}
 use Rattle.rc_parser.proofs.Itemed.{peeked}
 use Rattle.rc_parser.proofs.items.item_based.Goals as goal

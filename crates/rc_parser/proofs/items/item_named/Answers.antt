@@ -3,7 +3,7 @@ use Rattle.rc_syntax.specs.declared.word.Mark.TheVariants as m
 use Rattle.rc_syntax.specs.Tokens.{mark}
 use Rattle.rc_syntax.specs.Grammar.{typed}
 use Rattle.rc_syntax.specs.reader.Reading.{is_open, function_params, global_named}
-use Rattle.rc_expr.specs.Goes.{spot_of}
+use Rattle.rc_words.specs.Words.{spot_of}
 use Rattle.rc_expr.proofs.Tests.{open_else}
 use Rattle.rc_stmt.proofs.Going.{word, no_word}
 use Rattle.rc_parser.proofs.items.item_named.Goals as goal

@@ -3,7 +3,7 @@ use Rattle.std.proofs.lemmas.List.{map-append}
 use Rattle.rc_syntax.specs.declared.tree.Tree.{Tree}
 use Rattle.rc_syntax.specs.Shape.{item_of}
 use Rattle.rc_syntax.specs.reader.Steps.{run}
-use Rattle.rc_expr.specs.Goes.{from}
+use Rattle.rc_words.specs.Words.{from}
 use Rattle.rc_parser.proofs.Texts.{behind, item_read, item_refused, rest_refused, text_read, text_fails}
 use Rattle.rc_parser.proofs.items.parse.Goals as goal
 

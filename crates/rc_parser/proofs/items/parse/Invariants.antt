@@ -2,7 +2,7 @@ use Rattle.std.proofs.Common.{◌≡◌, ◌≤◌, ◌-◌, length, map}
 use Rattle.rc_syntax.specs.Grammar.{Text}
 use Rattle.rc_syntax.specs.Shape.{item_of}
 use Rattle.rc_syntax.specs.reader.Steps.{entry, run}
-use Rattle.rc_expr.specs.Goes.{from}
+use Rattle.rc_words.specs.Words.{from}
 use Rattle.rc_parser.proofs.Texts.{behind}
 use Rattle.rc_parser.proofs.items.parse.Given as goal
 

@@ -8,7 +8,7 @@ use Rattle.rc_syntax.specs.Grammar.{TreeOf, Item, Fields}
 use Rattle.rc_syntax.specs.reader.Todo.{Todo, build, stop, read, sees}
 use Rattle.rc_syntax.specs.reader.Reading.{is_semicolon, is_close_brace}
 use Rattle.rc_syntax.specs.Shape.{item_of, field_of}
-use Rattle.rc_expr.specs.Goes.{spot_of}
+use Rattle.rc_words.specs.Words.{spot_of}
 use Rattle.rc_stmt.proofs.Going.{fails, part, part_refused, word, word_refused, ends_plain}
 use Rattle.rc_stmt.proofs.Tests.{semicolon_else, close_brace_else}
 use Rattle.rc_parser.proofs.items.struct_fields.Goals as goal

@@ -3,7 +3,7 @@ use Rattle.rc_syntax.specs.declared.word.Key.TheVariants.{Struct}
 use Rattle.rc_syntax.specs.Tokens.{key}
 use Rattle.rc_syntax.specs.reader.Todo.{stop, read}
 use Rattle.rc_syntax.specs.reader.Reading.{named, struct_named}
-use Rattle.rc_expr.specs.Goes.{spot_of}
+use Rattle.rc_words.specs.Words.{spot_of}
 use Rattle.rc_stmt.proofs.Going.{fails_first, flat, first_word, name_read, name_refused}
 use Rattle.rc_parser.proofs.items.struct_item.Goals as goal
 

@@ -5,7 +5,7 @@ use Rattle.rc_syntax.specs.Tokens.{mark}
 use Rattle.rc_syntax.specs.Grammar.{Item}
 use Rattle.rc_syntax.specs.reader.Reading.{is_open_brace, struct_fields, item_based}
 use Rattle.rc_syntax.specs.Shape.{item_of}
-use Rattle.rc_expr.specs.Goes.{spot_of}
+use Rattle.rc_words.specs.Words.{spot_of}
 use Rattle.rc_stmt.specs.Along.{Proceeds}
 use Rattle.rc_stmt.proofs.Going.{word, no_word}
 use Rattle.rc_stmt.proofs.Tests.{open_brace_else}

@@ -5,7 +5,7 @@ use Rattle.rc_syntax.specs.Tree as t
 use Rattle.rc_syntax.specs.Grammar.{Param}
 use Rattle.rc_syntax.specs.reader.Todo.{Todo, build}
 use Rattle.rc_syntax.specs.Shape.{type_of}
-use Rattle.rc_expr.specs.Goes.{spot_of}
+use Rattle.rc_words.specs.Words.{spot_of}
 use Rattle.rc_stmt.proofs.Going.{name_read, no_name, ends_plain}
 use Rattle.rc_parser.proofs.params.param_typed.Goals as goal
 

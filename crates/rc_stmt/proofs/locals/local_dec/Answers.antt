@@ -1,7 +1,7 @@
 use Rattle.std.proofs.Common.{◌≤◌, [], refl, arith}
 use Rattle.rc_syntax.specs.Grammar.{Stars}
 use Rattle.rc_syntax.specs.reader.Reading.{local_starred, local_named}
-use Rattle.rc_expr.specs.Goes.{spot_of}
+use Rattle.rc_words.specs.Words.{spot_of}
 use Rattle.rc_stmt.proofs.Going.{fails_first, flat, opened_part, opened_part_refused, name_read, name_refused}
 use Rattle.rc_stmt.proofs.Declarators.{local_starts}
 use Rattle.rc_stmt.proofs.locals.local_dec.Goals as goal

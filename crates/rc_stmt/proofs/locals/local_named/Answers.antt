@@ -9,7 +9,7 @@ use Rattle.rc_syntax.specs.Grammar.{LocalDec, Level, LocalDeclarator}
 use Rattle.rc_syntax.specs.reader.Todo.{Todo, build, enter}
 use Rattle.rc_syntax.specs.reader.Reading.{is_equal}
 use Rattle.rc_expr.specs.Goes.{boxed_of}
-use Rattle.rc_expr.specs.Goes.{spot_of}
+use Rattle.rc_words.specs.Words.{spot_of}
 use Rattle.rc_stmt.proofs.Going.{fails, word, no_word, part, part_refused, ends_plain}
 use Rattle.rc_stmt.proofs.Tests.{equal_else}
 use Rattle.rc_stmt.proofs.locals.local_named.Goals as goal

@@ -9,7 +9,7 @@ use Rattle.rc_syntax.specs.reader.Todo.{Todo, build, read, sees}
 use Rattle.rc_syntax.specs.reader.Reading.{is_while, is_semicolon}
 use Rattle.rc_stmt.specs.Shapes.{boxed_stmt}
 use Rattle.rc_expr.specs.Goes.{boxed_of}
-use Rattle.rc_expr.specs.Goes.{spot_of}
+use Rattle.rc_words.specs.Words.{spot_of}
 use Rattle.rc_stmt.specs.Along.{conditioned}
 use Rattle.rc_stmt.proofs.Going.{fails, word, word_refused, ends_plain}
 use Rattle.rc_stmt.proofs.Tests.{semicolon_else, while_else}

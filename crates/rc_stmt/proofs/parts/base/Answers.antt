@@ -1,6 +1,6 @@
 use Rattle.std.proofs.Common.{refl}
 use Rattle.rc_syntax.specs.Grammar.{Base}
-use Rattle.rc_expr.specs.Goes.{from, spot_of}
+use Rattle.rc_words.specs.Words.{from, spot_of}
 use Rattle.rc_expr.proofs.Tests.{quiet_plain}
 use Rattle.rc_stmt.proofs.Going.{from_anywhere}
 use Rattle.rc_stmt.proofs.parts.base.Goals as goal

@@ -3,7 +3,8 @@ use Rattle.std.specs.Prelude.{IfOk}
 use Rattle.rc_syntax.specs.declared.word.Mark.TheVariants as m
 use Rattle.rc_syntax.specs.Tokens.{mark}
 use Rattle.rc_expr.specs.Goes.{boxed_of}
-use Rattle.rc_expr.specs.Goes.{spot_of, word_at, operator_from, Misses}
+use Rattle.rc_words.specs.Words.{spot_of, word_at, Misses}
+use Rattle.rc_expr.specs.Goes.{operator_from}
 use Rattle.rc_expr.proofs.Tests.{quiet_expression}
 use Rattle.rc_stmt.proofs.Going.{from_counted}
 use Rattle.rc_stmt.proofs.parts.expression.Goals as goal

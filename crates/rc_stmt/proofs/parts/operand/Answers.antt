@@ -1,7 +1,8 @@
 use Rattle.std.proofs.Common.{◌≡◌, true, refl, subst}
 use Rattle.std.specs.Prelude.{IfOk}
 use Rattle.rc_expr.specs.Goes.{boxed_of}
-use Rattle.rc_expr.specs.Goes.{spot_of, word_at, no_postfix}
+use Rattle.rc_words.specs.Words.{spot_of, word_at}
+use Rattle.rc_expr.specs.Goes.{no_postfix}
 use Rattle.rc_expr.proofs.Tests.{quiet_unary}
 use Rattle.rc_stmt.proofs.Going.{from_counted}
 use Rattle.rc_stmt.proofs.parts.operand.Goals as goal

@@ -2,7 +2,7 @@ use Rattle.std.proofs.Common.{refl, subst}
 use Rattle.std.specs.Prelude.{IfOk}
 use Rattle.rc_syntax.specs.declared.word.Mark.TheVariants as m
 use Rattle.rc_syntax.specs.Tokens.{mark}
-use Rattle.rc_expr.specs.Goes.{spot_of, Misses}
+use Rattle.rc_words.specs.Words.{spot_of, Misses}
 use Rattle.rc_expr.proofs.Tests.{quiet_stars}
 use Rattle.rc_stmt.proofs.Going.{on_from_anywhere}
 use Rattle.rc_stmt.proofs.parts.stars.Goals as goal

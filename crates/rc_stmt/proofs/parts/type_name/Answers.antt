@@ -1,7 +1,7 @@
 use Rattle.std.proofs.Common.{refl}
 use Rattle.rc_syntax.specs.Grammar.{TypeName}
 use Rattle.rc_syntax.specs.Shape.{type_of}
-use Rattle.rc_expr.specs.Goes.{from, spot_of}
+use Rattle.rc_words.specs.Words.{from, spot_of}
 use Rattle.rc_expr.proofs.Tests.{quiet_plain}
 use Rattle.rc_stmt.proofs.Going.{from_anywhere}
 use Rattle.rc_stmt.proofs.parts.type_name.Goals as goal

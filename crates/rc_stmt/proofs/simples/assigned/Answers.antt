@@ -9,7 +9,7 @@ use Rattle.rc_syntax.specs.reader.Todo.{Todo, build, enter}
 use Rattle.rc_syntax.specs.reader.Reading as r
 use Rattle.rc_syntax.specs.Shape.{expr_of, simple_of}
 use Rattle.rc_expr.specs.Goes.{boxed_of}
-use Rattle.rc_expr.specs.Goes.{spot_of}
+use Rattle.rc_words.specs.Words.{spot_of}
 use Rattle.rc_stmt.proofs.Going.{fails, part, part_refused, ends_plain}
 use Rattle.rc_stmt.proofs.Stated.{word_as, assigned_as}
 use Rattle.rc_stmt.proofs.simples.assigned.Goals as goal

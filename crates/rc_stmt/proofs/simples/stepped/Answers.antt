@@ -6,7 +6,7 @@ use Rattle.rc_syntax.specs.reader.Todo.{build}
 use Rattle.rc_syntax.specs.reader.Reading as r
 use Rattle.rc_syntax.specs.Shape.{expr_of, simple_of}
 use Rattle.rc_expr.specs.Goes.{boxed_of}
-use Rattle.rc_expr.specs.Goes.{spot_of}
+use Rattle.rc_words.specs.Words.{spot_of}
 use Rattle.rc_stmt.proofs.Going.{fails_first, flat, first_word, part, part_refused, ends_plain}
 use Rattle.rc_stmt.proofs.Stated.{step_leads}
 use Rattle.rc_stmt.proofs.simples.stepped.Goals as goal

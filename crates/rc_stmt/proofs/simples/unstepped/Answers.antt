@@ -4,7 +4,7 @@ use Rattle.rc_syntax.specs.Grammar.{Unary}
 use Rattle.rc_syntax.specs.reader.Reading as r
 use Rattle.rc_syntax.specs.Shape.{expr_of, simple_of}
 use Rattle.rc_expr.specs.Goes.{boxed_of}
-use Rattle.rc_expr.specs.Goes.{word_at}
+use Rattle.rc_words.specs.Words.{word_at}
 use Rattle.rc_stmt.specs.Along.{assignment_at}
 use Rattle.rc_stmt.proofs.Going.{fails_first, flat, ends_plain}
 use Rattle.rc_stmt.proofs.Stated.{first_part_at, first_part_refused_at, simple_begins, unary_read, evaluated_part, evaluated_refused}

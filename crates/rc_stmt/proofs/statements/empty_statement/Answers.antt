@@ -4,7 +4,7 @@ use Rattle.rc_syntax.specs.Tokens.{mark}
 use Rattle.rc_syntax.specs.Tree as t
 use Rattle.rc_syntax.specs.Shape.{stmt_of}
 use Rattle.rc_syntax.specs.reader.Todo.{build}
-use Rattle.rc_expr.specs.Goes.{spot_of}
+use Rattle.rc_words.specs.Words.{spot_of}
 use Rattle.rc_stmt.proofs.Going.{first_word, ends_plain}
 use Rattle.rc_stmt.proofs.statements.empty_statement.Goals as goal
 

@@ -7,7 +7,7 @@ use Rattle.rc_syntax.specs.Grammar.{Stmt, ExprEnd}
 use Rattle.rc_syntax.specs.reader.Todo.{Todo, build, enter}
 use Rattle.rc_syntax.specs.Shape.{stmt_of, mapped}
 use Rattle.rc_expr.specs.Goes.{boxed_of}
-use Rattle.rc_expr.specs.Goes.{spot_of}
+use Rattle.rc_words.specs.Words.{spot_of}
 use Rattle.rc_stmt.proofs.Going.{fails_start, first_word, part, part_refused, ends_plain}
 use Rattle.rc_stmt.proofs.Values.{expr_given}
 use Rattle.rc_stmt.proofs.statements.return_statement.Goals as goal

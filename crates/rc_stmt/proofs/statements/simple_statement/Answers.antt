@@ -8,7 +8,7 @@ use Rattle.rc_syntax.specs.reader.Todo.{Todo, build, read, sees}
 use Rattle.rc_syntax.specs.reader.Reading.{is_semicolon}
 use Rattle.rc_syntax.specs.Shape.{simple_of, stmt_of}
 use Rattle.rc_stmt.specs.Shapes.{boxed_simple}
-use Rattle.rc_expr.specs.Goes.{spot_of}
+use Rattle.rc_words.specs.Words.{spot_of}
 use Rattle.rc_stmt.proofs.Going.{fails_start, word, word_refused, ends_plain}
 use Rattle.rc_stmt.proofs.Tests.{semicolon_else}
 use Rattle.rc_stmt.proofs.Stated.{first_part_at, first_part_refused_at, stmt_simple}

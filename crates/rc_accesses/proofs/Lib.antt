@@ -1,0 +1,2 @@
+pub mod PathTypes
+pub mod Accesses
