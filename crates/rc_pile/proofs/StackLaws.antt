@@ -8,7 +8,7 @@ use Rattle.rc_core.specs.Heap.{Value}
 use Rattle.rc_pile.specs.declared.caller.Caller.{Caller}
 use Rattle.rc_pile.specs.declared.word.Word.{Word}
 use Rattle.rc_pile.specs.declared.pile.Frame.{Frame}
-use Rattle.rc_pile.specs.Words.{value_of}
+use Rattle.rc_pile.specs.Words.{value_of, zero_word}
 use Rattle.rc_pile.specs.Stacks.{Wait, Stack, part, waits_of, IsStacked, stack_of, widened, begun, with_locals, with_room, with_more, left, first_caller, started}
 
 module _ (words : List Word) (k : ℕ) (w : Word) where
@@ -70,22 +70,19 @@ popped words first top d h2 h3 =
     ∙ reverse-append (map value_of (take (top - 1 - first) (drop first words))) (value_of (slice_index_or (drop first words) (top - 1 - first) d) ∷ [])
     ∙ ap (λ x. value_of x ∷ reverse (map value_of (take (top - 1 - first) (drop first words)))) (get_or-drop first words (top - 1 - first) d ∙ ap (λ k. slice_index_or words k d) e)
 
-pub operand_at : (words : List Word) (first top k : ℕ) (w : Word) → k < top - first → top ≤ length words → w ≡ slice_index_or words (top - 1 - k) w → slice_get (reverse (part words first top)) k ≡ Some (value_of w)
+pub operand_at : (words : List Word) (first top k : ℕ) (w : Word) → k < top - first → top ≤ length words → w ≡ slice_index_or words (top - 1 - k) zero_word → slice_get (reverse (part words first top)) k ≡ Some (value_of w)
 operand_at words first top zero w h1 h2 e =
     let m : top - 1 - 0 ≡ top - 1 = omega arith in
-    ap (λ l. slice_get l 0) (popped words first top w (omega arith) h2) ∙ ap (λ x. Some (value_of x)) (sym (e ∙ ap (λ k. slice_index_or words k w) m))
+    ap (λ l. slice_get l 0) (popped words first top zero_word (omega arith) h2) ∙ ap (λ x. Some (value_of x)) (sym (e ∙ ap (λ k. slice_index_or words k zero_word) m))
 operand_at words first top (suc k) w h1 h2 e =
     let m : top - 1 - suc k ≡ top - 1 - 1 - k = omega arith in
-    ap (λ l. slice_get l (suc k)) (popped words first top w (omega arith) h2) ∙ operand_at words first (top - 1) k w (omega arith) (omega arith) (e ∙ ap (λ k. slice_index_or words k w) m)
+    ap (λ l. slice_get l (suc k)) (popped words first top zero_word (omega arith) h2) ∙ operand_at words first (top - 1) k w (omega arith) (omega arith) (e ∙ ap (λ k. slice_index_or words k zero_word) m)
 
 dropped : (words : List Word) (first top k : ℕ) (d : Word) → k ≤ top - first → top ≤ length words → drop k (reverse (part words first top)) ≡ reverse (part words first (top - k))
 dropped words first top zero d h1 h2 = let m : top ≡ top - 0 = omega arith in ap (λ t. reverse (part words first t)) m
 dropped words first top (suc k) d h1 h2 =
     let m : top - 1 - k ≡ top - suc k = omega arith in
     ap (drop (suc k)) (popped words first top d (omega arith) h2) ∙ dropped words first (top - 1) k d (omega arith) (omega arith) ∙ ap (λ t. reverse (part words first t)) m
-
-zero_word : Word
-zero_word = record { low = 0; high = 0 }
 
 pub taken : (words : List Word) (frames : List Frame) (base first top depth k : ℕ) → first ≤ top → top ≤ length words → k ≤ top - first → stack_of words frames base first (top - k) depth ≡ record (stack_of words frames base first top depth) { operands = drop k (reverse (part words first top)); room = length words - top + k }
 taken words frames base first top depth k h1 h2 h3 =
@@ -106,11 +103,11 @@ slice_get-take (suc n) [] k h = refl
 slice_get-take (suc n) (x ∷ xs) zero h = refl
 slice_get-take (suc n) (x ∷ xs) (suc k) h = slice_get-take n xs k (omega arith)
 
-pub local_at : (words : List Word) (base first x : ℕ) (w : Word) → x < first - base → first ≤ length words → w ≡ slice_index_or words (base + x) w → slice_get (part words base first) x ≡ Some (value_of w)
+pub local_at : (words : List Word) (base first x : ℕ) (w : Word) → x < first - base → first ≤ length words → w ≡ slice_index_or words (base + x) zero_word → slice_get (part words base first) x ≡ Some (value_of w)
 unfolding part
 local_at words base first x w h1 h2 e =
     slice_get-map value_of (take (first - base) (drop base words)) x
-    ∙ ap (option_map value_of) (slice_get-take (first - base) (drop base words) x h1 ∙ slice_get-get_or (drop base words) x w (subst (λ n. x < n) (sym (length-drop base words)) (omega arith)) ∙ ap Some (get_or-drop base words x w ∙ sym e))
+    ∙ ap (option_map value_of) (slice_get-take (first - base) (drop base words) x h1 ∙ slice_get-get_or (drop base words) x zero_word (subst (λ n. x < n) (sym (length-drop base words)) (omega arith)) ∙ ap Some (get_or-drop base words x zero_word ∙ sym e))
 
 pub local_set : (words : List Word) (frames : List Frame) (base first top depth x : ℕ) (w : Word) → base ≤ first → first ≤ top → top ≤ length words → x < first - base → IsStacked (reverse (take depth frames)) base → stack_of (slice_set words (base + x) w) frames base first top depth ≡ record (stack_of words frames base first top depth) { locals = slice_set (part words base first) x (value_of w) }
 unfolding part

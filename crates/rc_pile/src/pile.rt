@@ -6,6 +6,7 @@ ghost use Rattle.rc_pile.specs.Stacks.{begun, giving, setting, taking, with_loca
 
 use crate::caller::Caller;
 use crate::word::Word;
+use crate::words::Words;
 use rc_base::NoMemory;
 use std::alloc::Global;
 use std::marker::Model;
@@ -21,7 +22,7 @@ struct Frame {
 /// A stack of calls. Only the latest one's locals and operands are read and written.
 #[derive(Drop)]
 pub struct Pile {
-    words: Vec<Word>,
+    words: Words,
     frames: Vec<Frame>,
     base: usize,
     first: usize,
@@ -30,14 +31,14 @@ pub struct Pile {
 }
 
 impl Model for Pile {
-    ghost use Rattle.std.specs.Prelude.{◌≤◌, length, reverse, take};
+    ghost use Rattle.std.specs.Prelude.{◌≤◌, ◌<◌, ◌^◌, length, reverse, take};
     ghost use Rattle.rc_pile.specs.Stacks.{Stack, stack_of, IsStacked};
 
     ghost Value = { Stack };
 
-    ghost view = { λ p. stack_of p.words.items p.frames.items p.base p.first p.top p.depth };
+    ghost view = { λ p. stack_of p.words p.frames.items p.base p.first p.top p.depth };
 
-    ghost invariant = { λ p. (p.base ≤ p.first) × (p.first ≤ p.top) × (p.top ≤ length p.words.items) × (p.depth ≤ length p.frames.items) × IsStacked (reverse (take p.depth p.frames.items)) p.base };
+    ghost invariant = { λ p. (p.base ≤ p.first) × (p.first ≤ p.top) × (p.top ≤ length p.words) × (p.depth ≤ length p.frames.items) × IsStacked (reverse (take p.depth p.frames.items)) p.base × (length p.words < 2 ^ 64) };
 }
 
 impl Pile {
@@ -64,7 +65,7 @@ impl Pile {
     fn empty(alloc: Global, words: usize, frames: usize) -> Result<Pile, NoMemory>
         ensures { IfOk result (λ p. p ≡ started words frames []) }
     {
-        let zeros = Vec::from_elem(alloc, Word::of_number(0), words)?;
+        let zeros = Words::zeros(alloc, words)?;
         let waits = Vec::from_elem(
             alloc,
             Frame {
@@ -94,7 +95,7 @@ impl Pile {
         requires { k < length self.now.operands }
         ensures { slice_get self.now.operands k ≡ Some (value_of result) }
     {
-        self.words[self.top - 1 - k as usize]
+        self.words.get(self.top - 1 - k as usize)
     }
 
     /// The operand so far below the topmost, where that is a number.
@@ -114,7 +115,7 @@ impl Pile {
         requires room { 0 < self.old.room + k }
         ensures { self.new ≡ giving k (value_of word) self.old }
     {
-        self.words[self.top - k as usize] = word;
+        self.words.set(self.top - k as usize, word);
         self.top = self.top - k as usize + 1;
     }
 
@@ -144,7 +145,7 @@ impl Pile {
         requires { x < length self.now.locals }
         ensures { slice_get self.now.locals x ≡ Some (value_of result) }
     {
-        self.words[self.base + x as usize]
+        self.words.get(self.base + x as usize)
     }
 
     /// A local that is a number.
@@ -162,7 +163,7 @@ impl Pile {
         requires { x < length self.old.locals }
         ensures { self.new ≡ setting x (value_of word) self.old }
     {
-        self.words[self.base + x as usize] = word;
+        self.words.set(self.base + x as usize, word);
     }
 
     #[inline(always)]
@@ -197,7 +198,7 @@ impl Pile {
         requires none { self.old.operands ≡ [] }
         ensures { self.new ≡ with_locals (value_of word ∷ []) self.old }
     {
-        self.words[self.top] = word;
+        self.words.set(self.top, word);
         self.top += 1;
         self.first = self.top;
     }
@@ -269,10 +270,7 @@ impl Pile {
         ensures ok { OnOk result (self.new ≡ with_room words self.old) }
         ensures err { OnErr result (self.new ≡ self.old) }
     {
-        let Some(n) = self.words.len().checked_add(words) else {
-            return Err(NoMemory);
-        };
-        self.words.resize(n, Word::of_number(0))?;
+        self.words.add_zeros(words)?;
         Ok(())
     }
 

@@ -12,8 +12,8 @@ use rc_store::{Cell, Pointer};
 /// A value that a local or an operand has. Numbers are read by `low` alone.
 #[derive(Clone, Copy)]
 pub struct Word {
-    low: u64,
-    high: u64,
+    pub(crate) low: u64,
+    pub(crate) high: u64,
 }
 
 const NULL: u64 = 1 << 32;
