@@ -48,7 +48,7 @@ named shapes n shape is =
     ∙ ap (option_map (map byte_kind)) (sym (slice_get-map name_of shapes n) ∙ is)
     ∙ ap Some (shape_again shape)
 
-kind_itself : (k : Kind) → is_kind k k ≡ true
+pub kind_itself : (k : Kind) → is_kind k k ≡ true
 kind_itself Number = refl
 kind_itself Region = refl
 kind_itself (Pointer Plain) = refl

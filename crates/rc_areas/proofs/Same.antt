@@ -26,7 +26,7 @@ same_note Traditional SameRegion same = absurd (false≢true same)
 same_note Traditional ParentPtr same = absurd (false≢true same)
 same_note Traditional Traditional same = refl
 
-same_kind : (a b : Kind) → is_kind a b ≡ true → a ≡ b
+pub same_kind : (a b : Kind) → is_kind a b ≡ true → a ≡ b
 same_kind Number Number same = refl
 same_kind Number Region same = absurd (false≢true same)
 same_kind Number (Pointer b) same = absurd (false≢true same)

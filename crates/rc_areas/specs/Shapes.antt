@@ -1,12 +1,12 @@
 -- The layouts that objects have, each once: a shape is the kinds of an element's cells.
-use Rattle.std.specs.Prelude.{Bool, true, false, ◌&&◌, List, [], ◌∷◌, ◌++◌, if◌then◌else◌}
+use Rattle.std.specs.Prelude.{◌≡◌, Bool, true, false, ◌&&◌, List, [], ◌∷◌, ◌++◌, if◌then◌else◌}
 use Rattle.std.specs.List.{list_any}
-use Rattle.std.specs.declared.vec.Vec.{Vec}
-use Rattle.std.specs.declared.alloc.Global.{Global as Alloc}
 use Rattle.rc_core.specs.declared.ty.Note.{Note}
 use Rattle.rc_core.specs.declared.ty.Note.TheVariants.{Plain, SameRegion, ParentPtr, Traditional}
 use Rattle.rc_core.specs.declared.layouts.Kind.{Kind}
 use Rattle.rc_core.specs.declared.layouts.Kind.TheVariants.{Number, Region, Pointer}
+use Rattle.rc_store.specs.Values.{is_counted}
+use Rattle.rc_areas.specs.declared.shapes.Shape.{Shape as KeptShape}
 
 abbrev pub Shape : Type 0
 Shape = List Kind
@@ -36,5 +36,13 @@ has_shape shape shapes = list_any (λ s. is_shape s shape) shapes
 abbrev pub with_shape : Shape → List Shape → List Shape
 with_shape shape shapes = if has_shape shape shapes then shapes else shapes ++ shape ∷ []
 
-abbrev pub items_of : Vec Kind Alloc → Shape
-items_of shape = shape.items
+-- a cell of these kinds counts
+abbrev pub has_counted : Shape → Bool
+has_counted kinds = list_any is_counted kinds
+
+abbrev pub items_of : KeptShape → Shape
+items_of shape = shape.kinds.items
+
+-- whether one counts stands beside them
+abbrev pub IsMarked : KeptShape → Type 0
+IsMarked shape = shape.counts ≡ has_counted (items_of shape)

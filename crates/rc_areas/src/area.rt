@@ -14,7 +14,6 @@ use rc_pages::{Bank, Pages};
 use rc_store::Cell;
 use std::alloc::Global;
 use std::marker::Model;
-use std::mem;
 use std::sync::ledger::Ledger;
 
 /// The objects of a region, in the order in which they were made. Contracts see what is kept of each
@@ -34,16 +33,6 @@ impl Model for Area {
     ghost view = { λ a. record { heads = a.heads.items; codes = a.cells } };
 
     ghost invariant = { λ a. length a.cells ≤ 18446744073709551615 };
-}
-
-/// How many cells so many elements have.
-fn cells_of(count: u32, width: usize) -> Result<u64, NoMemory>
-    ensures { IfOk result (λ n. n ≡ count * width) }
-{
-    match (count as u64).checked_mul(width as u64) {
-        Some(cells) => Ok(cells),
-        None => Err(NoMemory),
-    }
 }
 
 impl Area {
@@ -131,8 +120,37 @@ impl Area {
         self.cells.set(place, encode(value));
     }
 
-    /// Appends an object of so many elements of a shape, all zero or null. Pages come out of the bank
-    /// as far as it has some.
+    /// Writes a cell, and answers what it held. The value is one of those that the cell may hold.
+    #[inline(always)]
+    pub fn replace<L: Ledger>(
+        &mut self,
+        object: u32,
+        index: u32,
+        cell: u32,
+        value: Cell,
+        shapes: &Shapes,
+        steps: &mut Steps<L>,
+    ) -> Cell
+        requires laid { IsLaid shapes.now self.old }
+        requires object { object < length self.old.heads }
+        requires cell { HasCell (slice_index_or (objects_of shapes.now self.old) object no_object) index cell }
+        requires suits { IsTrue (suits (slice_index_or (slice_index_or (objects_of shapes.now self.old) object no_object).kinds (cell_place (slice_index_or (objects_of shapes.now self.old) object no_object) index cell) NumberKind) (value_of value)) }
+        ensures before { value_of result ≡ cell_value (slice_index_or (objects_of shapes.now self.old) object no_object) index cell }
+        ensures laid { IsLaid shapes.now self.new }
+        ensures written { objects_of shapes.now self.new ≡ objects_with object index cell (value_of value) (objects_of shapes.now self.old) }
+        ensures step { steps.new ≡ steps.old + 1 }
+    {
+        let place = self.place(object, index, cell, shapes);
+        let head = self.heads[object as usize];
+        let kind = kind_at(shapes.get(head.shape), cell as usize);
+        let code = encode(value);
+        let before = self.cells.get(place, steps);
+        self.cells.set(place, code);
+        decode(kind, before)
+    }
+
+    /// Appends an object of so many elements of a shape, all zero or null, with so many cells together.
+    /// Pages come out of the bank as far as it has some.
     ///
     /// # Errors
     ///
@@ -141,20 +159,18 @@ impl Area {
         &mut self,
         shape: u32,
         count: u32,
+        size: u64,
         shapes: &Shapes,
         bank: &mut Bank,
     ) -> Result<(), NoMemory>
         requires laid { IsLaid shapes.now self.old }
         requires shape { shape < length shapes.now }
+        requires size { size ≡ count * length (slice_index_or shapes.now shape []) }
         ensures laid { IsLaid shapes.now self.new }
         ensures ok { OnOk result (objects_of shapes.now self.new ≡ objects_of shapes.now self.old ++ blank (slice_index_or shapes.now shape []) count ∷ []) }
         ensures err { OnErr result (self.new ≡ self.old) }
     {
-        let size = cells_of(count, shapes.get(shape).len())?;
         let start = self.cells.len();
-        if start.checked_add(size).is_none() {
-            return Err(NoMemory);
-        }
         match self.heads.reserve(1) {
             Ok(()) => {}
             Err(_) => return Err(NoMemory),
@@ -189,11 +205,10 @@ impl Area {
 
     /// Lets all objects go. Their pages go to the bank as far as it has free places. It takes no
     /// memory.
-    pub fn clear(&mut self, alloc: Global, bank: &mut Bank)
+    pub fn clear(&mut self, bank: &mut Bank)
         ensures { self.new ≡ record { heads = []; codes = [] } }
     {
-        let cells = mem::replace(&mut self.cells, Pages::new(alloc));
-        cells.give_back(bank);
+        self.cells.give_back(bank);
         self.heads.clear();
     }
 }

@@ -2,11 +2,14 @@
 ghost use Rattle.std.specs.Prelude.{◌≡◌, ◌↔◌, map, IfOk, IsTrue};
 ghost use Rattle.rc_core.specs.Laid.{kind_of};
 ghost use Rattle.rc_core.specs.Shapes.{kinds_in};
+ghost use Rattle.rc_core.specs.Shapes.{kind_of as cell_kind_of};
+ghost use Rattle.rc_core.specs.declared.layouts.Kind.TheVariants.{Number, Region, Pointer};
 ghost use Rattle.rc_areas.specs.Naming.{kind_byte, name_of, note_byte};
+ghost use Rattle.rc_areas.specs.Shapes.{is_kind};
 
 use rc_base::NoMemory;
 use rc_core::Kind;
-use rc_core::layout::Layout;
+use rc_core::layout::{CellKind, Layout};
 use rc_core::ty::Note;
 use rc_store::kind_of;
 use std::alloc::Global;
@@ -32,6 +35,48 @@ fn kind_byte(kind: Kind) -> u8
     }
 }
 
+/// Whether a layout's cell holds a number.
+#[inline(always)]
+fn is_number(cell: &CellKind) -> bool
+    ensures { result ≡ is_kind Number (kind_of (cell_kind_of cell.now)) }
+{
+    match cell {
+        CellKind::Int => true,
+        CellKind::Unsigned => true,
+        CellKind::Char => true,
+        CellKind::Region => false,
+        CellKind::Pointer(_, _) => false,
+    }
+}
+
+/// Whether a layout's cell holds a region.
+#[inline(always)]
+fn is_region(cell: &CellKind) -> bool
+    ensures { result ≡ is_kind Region (kind_of (cell_kind_of cell.now)) }
+{
+    match cell {
+        CellKind::Int => false,
+        CellKind::Unsigned => false,
+        CellKind::Char => false,
+        CellKind::Region => true,
+        CellKind::Pointer(_, _) => false,
+    }
+}
+
+/// Whether a layout's cell holds a pointer with this annotation.
+#[inline(always)]
+fn is_pointer(cell: &CellKind, note: Note) -> bool
+    ensures { result ≡ is_kind (Pointer note) (kind_of (cell_kind_of cell.now)) }
+{
+    match cell {
+        CellKind::Int => false,
+        CellKind::Unsigned => false,
+        CellKind::Char => false,
+        CellKind::Region => false,
+        CellKind::Pointer(other, _) => note_byte(note) == note_byte(*other),
+    }
+}
+
 /// The name of a layout's shape: a byte for each cell of an element.
 pub(crate) fn name_of(alloc: Global, layout: &Layout) -> Result<Vec<u8>, NoMemory>
     ensures { IfOk result (λ name. name.items ≡ name_of (map kind_of (kinds_in layout.now))) }
@@ -46,6 +91,18 @@ pub(crate) fn name_of(alloc: Global, layout: &Layout) -> Result<Vec<u8>, NoMemor
     Ok(name)
 }
 
+/// Whether a kind is that of a layout's cell.
+#[inline(always)]
+fn is_kind_of(kind: Kind, cell: &CellKind) -> bool
+    ensures { result ≡ is_kind kind (kind_of (cell_kind_of cell.now)) }
+{
+    match kind {
+        Kind::Number => is_number(cell),
+        Kind::Region => is_region(cell),
+        Kind::Pointer(note) => is_pointer(cell, note),
+    }
+}
+
 /// Whether a shape is that of a layout.
 pub(crate) fn is_of(shape: &[Kind], layout: &Layout) -> bool
     ensures { IsTrue result ↔ (shape.now ≡ map kind_of (kinds_in layout.now)) }
@@ -55,7 +112,7 @@ pub(crate) fn is_of(shape: &[Kind], layout: &Layout) -> bool
         return false;
     }
     for i in 0..cells.len() {
-        if kind_byte(shape[i]) != kind_byte(kind_of(&cells[i])) {
+        if !is_kind_of(shape[i], &cells[i]) {
             return false;
         }
     }

@@ -5,26 +5,57 @@ ghost use Rattle.rc_core.specs.Laid.{kind_of};
 ghost use Rattle.rc_core.specs.Shapes.{kinds_in};
 ghost use Rattle.rc_scope.specs.Names.{place_of};
 ghost use Rattle.rc_areas.specs.Naming.{name_of};
-ghost use Rattle.rc_areas.specs.Shapes.{with_shape};
+ghost use Rattle.rc_areas.specs.Shapes.{IsMarked, has_counted, items_of, with_shape};
 
 use crate::naming::{is_of, name_of};
 use rc_base::NoMemory;
 use rc_core::Kind;
 use rc_core::layout::Layout;
 use rc_scope::Names;
-use rc_store::kinds_of;
+use rc_store::{is_counted, kinds_of};
 use std::alloc::Global;
 use std::marker::Model;
 
 /// As many shapes as have a number.
 const MOST_SHAPES: usize = 4294967295;
 
+/// What the cells of an element hold, and whether one of them counts.
+#[derive(Drop)]
+struct Shape {
+    kinds: Vec<Kind>,
+    counts: bool,
+}
+
+impl Shape {
+    /// The shape of a layout.
+    fn of(alloc: Global, layout: &Layout) -> Result<Shape, NoMemory>
+        ensures kinds { IfOk result (λ shape. items_of shape ≡ map kind_of (kinds_in layout.now)) }
+        ensures counts { IfOk result (λ shape. IsMarked shape) }
+    {
+        let kinds = kinds_of(alloc, layout)?;
+        let counts = has_counted(&kinds);
+        Ok(Shape { kinds, counts })
+    }
+}
+
+/// Whether a cell of these kinds counts.
+fn has_counted(kinds: &[Kind]) -> bool
+    ensures { result ≡ has_counted kinds.now }
+{
+    for kind in kinds {
+        if is_counted(*kind) {
+            return true;
+        }
+    }
+    false
+}
+
 /// The shapes of a heap's objects, each once. A shape is what the cells of an element hold. Contracts
 /// see their list.
 #[derive(Drop)]
 pub struct Shapes {
     alloc: Global,
-    shapes: Vec<Vec<Kind>>,
+    shapes: Vec<Shape>,
     /// Of each shape its name, by the same number.
     names: Names,
     /// That which was asked for last: mostly it is asked for again, and then no name is made.
@@ -32,15 +63,15 @@ pub struct Shapes {
 }
 
 impl Model for Shapes {
-    ghost use Rattle.std.specs.Prelude.{◌≡◌, ◌≤◌, List, length, map};
+    ghost use Rattle.std.specs.Prelude.{◌≡◌, ◌≤◌, List, length, map, All};
     ghost use Rattle.rc_areas.specs.Naming.{name_of};
-    ghost use Rattle.rc_areas.specs.Shapes.{Shape, items_of};
+    ghost use Rattle.rc_areas.specs.Shapes.{Shape, IsMarked, items_of};
 
     ghost Value = { List Shape };
 
     ghost view = { λ s. map items_of s.shapes.items };
 
-    ghost invariant = { λ s. (length s.shapes.items ≤ 4294967295) × (s.names ≡ map name_of (map items_of s.shapes.items)) };
+    ghost invariant = { λ s. (length s.shapes.items ≤ 4294967295) × (s.names ≡ map name_of (map items_of s.shapes.items)) × All IsMarked s.shapes.items };
 }
 
 /// What a cell of an element holds.
@@ -71,7 +102,16 @@ impl Shapes {
         requires { number < length self.now }
         ensures { result.now ≡ slice_index_or self.now number [] }
     {
-        self.shapes[number as usize].as_slice()
+        self.shapes[number as usize].kinds.as_slice()
+    }
+
+    /// Whether a cell of the shape with this number counts.
+    #[inline(always)]
+    pub fn counts(&self, number: u32) -> bool
+        requires { number < length self.now }
+        ensures { result ≡ has_counted (slice_index_or self.now number []) }
+    {
+        self.shapes[number as usize].counts
     }
 
     /// The number of the shape of this layout, which gets the next one where it is new. The other
@@ -119,7 +159,7 @@ impl Shapes {
         if number >= MOST_SHAPES {
             return Err(NoMemory);
         }
-        let shape = kinds_of(self.alloc, layout)?;
+        let shape = Shape::of(self.alloc, layout)?;
         match self.shapes.reserve(1) {
             Ok(()) => {}
             Err(_) => return Err(NoMemory),

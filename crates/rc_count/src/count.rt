@@ -14,7 +14,7 @@ use rc_base::{Limits, NoMemory, Steps};
 use rc_core::layout::Layout;
 use rc_core::ty::Note;
 use rc_space::Space;
-use rc_store::{Cell, Denied, Heap, MakeFault, Pins, Place, SetHeap};
+use rc_store::{Cell, Denied, Heap, MakeFault, Missed, Pins, Place, Pointer, SetHeap};
 use std::alloc::Global;
 use std::marker::Model;
 use std::sync::ledger::Ledger;
@@ -63,6 +63,16 @@ fn suits<L: Ledger>(
     }
 }
 
+/// How many cells so many elements have.
+fn size_of(count: u32, width: usize) -> Result<u64, NoMemory>
+    ensures { IfOk result (λ size. size ≡ count * width) }
+{
+    match (count as u64).checked_mul(width as u64) {
+        Some(size) => Ok(size),
+        None => Err(NoMemory),
+    }
+}
+
 impl CountHeap {
     /// Region 0 alone, without objects, and nothing pinned. Both limits are 0.
     ///
@@ -81,15 +91,12 @@ impl CountHeap {
         })
     }
 
-    /// How many cells there are with so many elements more. With the pins and their room they stay
-    /// below 2^64, so that no count passes it.
-    fn with_elements(&self, count: u32, width: usize) -> Result<u64, NoMemory>
-        ensures total { IfOk result (λ total. total ≡ all_cells self.now + count * width) }
+    /// How many cells there are with so many more. With the pins and their room they stay below 2^64,
+    /// so that no count passes it.
+    fn with_cells(&self, more: u64) -> Result<u64, NoMemory>
+        ensures total { IfOk result (λ total. total ≡ all_cells self.now + more) }
         ensures few { IfOk result (λ total. total + length self.now.pins + self.now.spare ≤ 18446744073709551615) }
     {
-        let Some(more) = (count as u64).checked_mul(width as u64) else {
-            return Err(NoMemory);
-        };
         let Some(total) = self.cells.checked_add(more) else {
             return Err(NoMemory);
         };
@@ -117,8 +124,9 @@ impl CountHeap {
         ensures ok { OnOk result (self.new ≡ allocated region (map kind_of (kinds_in kind.now)) count self.old) }
         ensures err { OnErr result (self.new ≡ self.old) }
     {
-        let cells = self.with_elements(count, kind.cells.len())?;
-        self.space.push(region, kind, count)?;
+        let size = size_of(count, kind.cells.len())?;
+        let cells = self.with_cells(size)?;
+        self.space.push(region, kind, count, size)?;
         self.cells = cells;
         Ok(number as u32)
     }
@@ -133,8 +141,7 @@ impl CountHeap {
         ensures never_falls { steps.old ≤ steps.new }
     {
         let holder = place.pointer.region;
-        let old = self.space.read(place, steps);
-        self.space.write(place, value);
+        let old = self.space.replace(place, value, steps);
         self.space.take_back(holder, old);
         self.space.give(holder, value);
     }
@@ -205,11 +212,34 @@ impl Heap for CountHeap {
     }
 
     #[inline(always)]
+    fn load<L: Ledger>(
+        &self,
+        pointer: Pointer,
+        shift: i64,
+        cell: u32,
+        steps: &mut Steps<L>,
+    ) -> Result<Cell, Missed> {
+        self.space.load(pointer, shift, cell, steps)
+    }
+
+    #[inline(always)]
     fn write_counted<L: Ledger>(&mut self, place: Place, value: Cell, steps: &mut Steps<L>) {
         match value {
             Cell::Number(_number) => self.space.write(place, value),
             _ => self.write_reference(place, value, steps),
         }
+    }
+
+    #[inline(always)]
+    fn store_number<L: Ledger>(
+        &mut self,
+        pointer: Pointer,
+        shift: i64,
+        cell: u32,
+        number: i64,
+        _steps: &mut Steps<L>,
+    ) -> Result<(), Missed> {
+        self.space.store_number(pointer, shift, cell, number)
     }
 
     #[inline(always)]
@@ -227,7 +257,7 @@ impl Heap for CountHeap {
     }
 
     fn reserve_pins(&mut self, n: u32) -> Result<(), NoMemory> {
-        self.with_elements(n, 1)?;
+        self.with_cells(n as u64)?;
         self.pins.reserve(n)
     }
 

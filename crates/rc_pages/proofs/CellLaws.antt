@@ -2,11 +2,11 @@
 use Rattle.std.proofs.Common.{◌≡◌, ◌+◌, ◌-◌, ◌*◌, ◌/◌, ◌%◌, ◌<◌, ◌≤◌, ℕ, zero, suc, List, [], ◌∷◌, ◌++◌, length, take, drop, replicate, get_or, set, sym, ap, subst, ◌∙◌, refl, arith, append_assoc, append-nil, length-append, length-set, length-take-le, take-append-drop}
 use Rattle.std.specs.Prelude.{All}
 use Rattle.std.specs.List.{concat}
-use Rattle.std.proofs.lemmas.List.{get_or-take, get_or_append_left, get_or-append_right, set-append_left, set-append_right, take_at, take-append-le, take_more_set, replicate-append-replicate}
+use Rattle.std.proofs.lemmas.List.{get_or-take, get_or_append_left, get_or-append_right, set-append_left, set-append_right, take_at, take-append-le, take_more_set, length-replicate, replicate-append-replicate}
 use Rattle.std.proofs.lemmas.List.Elements.{All-append, All-set}
 use Rattle.std.proofs.lemmas.List.Folds.{concat-append}
 use native.Mathlib.Nat.{zero-mul, suc-mul}
-use Rattle.rc_pages.specs.Cells.{AreWhole, Holds, IsLonger, pages_for, more_pages}
+use Rattle.rc_pages.specs.Cells.{AreWhole, Holds, IsLonger, pages_for, more_pages, zero_page}
 
 -- pages of w cells each
 module _ (w : ℕ) where
@@ -38,6 +38,26 @@ module _ (w : ℕ) where
       set-append_left page (concat pages) at x (omega (arith, first page pages whole)) ∙ ap (λ k. set page k x ++ concat pages) here
   cell-write (page ∷ pages) (suc q) r at x whole inside small is =
       set-append_right page (concat pages) w at x (first page pages whole) (omega (arith, suc-mul q w)) ∙ ap (λ cells. page ++ cells) (cell-write pages q r (at - w) x (rest page pages whole) (omega arith) small (omega (arith, suc-mul q w)))
+
+  take-past : (xs more : List ℕ) (n k : ℕ) → n ≡ length xs + k → take n (xs ++ more) ≡ xs ++ take k more
+  take-past [] more n k is = ap (λ m. take m more) (omega (arith, is))
+  take-past (x ∷ xs) more zero k is = absurd (omega (arith, is))
+  take-past (x ∷ xs) more (suc n) k is = ap (λ cells. x ∷ cells) (take-past xs more n k (omega (arith, is)))
+
+  -- a whole page at once
+  page-set : (pages : List (List ℕ)) (q at next : ℕ) (new : List ℕ) → Whole pages → length new ≡ w → q < length pages → at ≡ q * w → next ≡ at + w → take next (concat (set pages q new)) ≡ take at (concat pages) ++ new
+  page-set [] q at next new whole full inside is on = absurd (omega arith)
+  page-set (page ∷ pages) zero at next new whole full inside is on =
+      let here : at ≡ 0 = omega (arith, is, zero-mul w) in
+      ap (λ k. take k (new ++ concat pages)) (omega (arith, on, here, full))
+      ∙ take_at new (concat pages) (length new) refl
+      ∙ ap (λ k. take k (page ++ concat pages) ++ new) (sym here)
+  page-set (page ∷ pages) (suc q) at next new whole full inside is on =
+      let long = first page pages whole in
+      take-past page (concat (set pages q new)) next (q * w + w) (omega (arith, on, is, long, suc-mul q w))
+      ∙ ap (λ cells. page ++ cells) (page-set pages q (q * w) (q * w + w) new (rest page pages whole) full (omega arith) refl refl)
+      ∙ sym (append_assoc page (take (q * w) (concat pages)) new)
+      ∙ ap (λ cells. cells ++ new) (sym (take-past page (concat pages) at (q * w) (omega (arith, is, long, suc-mul q w))))
 
 longer-length : (old some : List (List ℕ)) (count : ℕ) → IsLonger old some count → length some ≡ length old + count
 longer-length old some count grown = ap (λ pages. length pages) grown.is ∙ length-append old grown.more ∙ ap (λ k. length old + k) grown.long
@@ -127,6 +147,9 @@ module _ (pages : List (List ℕ)) (len : ℕ) (now : List ℕ) (held : Holds pa
     pub shown-write : take len (concat after) ≡ set now at x
     shown-write = ap (λ ps. take len (concat ps)) is ∙ held-write pages len held at below x ∙ ap (λ cells. set cells at x) shown
 
+pub no_cells : Holds [] 0
+no_cells = record { whole = λ k d inside. absurd (omega (arith, inside)); enough = refl }
+
 -- one more page
 pub longer-next : (old some next : List (List ℕ)) (count total : ℕ) (page : List ℕ) → IsLonger old some count → length page ≡ 256 → next ≡ some ++ page ∷ [] → total ≡ count + 1 → IsLonger old next total
 longer-next old some next count total page grown whole is more = record {
@@ -181,3 +204,24 @@ module _ (pages : List (List ℕ)) (at : ℕ) (whole : AreWhole pages) (inside :
       ∙ ap (λ all. all ++ 0 ∷ []) before
       ∙ append_assoc front (replicate (at - from) 0) (0 ∷ [])
       ∙ ap (λ tail. front ++ tail) (replicate-append-replicate (at - from) 1 0 ∙ ap (λ k. replicate k 0) (omega (arith, low)))
+
+-- a whole page is made zero behind those that are
+module _ (pages : List (List ℕ)) (at total : ℕ) (whole : AreWhole pages) (begins : at % 256 ≡ 0) (room : 256 ≤ total - at) (fits : total ≤ 256 * length pages) where
+  pub zeroed-page : at / 256 < length pages
+  zeroed-page = omega (arith, room, fits)
+
+  abbrev zeroed : List (List ℕ)
+  zeroed = set pages (at / 256) zero_page
+
+  pub zeroed-whole : AreWhole zeroed
+  zeroed-whole = All-set (λ page. length page ≡ 256) pages (at / 256) zero_page (length-replicate {A = ℕ} 256 0) whole
+
+  pub zeroed-count : length zeroed ≡ length pages
+  zeroed-count = length-set pages (at / 256) zero_page
+
+  pub zeroed-next : (front : List ℕ) (from : ℕ) → from ≤ at → take at (concat pages) ≡ front ++ replicate (at - from) 0 → take (at + 256) (concat zeroed) ≡ front ++ replicate (at + 256 - from) 0
+  zeroed-next front from low before =
+      page-set 256 pages (at / 256) at (at + 256) zero_page whole (length-replicate {A = ℕ} 256 0) zeroed-page (omega (arith, begins)) refl
+      ∙ ap (λ all. all ++ zero_page) before
+      ∙ append_assoc front (replicate (at - from) 0) zero_page
+      ∙ ap (λ tail. front ++ tail) (replicate-append-replicate (at - from) 256 0 ∙ ap (λ k. replicate k 0) (omega (arith, low)))

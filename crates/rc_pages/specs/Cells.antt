@@ -35,9 +35,9 @@ room_beside (Some first) capacity count = capacity - count
 abbrev pub AreWhole : List (List ℕ) → Type 0
 AreWhole pages = All (λ page. length page ≡ 256) pages
 
--- the last page was taken out, or there was none
+-- the last page was taken out, or there was none and is none
 abbrev pub Popped : Option (List ℕ) → (old new : List (List ℕ)) → Type 0
-Popped None old new = old ≡ []
+Popped None old new = (old ≡ []) × (new ≡ [])
 Popped (Some page) old new = old ≡ new ++ page ∷ []
 
 -- so many whole pages were appended, whatever they hold

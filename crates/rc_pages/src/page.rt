@@ -44,6 +44,13 @@ impl Page {
     {
         self.raw.write(place, value);
     }
+
+    /// Writes zero to each cell.
+    pub(crate) fn zero(&mut self)
+        ensures { self.new ≡ zero_page }
+    {
+        self.raw.zero();
+    }
 }
 
 impl Drop for Page {

@@ -1,6 +1,6 @@
 // The pages of a list of cells.
-ghost use Rattle.std.specs.Prelude.{◌≡◌, ◌+◌, ◌<◌, ◌≤◌, ◌++◌, ◌∷◌, [], length, take, slice_index, slice_index_or, slice_set, OnOk};
-ghost use Rattle.rc_pages.specs.Cells.{Popped};
+ghost use Rattle.std.specs.Prelude.{◌≡◌, ◌+◌, ◌<◌, ◌≤◌, ◌++◌, ◌∷◌, [], length, take, slice_index, slice_index_or, slice_set, IsTrue, OnOk};
+ghost use Rattle.rc_pages.specs.Cells.{Popped, zero_page};
 
 use crate::page::Page;
 use rc_base::NoMemory;
@@ -43,6 +43,16 @@ impl PageList {
         match &self.first {
             None => 0,
             Some(_) => 1 + self.more.len(),
+        }
+    }
+
+    pub(crate) fn is_empty(&self) -> bool
+        ensures empty { IsTrue result → self.now.pages ≡ [] }
+        ensures room { IsTrue result → 0 < self.now.room }
+    {
+        match &self.first {
+            None => true,
+            Some(_) => false,
         }
     }
 
@@ -133,6 +143,22 @@ impl PageList {
         match &mut self.first {
             None => unreachable!(),
             Some(first) => first.write(place, value),
+        }
+    }
+
+    /// Writes zero to each cell of a page.
+    #[inline(never)]
+    pub(crate) fn zero(&mut self, page: usize)
+        requires { page < length self.old.pages }
+        ensures { self.new.pages ≡ slice_set self.old.pages page zero_page }
+    {
+        if page > 0 {
+            self.more[page - 1].zero();
+            return;
+        }
+        match &mut self.first {
+            None => unreachable!(),
+            Some(first) => first.zero(),
         }
     }
 }

@@ -94,7 +94,7 @@ fn add_pages(
     Ok(())
 }
 
-/// Appends so many pages, which mostly are none.
+/// Appends so many pages, which mostly are none, or the first one alone.
 #[inline(always)]
 fn add_missing(
     alloc: Global,
@@ -110,10 +110,14 @@ fn add_missing(
     if count == 0 {
         return Ok(());
     }
+    if count == 1 && pages.is_empty() && bank.kept() > 0 {
+        pages.push(bank.take());
+        return Ok(());
+    }
     add_pages(alloc, pages, count, bank)
 }
 
-/// Makes the cells from one on up to another zero, whatever they held.
+/// Makes the cells from one on up to another zero, whatever they held: a whole page at once.
 fn clear(pages: &mut PageList, from: u64, to: u64)
     requires whole { AreWhole pages.old.pages }
     requires order { from ≤ to }
@@ -122,8 +126,17 @@ fn clear(pages: &mut PageList, from: u64, to: u64)
     ensures count { length pages.new.pages ≡ length pages.old.pages }
     ensures cells { take to (concat pages.new.pages) ≡ take from (concat pages.old.pages) ++ replicate (to - from) 0 }
 {
-    for at in from..to {
-        pages.write((at / CELLS) as usize, (at % CELLS) as usize, 0);
+    let mut at = from;
+    while at < to {
+        let page = (at / CELLS) as usize;
+        let place = (at % CELLS) as usize;
+        if place == 0 && to - at >= CELLS {
+            pages.zero(page);
+            at += CELLS;
+        } else {
+            pages.write(page, place, 0);
+            at += 1;
+        }
     }
 }
 
@@ -152,6 +165,7 @@ impl Pages {
         ensures err { OnErr result (self.new ≡ self.old) }
         ensures spare { OnOk result (bank.new ≡ record bank.old { kept = bank.old.kept - more_pages (length self.old) n }) }
         ensures same { OnErr result (bank.new ≡ bank.old) }
+        ensures few { OnOk result (length self.new ≤ 18446744073709551615) }
     {
         let Some(len) = self.len.checked_add(n) else {
             return Err(NoMemory);
@@ -185,18 +199,17 @@ impl Pages {
             .write((at / CELLS) as usize, (at % CELLS) as usize, value);
     }
 
-    /// Gives every page to the bank as far as it has free places, and frees the others.
-    pub fn give_back(self, bank: &mut Bank)
-        ensures { bank.new ≡ record bank.old { kept = min bank.old.places (bank.old.kept + pages_for (length self)) } }
+    /// Lets all cells go. Their pages go to the bank as far as it has free places, and the others are
+    /// freed.
+    pub fn give_back(&mut self, bank: &mut Bank)
+        ensures cells { self.new ≡ [] }
+        ensures bank { bank.new ≡ record bank.old { kept = min bank.old.places (bank.old.kept + pages_for (length self.old)) } }
     {
-        let Pages {
-            alloc: _,
-            mut pages,
-            len: _,
-        } = self;
+        let pages = &mut self.pages;
         pages.truncate(bank.free_places());
         while let Some(page) = pages.pop() {
             bank.keep(page);
         }
+        self.len = 0;
     }
 }

@@ -1,7 +1,8 @@
 // The registry.
-ghost use Rattle.std.specs.Prelude.{◌≡◌, ◌≢◌, ◌<◌, ◌≤◌, ◌+◌, ◌↔◌, ◌++◌, ◌∷◌, [], ℕ, Some, None, false, max, length, slice_set, All, IfOk, IsTrue, OnErr};
+ghost use Rattle.std.specs.Prelude.{◌≡◌, ◌≢◌, ◌<◌, ◌≤◌, ◌+◌, ◌↔◌, ◌++◌, ◌∷◌, [], ℕ, Some, None, false, max, length, option_map, slice_set, All, IfOk, IsTrue, OnErr};
 ghost use Rattle.rc_core.specs.Heap.{is_above};
 ghost use Rattle.rc_store.specs.Values.{value_of};
+ghost use Rattle.rc_slots.specs.Entries.{Member};
 ghost use Rattle.rc_areas.specs.Areas.{IsLaid, objects_of};
 ghost use Rattle.rc_tally.specs.Tally.{held_refs, pin_refs, value_refs};
 ghost use Rattle.rc_registry.specs.Registries.{AreOlder, HasUnmarkedChild, IsApart, IsLess, IsMember, IsMore, at_slots, count_in, has_child, is_marked, is_member, member_at, member_in, parent_among, root};
@@ -90,6 +91,25 @@ impl Registry {
         ensures same { self.new ≡ self.old }
     {
         self.directory.find(region)
+    }
+
+    /// The slot of a region, if it is live.
+    #[inline(always)]
+    pub fn slot_if_live(&self, region: u32) -> Option<u32>
+        ensures slot { result ≡ option_map (λ (m : Member). m.slot) (member_at self.now.members region) }
+        ensures apart { IsApart self.now.members self.now.slots }
+    {
+        self.directory.slot_if_live(region)
+    }
+
+    /// The slot of a region, if it is live. It isn't looked up again until another region's is.
+    #[inline(always)]
+    pub fn find_if_live(&mut self, region: u32) -> Option<u32>
+        ensures slot { result ≡ option_map (λ (m : Member). m.slot) (member_at self.old.members region) }
+        ensures apart { IsApart self.old.members self.old.slots }
+        ensures same { self.new ≡ self.old }
+    {
+        self.directory.find_if_live(region)
     }
 
     /// The parent of a live region; region 0 is its own.

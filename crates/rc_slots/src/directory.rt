@@ -69,6 +69,17 @@ fn slot(chunks: &[Option<Chunk>], number: usize) -> u32
     }
 }
 
+/// The slot of a region, if it is live.
+#[inline(never)]
+fn slot_if_live(chunks: &[Option<Chunk>], number: usize) -> Option<u32>
+    ensures { result ≡ slot_of (entry_in chunks.now number) }
+{
+    match entry_in(chunks, number) {
+        None => None,
+        Some(entry) => Some(entry.slot),
+    }
+}
+
 /// An entry where there was none, in a chunk that is there.
 fn fill(chunks: &mut [Option<Chunk>], number: usize, entry: Entry)
     requires chunk { IsTrue (is_chunk (chunk_at chunks.old (number / 256))) }
@@ -141,6 +152,29 @@ fn shut(chunks: &mut [Option<Chunk>], index: usize)
     }
 }
 
+/// Lets the last chunk go, if it has no entry.
+fn shut_last(chunks: &mut [Option<Chunk>])
+    ensures same { AreSame chunks.old chunks.new }
+    ensures count { length chunks.new ≡ length chunks.old }
+{
+    let count = chunks.len();
+    if count > 0 {
+        shut(chunks, count - 1);
+    }
+}
+
+/// Makes a place for a chunk more. The one before it stays only if it has an entry.
+fn add_place(chunks: &mut Vec<Option<Chunk>>) -> Result<(), NoMemory>
+    ensures same { AreSame chunks.old.items chunks.new.items }
+    ensures count { OnOk result (length chunks.new.items ≡ length chunks.old.items + 1) }
+{
+    shut_last(chunks);
+    match chunks.push(None) {
+        Ok(()) => Ok(()),
+        Err(_) => Err(NoMemory),
+    }
+}
+
 /// Makes room for one number more, which is the next: its chunk is there.
 fn make_room(alloc: Global, chunks: &mut Vec<Option<Chunk>>, next: usize) -> Result<(), NoMemory>
     requires { next / 256 ≤ length chunks.old.items }
@@ -150,24 +184,9 @@ fn make_room(alloc: Global, chunks: &mut Vec<Option<Chunk>>, next: usize) -> Res
 {
     let index = next / CHUNK_NUMBERS;
     if index == chunks.len() {
-        match chunks.push(None) {
-            Ok(()) => {}
-            Err(_) => return Err(NoMemory),
-        }
+        add_place(chunks)?;
     }
     open(alloc, chunks, index)
-}
-
-/// Lets the chunk before the one of this number go, if it has no entry.
-fn shut_before(chunks: &mut [Option<Chunk>], number: usize)
-    requires { number / 256 ≤ length chunks.old }
-    ensures same { AreSame chunks.old chunks.new }
-    ensures count { length chunks.new ≡ length chunks.old }
-{
-    let index = number / CHUNK_NUMBERS;
-    if index > 0 {
-        shut(chunks, index - 1);
-    }
 }
 
 impl Directory {
@@ -221,6 +240,16 @@ impl Directory {
         slot(&self.chunks, number as usize)
     }
 
+    /// Remembers the slot of a live region.
+    #[inline(always)]
+    fn remember(&mut self, number: u32, slot: u32)
+        requires { slot_of (entry_at self.old number) ≡ Some slot }
+        ensures { self.new ≡ self.old }
+    {
+        self.recent = number as u64;
+        self.recent_slot = slot;
+    }
+
     /// The slot of a live region, which isn't looked up again until another region's is.
     #[inline(always)]
     pub fn find(&mut self, number: u32) -> u32
@@ -232,9 +261,37 @@ impl Directory {
             return self.recent_slot;
         }
         let slot = slot(&self.chunks, number as usize);
-        self.recent = number as u64;
-        self.recent_slot = slot;
+        self.remember(number, slot);
         slot
+    }
+
+    /// The slot of a region, if it is live.
+    #[inline(always)]
+    pub fn slot_if_live(&self, number: u32) -> Option<u32>
+        ensures { result ≡ slot_of (entry_at self.now number) }
+    {
+        if number as u64 == self.recent {
+            return Some(self.recent_slot);
+        }
+        slot_if_live(&self.chunks, number as usize)
+    }
+
+    /// The slot of a region, if it is live. It isn't looked up again until another region's is.
+    #[inline(always)]
+    pub fn find_if_live(&mut self, number: u32) -> Option<u32>
+        ensures slot { result ≡ slot_of (entry_at self.old number) }
+        ensures same { self.new ≡ self.old }
+    {
+        if number as u64 == self.recent {
+            return Some(self.recent_slot);
+        }
+        match slot_if_live(&self.chunks, number as usize) {
+            None => None,
+            Some(slot) => {
+                self.remember(number, slot);
+                Some(slot)
+            }
+        }
     }
 
     /// One more region, at this slot and with this parent, with no reference.
@@ -247,7 +304,6 @@ impl Directory {
         ensures ok { OnOk result (self.new ≡ self.old ++ Some (record { slot = slot; parent = parent; count = 0 }) ∷ []) }
         ensures err { OnErr result (self.new ≡ self.old) }
     {
-        shut_before(&mut self.chunks, self.len);
         make_room(self.alloc, &mut self.chunks, self.len)?;
         fill(
             &mut self.chunks,

@@ -1,13 +1,14 @@
 -- A space after a change: one more region, more shapes, and another area.
-use Rattle.std.proofs.Common.{◌≡◌, ◌≢◌, ◌∙◌, inl, inr, ℕ, zero, suc, List, [], ◌∷◌, ◌++◌, Some, cond, length, refl, sym, ap, subst}
-use Rattle.std.proofs.lemmas.Bool.{cases_Bool, cases_eq}
+use Rattle.std.proofs.Common.{◌≡◌, ◌≢◌, ◌+◌, ◌∙◌, ◌⊎◌, inl, inr, ℕ, zero, suc, List, [], ◌∷◌, ◌++◌, Option, Some, None, cond, length, length-append, set, refl, sym, ap, subst, get_or-set_other}
+use Rattle.std.proofs.lemmas.Bool.{cases_Bool, cases_eq, false≢true}
+use Rattle.rc_slots.specs.Entries.{Member}
 use Rattle.rc_store.specs.Kept.{KeptObject}
 use Rattle.rc_store.specs.Stores.{with_objects}
 use Rattle.rc_areas.specs.Areas.{AreaState, IsLaid, objects_of}
 use Rattle.rc_areas.specs.Shapes.{Shape, has_shape, with_shape}
 use Rattle.rc_areas.proofs.Objects.{laid_kept, objects_kept, sizes_kept}
-use Rattle.rc_registry.specs.Registries.{IsMember, Members, member_in}
-use Rattle.rc_space.specs.Spaces.{IsBeside, IsSpace, area_at, no_area, regions_of, view_of}
+use Rattle.rc_registry.specs.Registries.{IsMember, Members, is_member, member_at, member_in, or_root}
+use Rattle.rc_space.specs.Spaces.{AreFreed, IsBeside, IsSpace, area_at, no_area, regions_of, view_of}
 use Rattle.rc_space.proofs.Regions.{regions_changed, regions_more, regions_same}
 
 -- a shape more
@@ -80,3 +81,42 @@ regions_stay ms areas new shapes shapes_new slots slot space beside kept same = 
       | inl here ↦ ap (λ k. objects_of shapes_new (area_at new k)) here ∙ ap (objects_of shapes_new) same ∙ ap (λ k. objects_of shapes_new (area_at areas k)) (sym here) ∙ kept (area_at areas s) (space.laid s)
       | inr apart ↦ ap (objects_of shapes_new) (beside.others s apart) ∙ kept (area_at areas s) (space.laid s)
     ]
+
+-- of a slot without a live region nothing is kept: another area of a live region, a region less, and one more
+pub freed_beside : (ms : Members) (areas new : List AreaState) (r slot : ℕ) → IsMember ms r → slot ≡ (member_in ms r).slot → IsBeside slot areas new → AreFreed ms areas → AreFreed ms new
+freed_beside ms areas new r slot live is beside freed = λ s none. beside.others s (λ e. none r live (sym is ∙ sym e)) ∙ freed s none
+
+pub freed_less : (ms : Members) (areas new : List AreaState) (r slot : ℕ) → slot ≡ (member_in ms r).slot → IsBeside slot areas new → area_at new slot ≡ no_area → AreFreed ms areas → AreFreed (set ms r None) new
+freed_less ms areas new r slot is beside empty freed = λ s none. elim (cases_eq s slot) [
+  | inl same ↦ ap (area_at new) same ∙ empty
+  | inr apart ↦ beside.others s apart ∙ freed s (λ n there. other s none apart n there (cases_eq n r))
+]
+  where
+    other : (s : ℕ) → ((n : ℕ) → IsMember (set ms r None) n → (member_in (set ms r None) n).slot ≢ s) → s ≢ slot → (n : ℕ) → IsMember ms n → (n ≡ r) ⊎ (n ≢ r) → (member_in ms n).slot ≢ s
+    other s none apart n there (inl e) = λ f. apart (sym f ∙ ap (λ k. (member_in ms k).slot) e ∙ sym is)
+    other s none apart n there (inr far) =
+        let same : member_at (set ms r None) n ≡ member_at ms n = get_or-set_other ms r n None None far in
+        λ f. none n (ap is_member same ∙ there) (ap (λ m. (or_root m).slot) same ∙ f)
+
+member_kept : (ms : Members) (m : Option Member) (n : ℕ) → IsMember ms n → member_at (ms ++ m ∷ []) n ≡ member_at ms n
+member_kept [] m n there = absurd (false≢true there)
+member_kept (x ∷ ms) m zero there = refl
+member_kept (x ∷ ms) m (suc n) there = member_kept ms m n there
+
+pub freed_more : (ms : Members) (m : Option Member) (areas : List AreaState) → AreFreed ms areas → AreFreed (ms ++ m ∷ []) areas
+freed_more ms m areas freed = λ s none. freed s (λ n there f. none n (ap is_member (member_kept ms m n there) ∙ there) (ap (λ x. (or_root x).slot) (member_kept ms m n there) ∙ f))
+
+pub freed_behind : (ms : Members) (areas : List AreaState) → AreFreed ms areas → AreFreed ms (areas ++ no_area ∷ [])
+freed_behind ms areas freed = λ s none. elim (cases_eq s (length areas)) [
+  | inl last ↦ ap (area_at (areas ++ no_area ∷ [])) last ∙ behind_there areas no_area
+  | inr apart ↦ behind_same areas no_area s apart ∙ freed s none
+]
+
+pub space_behind : (slots : ℕ) (areas : List AreaState) (shapes : List Shape) → IsSpace slots areas shapes → IsSpace (slots + 1) (areas ++ no_area ∷ []) shapes
+space_behind slots areas shapes space = record {
+  count = length-append areas (no_area ∷ []) ∙ ap (λ n. n + 1) space.count;
+  laid = λ s. elim (cases_eq s (length areas)) [
+    | inl last ↦ subst (IsLaid shapes) (sym (ap (area_at (areas ++ no_area ∷ [])) last ∙ behind_there areas no_area)) (empty_laid shapes)
+    | inr apart ↦ subst (IsLaid shapes) (sym (behind_same areas no_area s apart)) (space.laid s)
+  ];
+}

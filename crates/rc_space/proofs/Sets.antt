@@ -1,5 +1,5 @@
 -- Several regions at once: who has a parent among them, and what is left without them.
-use Rattle.std.proofs.Common.{◌≡◌, ◌<◌, ◌+◌, ◌∙◌, ◌⊎◌, inl, inr, ℕ, zero, suc, Bool, true, false, cond, IsTrue, List, [], ◌∷◌, ◌++◌, Option, Some, None, length, get_or, map, set as slice_set, refl, sym, ap, subst, arith, get_or-set_other, get_or-set_same, length-set}
+use Rattle.std.proofs.Common.{◌≡◌, ◌≢◌, ◌<◌, ◌+◌, ◌∙◌, ◌⊎◌, inl, inr, ℕ, zero, suc, Bool, true, false, cond, IsTrue, List, [], ◌∷◌, ◌++◌, Option, Some, None, length, get_or, map, set as slice_set, refl, sym, ap, subst, arith, get_or-set_other, get_or-set_same, length-set}
 use Rattle.std.specs.Prelude.{◌||◌, ◌&&◌, ◌↔◌, not, option_map, All}
 use Rattle.std.proofs.lemmas.Bool.{cases_eq, false≢true}
 use Rattle.std.proofs.lemmas.List.{ext_get_or, length-map}
@@ -15,7 +15,7 @@ use Rattle.rc_registry.specs.Registries.{IsApart, IsMember, Members, at_slots, i
 use Rattle.rc_registry.proofs.Placed.{same_answer}
 use Rattle.rc_groups.specs.Groups.{AreClear, HasChildOutside}
 use Rattle.rc_groups.proofs.Marked.{hit_is, length-at_slots, set_read, slot_below}
-use Rattle.rc_space.specs.Spaces.{IsBeside, IsSpace, area_at, no_area, regions_of, view_of}
+use Rattle.rc_space.specs.Spaces.{AreFreed, IsBeside, IsSpace, area_at, no_area, regions_of, view_of}
 use Rattle.rc_space.proofs.Grown.{empty_laid}
 use Rattle.rc_space.proofs.Regions.{live_is, parent_is}
 
@@ -93,6 +93,19 @@ module _ (ms : Members) (areas : List AreaState) (shapes : List Shape) (set : Li
 
     pub space_left : IsSpace slots left shapes
     space_left = record { count = length-at_slots ms no_area set areas ∙ space.count; laid = λ s. left_laid s (is_slot_of ms set s) refl }
+
+    pub freed_left : AreFreed ms areas → AreFreed (without set ms) left
+    freed_left freed = λ s none. left_read s ∙ by s none (is_slot_of ms set s) refl
+      where
+        outside : (s : ℕ) → ((n : ℕ) → IsMember (without set ms) n → (member_in (without set ms) n).slot ≢ s) → is_slot_of ms set s ≡ false → (n : ℕ) → IsMember ms n → (b : Bool) → is_in set n ≡ b → (member_in ms n).slot ≢ s
+        outside s none not_one n there true is = λ f. false≢true (sym not_one ∙ ap (is_slot_of ms set) (sym f) ∙ hit_is ms slots apart set live n there ∙ is)
+        outside s none not_one n there false out =
+            let same : member_at (without set ms) n ≡ member_at ms n = without_read set ms n ∙ ap (λ b. cond b None (member_at ms n)) out in
+            λ f. none n (ap is_member same ∙ there) (ap (λ m. (or_root m).slot) same ∙ f)
+
+        by : (s : ℕ) → ((n : ℕ) → IsMember (without set ms) n → (member_in (without set ms) n).slot ≢ s) → (b : Bool) → is_slot_of ms set s ≡ b → cond b no_area (area_at areas s) ≡ no_area
+        by s none true is = refl
+        by s none false not_one = freed s (λ n there. outside s none not_one n there (is_in set n) refl)
 
     map_read : (held : List AreaState) (xs : Members) (n : ℕ) → get_or (map (option_map (view_of held shapes)) xs) n None ≡ option_map (view_of held shapes) (member_at xs n)
     map_read held [] n = refl

@@ -9,7 +9,7 @@ use Rattle.rc_store.specs.Values.{suits}
 use Rattle.rc_slots.specs.Entries.{Member}
 use Rattle.rc_areas.specs.Areas.{AreaState, IsLaid, objects_of}
 use Rattle.rc_areas.specs.Shapes.{Shape}
-use Rattle.rc_registry.specs.Registries.{Members}
+use Rattle.rc_registry.specs.Registries.{IsMember, Members, member_in}
 use Rattle.rc_groups.specs.Groups.{AreClear}
 
 -- the regions, and how many references to each are counted
@@ -38,9 +38,14 @@ pub record IsSpace (slots : ℕ) (areas : List AreaState) (shapes : List Shape) 
   pub count : length areas ≡ slots
   pub laid : (slot : ℕ) → IsLaid shapes (area_at areas slot)
 
+-- no object is kept at a slot where no live region stands
+abbrev pub AreFreed : Members → List AreaState → Type 0
+AreFreed members areas = (slot : ℕ) → ((n : ℕ) → IsMember members n → (member_in members n).slot ≢ slot) → area_at areas slot ≡ no_area
+
 -- besides, room for a mark for each slot, none of which is set
-pub record IsSound (slots : ℕ) (areas : List AreaState) (shapes : List Shape) (marks : List Bool) : Type 0 where
+pub record IsSound (members : Members) (slots : ℕ) (areas : List AreaState) (shapes : List Shape) (marks : List Bool) : Type 0 where
   pub space : IsSpace slots areas shapes
+  pub freed : AreFreed members areas
   pub count : length marks ≡ slots
   pub clear : AreClear marks
 

@@ -1,10 +1,12 @@
 // The space of all regions.
-ghost use Rattle.std.specs.Prelude.{◌≡◌, ◌≢◌, ◌<◌, ◌≤◌, ◌+◌, ◌++◌, ◌∷◌, [], ℕ, Some, None, false, length, map, slice_index_or, slice_set, All, Contains, IfOk, OnOk, OnErr, IsTrue};
+ghost use Rattle.std.specs.Prelude.{◌≡◌, ◌≢◌, ◌<◌, ◌≤◌, ◌+◌, ◌*◌, ◌++◌, ◌∷◌, [], ℕ, Some, None, false, length, map, slice_index_or, slice_set, All, Contains, IfOk, OnOk, OnErr, IsTrue};
 ghost use Rattle.std.specs.List.{list_any};
 ghost use Rattle.rc_core.specs.declared.layouts.Kind.TheVariants.{Number as NumberKind};
 ghost use Rattle.rc_core.specs.Heap.{is_above};
 ghost use Rattle.rc_core.specs.Laid.{kind_of};
 ghost use Rattle.rc_core.specs.Shapes.{kinds_in};
+ghost use Rattle.rc_core.specs.Heap.{Number as NumberValue};
+ghost use Rattle.rc_store.specs.Elements.{Finds, Loads, Stores, index_from, place_from};
 ghost use Rattle.rc_store.specs.Kept.{blank};
 ghost use Rattle.rc_store.specs.Sets.{has_child_outside};
 ghost use Rattle.rc_store.specs.Stores.{cell_place, cell_value, cells_in, is_child, live_in, no_view, object_in, objects_in, objects_with, parent_in, region_at, with_objects};
@@ -13,13 +15,13 @@ ghost use Rattle.rc_counts.specs.Together.{without};
 ghost use Rattle.rc_tally.specs.Tally.{held_refs, pin_refs, value_refs};
 ghost use Rattle.rc_space.specs.Spaces.{HasSpot, IsWhole, count_of};
 
-use crate::areas::{clear, clear_all, push_object, write_cell};
+use crate::areas::{clear, clear_all, push_object, replace_cell, write_cell};
 use rc_areas::{Area, Shapes};
 use rc_base::{NoMemory, Steps};
 use rc_core::layout::Layout;
 use rc_pages::Bank;
 use rc_registry::Registry;
-use rc_store::{Cell, Place};
+use rc_store::{Cell, Missed, Place, Pointer, element_at};
 use std::alloc::Global;
 use std::marker::Model;
 use std::sync::ledger::Ledger;
@@ -48,7 +50,7 @@ impl Model for Space {
 
     ghost view = { λ s. record { regions = regions_of s.registry.members s.areas.items s.shapes; counts = s.registry.counts } };
 
-    ghost invariant = { λ s. IsSound s.registry.slots s.areas.items s.shapes s.marks.items };
+    ghost invariant = { λ s. IsSound s.registry.members s.registry.slots s.areas.items s.shapes s.marks.items };
 }
 
 /// Room for the mark of one slot, which isn't set.
@@ -155,6 +157,76 @@ impl Space {
         )
     }
 
+    /// The value of a cell of the element that is so far from a pointer's.
+    ///
+    /// # Errors
+    ///
+    /// In this order: the region is dead, the object has no such element.
+    #[inline(always)]
+    pub fn load<L: Ledger>(
+        &self,
+        pointer: Pointer,
+        shift: i64,
+        cell: u32,
+        steps: &mut Steps<L>,
+    ) -> Result<Cell, Missed>
+        requires object { IsTrue (live_in self.now.regions pointer.region) → pointer.object < length (objects_in self.now.regions pointer.region) }
+        requires spot { Finds self.now.regions pointer shift → HasSpot self.now.regions (place_from pointer shift cell) }
+        ensures loads { Loads self.now.regions pointer shift cell result }
+        ensures never_falls { steps.old ≤ steps.new }
+    {
+        let Some(slot) = self.registry.slot_if_live(pointer.region) else {
+            return Err(Missed::Dead);
+        };
+        let area = &self.areas[slot as usize];
+        let elements = area.count(pointer.object, &self.shapes);
+        let Some(index) = element_at(pointer.index, shift, elements) else {
+            return Err(Missed::Outside);
+        };
+        Ok(area.get(pointer.object, index, cell, &self.shapes, steps))
+    }
+
+    /// Writes a number into a cell of the element that is so far from a pointer's. No count changes.
+    ///
+    /// # Errors
+    ///
+    /// In this order: the region is dead, the object has no such element. After an error nothing has
+    /// changed.
+    #[inline(always)]
+    pub fn store_number(
+        &mut self,
+        pointer: Pointer,
+        shift: i64,
+        cell: u32,
+        number: i64,
+    ) -> Result<(), Missed>
+        requires object { IsTrue (live_in self.old.regions pointer.region) → pointer.object < length (objects_in self.old.regions pointer.region) }
+        requires spot { Finds self.old.regions pointer shift → HasSpot self.old.regions (place_from pointer shift cell) }
+        requires suits { Finds self.old.regions pointer shift → IsTrue (suits (slice_index_or (object_in self.old.regions pointer.region pointer.object).kinds (cell_place (object_in self.old.regions pointer.region pointer.object) (index_from pointer shift) cell) NumberKind) (NumberValue number)) }
+        ensures stores { Stores pointer shift cell (NumberValue number) self.old.regions self.new.regions result }
+        ensures whole { OnOk result (IsWhole (object_in self.old.regions pointer.region pointer.object) (index_from pointer shift) cell) }
+        ensures counts { self.new.counts ≡ self.old.counts }
+    {
+        let Some(slot) = self.registry.find_if_live(pointer.region) else {
+            return Err(Missed::Dead);
+        };
+        let elements = self.areas[slot as usize].count(pointer.object, &self.shapes);
+        let Some(index) = element_at(pointer.index, shift, elements) else {
+            return Err(Missed::Outside);
+        };
+        let place = Place {
+            pointer: Pointer {
+                region: pointer.region,
+                object: pointer.object,
+                index,
+            },
+            cell,
+        };
+        let value = Cell::Number(number);
+        write_cell(&mut self.areas, slot as usize, place, value, &self.shapes);
+        Ok(())
+    }
+
     /// Writes a cell. The value is one of those that the cell may hold. No count changes.
     #[inline(always)]
     pub fn write(&mut self, place: Place, value: Cell)
@@ -166,6 +238,22 @@ impl Space {
     {
         let slot = self.registry.find(place.pointer.region) as usize;
         write_cell(&mut self.areas, slot, place, value, &self.shapes);
+    }
+
+    /// Writes a cell, and answers what it held, which suits the cell's kind. The value is one of those
+    /// that the cell may hold. No count changes.
+    #[inline(always)]
+    pub fn replace<L: Ledger>(&mut self, place: Place, value: Cell, steps: &mut Steps<L>) -> Cell
+        requires spot { HasSpot self.old.regions place }
+        requires suits { IsTrue (suits (slice_index_or (object_in self.old.regions place.pointer.region place.pointer.object).kinds (cell_place (object_in self.old.regions place.pointer.region place.pointer.object) place.pointer.index place.cell) NumberKind) (value_of value)) }
+        ensures before { value_of result ≡ cell_value (object_in self.old.regions place.pointer.region place.pointer.object) place.pointer.index place.cell }
+        ensures written { self.new.regions ≡ with_objects place.pointer.region (objects_with place.pointer.object place.pointer.index place.cell (value_of value) (objects_in self.old.regions place.pointer.region)) self.old.regions }
+        ensures whole { IsWhole (object_in self.old.regions place.pointer.region place.pointer.object) place.pointer.index place.cell }
+        ensures counts { self.new.counts ≡ self.old.counts }
+        ensures step { steps.new ≡ steps.old + 1 }
+    {
+        let slot = self.registry.find(place.pointer.region) as usize;
+        replace_cell(&mut self.areas, slot, place, value, &self.shapes, steps)
     }
 
     /// Makes a child of a live region, without an object and without a reference.
@@ -192,19 +280,25 @@ impl Space {
         if slot == self.areas.len() {
             self.areas.push(Area::new(self.alloc)).unwrap();
             self.marks.push(false).unwrap();
-        } else {
-            clear(self.alloc, &mut self.areas, slot, &mut self.bank);
         }
         Ok(())
     }
 
-    /// Appends an object of so many elements of a layout to a live region, all zero or null.
+    /// Appends an object of so many elements of a layout to a live region, all zero or null, with so
+    /// many cells together.
     ///
     /// # Errors
     ///
     /// Out of memory: regions and counts are as before.
-    pub fn push(&mut self, region: u32, layout: &Layout, count: u32) -> Result<(), NoMemory>
-        requires { IsTrue (live_in self.old.regions region) }
+    pub fn push(
+        &mut self,
+        region: u32,
+        layout: &Layout,
+        count: u32,
+        size: u64,
+    ) -> Result<(), NoMemory>
+        requires live { IsTrue (live_in self.old.regions region) }
+        requires size { size ≡ count * length layout.now.cells.items }
         ensures ok { OnOk result (self.new.regions ≡ with_objects region (objects_in self.old.regions region ++ blank (map kind_of (kinds_in layout.now)) count ∷ []) self.old.regions) }
         ensures err { OnErr result (self.new.regions ≡ self.old.regions) }
         ensures counts { self.new.counts ≡ self.old.counts }
@@ -216,6 +310,7 @@ impl Space {
             slot,
             shape,
             count,
+            size,
             &self.shapes,
             &mut self.bank,
         )
@@ -262,7 +357,7 @@ impl Space {
         ensures counts { (r : ℕ) → count_of self.new r ≡ count_of self.old r }
     {
         let slot = self.registry.slot(region) as usize;
-        clear(self.alloc, &mut self.areas, slot, &mut self.bank);
+        clear(&mut self.areas, slot, &mut self.bank);
         self.registry.remove(region);
     }
 
@@ -297,13 +392,7 @@ impl Space {
         ensures regions { self.new.regions ≡ without set.now self.old.regions }
         ensures counts { (r : ℕ) → count_of self.new r ≡ count_of self.old r }
     {
-        clear_all(
-            self.alloc,
-            &self.registry,
-            set,
-            &mut self.areas,
-            &mut self.bank,
-        );
+        clear_all(&self.registry, set, &mut self.areas, &mut self.bank);
         rc_groups::remove_all(&mut self.registry, set, &mut self.marks);
     }
 

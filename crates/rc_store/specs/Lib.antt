@@ -1,5 +1,6 @@
 pub mod Values
 pub mod Kept
 pub mod Stores
+pub mod Elements
 pub mod Laws
 pub mod Sets

@@ -26,6 +26,15 @@ pub struct Place {
     pub cell: u32,
 }
 
+/// Why a pointer leads to no element.
+#[derive(Clone, Copy, Debug, PartialEq, Eq)]
+pub enum Missed {
+    /// Its region is dead.
+    Dead,
+    /// The object has no such element.
+    Outside,
+}
+
 /// Why a region or an object wasn't made.
 #[derive(Clone, Copy, Debug, PartialEq, Eq)]
 pub enum MakeFault {

@@ -1,7 +1,8 @@
 // The trait of heaps.
-ghost use Rattle.std.specs.Prelude.{◌≡◌, ◌≢◌, ◌↔◌, ◌+◌, ◌<◌, ◌≤◌, ◌++◌, ◌∷◌, [], ℕ, length, map, false, IfOk, OnOk, OnErr, IsErrOf, IsTrue, Contains, IsPermutation};
+ghost use Rattle.std.specs.Prelude.{◌≡◌, ◌≢◌, ◌↔◌, ◌+◌, ◌<◌, ◌≤◌, ◌++◌, ◌∷◌, [], ℕ, length, map, true, false, IfOk, OnOk, OnErr, IsErrOf, IsTrue, Contains, IsPermutation};
 
-use crate::cell::{Cell, Denied, MakeFault, Place};
+use crate::cell::{Cell, Denied, MakeFault, Missed, Place, Pointer};
+use crate::elements::element_at;
 use rc_base::{Limits, NoMemory, Steps};
 use rc_core::layout::Layout;
 use rc_core::ty::Note;
@@ -14,6 +15,8 @@ pub trait Heap: Drop {
     ghost use Rattle.rc_core.specs.Laid.{kind_of};
     ghost use Rattle.rc_core.specs.Shapes.{kinds_in};
     ghost use Rattle.rc_store.specs.Kept.{KeptStore, refs};
+    ghost use Rattle.rc_core.specs.Heap.{Number};
+    ghost use Rattle.rc_store.specs.Elements.{Finds, Loads, Stores, place_from};
     ghost use Rattle.rc_store.specs.Values.{note_of, value_of};
     ghost use Rattle.rc_store.specs.Stores.{HasObject, HasPlace, IsFresh, IsLive, IsNew, MayStand, allocated, deleted, has_child, kind_at, limited, live_in, made, object_in, objects_in, parent_in, value_at, written};
     ghost use Rattle.rc_store.specs.declared.cell.MakeFault.TheVariants.{Full};
@@ -83,12 +86,87 @@ pub trait Heap: Drop {
         ensures value { value_of result ≡ value_at (store self.now) place }
         ensures never_falls { steps.old ≤ steps.new };
 
+    /// The value of a cell of the element that is so far from a pointer's.
+    ///
+    /// # Errors
+    ///
+    /// In this order: the region is dead, the object has no such element.
+    fn load<L: Ledger>(
+        &self,
+        pointer: Pointer,
+        shift: i64,
+        cell: u32,
+        steps: &mut Steps<L>,
+    ) -> Result<Cell, Missed>
+        requires object { IsLive (store self.now) pointer.region → HasObject (store self.now) pointer.region pointer.object }
+        requires place { Finds (store self.now).regions pointer shift → HasPlace (store self.now) (place_from pointer shift cell) }
+        ensures loads { Loads (store self.now).regions pointer shift cell result }
+        ensures never_falls { steps.old ≤ steps.new }
+    {
+        if !self.is_live(pointer.region) {
+            return Err(Missed::Dead);
+        }
+        let elements = self.elements(pointer.region, pointer.object);
+        let Some(index) = element_at(pointer.index, shift, elements) else {
+            return Err(Missed::Outside);
+        };
+        let place = Place {
+            pointer: Pointer {
+                region: pointer.region,
+                object: pointer.object,
+                index,
+            },
+            cell,
+        };
+        Ok(self.read(place, steps))
+    }
+
     /// Writes a counted cell, or one that holds a number.
     fn write_counted<L: Ledger>(&mut self, place: Place, value: Cell, steps: &mut Steps<L>)
         requires may { MayStand (store self.old) place (value_of value) }
         requires plain { note_of (kind_at (store self.old) place) ≡ Plain }
         ensures written { store self.new ≡ written place (value_of value) (store self.old) }
         ensures never_falls { steps.old ≤ steps.new };
+
+    /// Writes a number into a cell of the element that is so far from a pointer's.
+    ///
+    /// # Errors
+    ///
+    /// In this order: the region is dead, the object has no such element. After an error nothing has
+    /// changed.
+    fn store_number<L: Ledger>(
+        &mut self,
+        pointer: Pointer,
+        shift: i64,
+        cell: u32,
+        number: i64,
+        steps: &mut Steps<L>,
+    ) -> Result<(), Missed>
+        requires object { IsLive (store self.old) pointer.region → HasObject (store self.old) pointer.region pointer.object }
+        requires may { Finds (store self.old).regions pointer shift → MayStand (store self.old) (place_from pointer shift cell) (Number number) }
+        requires plain { Finds (store self.old).regions pointer shift → note_of (kind_at (store self.old) (place_from pointer shift cell)) ≡ Plain }
+        ensures stores { Stores pointer shift cell (Number number) (store self.old).regions (store self.new).regions result }
+        ensures same { store self.new ≡ record (store self.old) { regions = (store self.new).regions } }
+        ensures never_falls { steps.old ≤ steps.new }
+    {
+        if !self.is_live(pointer.region) {
+            return Err(Missed::Dead);
+        }
+        let elements = self.elements(pointer.region, pointer.object);
+        let Some(index) = element_at(pointer.index, shift, elements) else {
+            return Err(Missed::Outside);
+        };
+        let place = Place {
+            pointer: Pointer {
+                region: pointer.region,
+                object: pointer.object,
+                index,
+            },
+            cell,
+        };
+        self.write_counted(place, Cell::Number(number), steps);
+        Ok(())
+    }
 
     /// Writes a cell whose annotation the value fits.
     fn write_kept(&mut self, place: Place, value: Cell)

@@ -5,13 +5,15 @@
 #![tactic(auto)]
 
 mod cell;
+mod elements;
 mod heap;
 mod kinds;
 mod laws;
 mod pins;
 mod set_heap;
 
-pub use cell::{Cell, Denied, MakeFault, Place, Pointer};
+pub use cell::{Cell, Denied, MakeFault, Missed, Place, Pointer};
+pub use elements::element_at;
 pub use heap::Heap;
 pub use kinds::{blank_of, is_counted, kind_of, kinds_of};
 pub use laws::a_heap_keeps_the_store;

@@ -16,11 +16,11 @@ use Rattle.rc_cells.specs.Codes.{decoded}
 use Rattle.rc_counts.specs.Follow.{cell_refs}
 use Rattle.rc_slots.specs.declared.entry.Entry.{Entry}
 use Rattle.rc_slots.specs.Entries.{IsEntry, counted, entry_at, lowered, member_of, members_of, raised}
-use Rattle.rc_areas.specs.Shapes.{Shape}
+use Rattle.rc_areas.specs.Shapes.{Shape, has_counted}
 use Rattle.rc_areas.specs.Areas.{AreLaid, AreaState, IsLaid, kinds_in, object_from, objects_from, objects_of, size_in, values_from}
 use Rattle.rc_areas.specs.declared.head.Head.{Head}
 use Rattle.rc_areas.proofs.Objects.{length-again, shape_is, start_is}
-use Rattle.rc_tally.specs.Tally.{IsGiven, IsTaken, codes_refs, has_counted, held_refs, pin_refs, value_refs}
+use Rattle.rc_tally.specs.Tally.{IsGiven, IsTaken, codes_refs, held_refs, pin_refs, value_refs}
 
 -- nothing was taken
 pub taken_none : (d : List (Option Entry)) (by : ℕ → ℕ) → ((r : ℕ) → by r ≡ 0) → IsTaken d d by

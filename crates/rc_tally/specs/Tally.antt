@@ -1,10 +1,8 @@
 -- What values and cells add to the count of the region that they name, and what giving and taking back do to a directory.
 use Rattle.std.specs.Prelude.{◌≡◌, ◌<◌, ◌≤◌, ◌+◌, ℕ, Bool, false, nat_eq, List, [], ◌∷◌, Option, Some, None, sum_by, if◌then◌else◌}
-use Rattle.std.specs.List.{list_any}
 use Rattle.rc_core.specs.declared.layouts.Kind.{Kind}
 use Rattle.rc_core.specs.Heap.{Value, names}
 use Rattle.rc_store.specs.Kept.{KeptObject, object_refs}
-use Rattle.rc_store.specs.Values.{is_counted}
 use Rattle.rc_cells.specs.Codes.{decoded}
 use Rattle.rc_counts.specs.Follow.{cell_refs}
 use Rattle.rc_slots.specs.declared.entry.Entry.{Entry}
@@ -27,10 +25,6 @@ abbrev pub codes_refs : (r holder : ℕ) → List Kind → List ℕ → ℕ
 codes_refs r holder [] codes = 0
 codes_refs r holder (k ∷ ks) [] = 0
 codes_refs r holder (k ∷ ks) (c ∷ cs) = cell_refs r holder k (decoded k c) + codes_refs r holder ks cs
-
--- a cell of these kinds counts
-abbrev pub has_counted : List Kind → Bool
-has_counted kinds = list_any is_counted kinds
 
 -- those of a holder's objects
 abbrev pub held_refs : (r holder : ℕ) → List KeptObject → ℕ

@@ -10,8 +10,8 @@ is_more : (c : goal.After-unwrap) → (let new : AreaState = record { heads = c.
 is_more c =
     let h : Head = record { start = c.len-start.result; count = c.args.count; shape = c.args.shape } in
     let heads : c.push.new.self.items ≡ c.self.inside.heads.items ++ h ∷ [] = search rules in
-    let size : c.in_ok-size.size ≡ c.args.count * length (get_or c.args.shapes.now c.args.shape []) = search rules in
-    let codes : c.push_zeros.new.self ≡ c.self.inside.cells ++ replicate c.in_ok-size.size 0 = search rules in
+    let size : c.args.size ≡ c.args.count * length (get_or c.args.shapes.now c.args.shape []) = c.requires.size in
+    let codes : c.push_zeros.new.self ≡ c.self.inside.cells ++ replicate c.args.size 0 = search rules in
     ap (λ hs. let new : AreaState = record { heads = hs; codes = c.push_zeros.new.self } in new) heads
     ∙ ap (λ cs. let new : AreaState = record { heads = c.self.inside.heads.items ++ h ∷ []; codes = cs } in new) (codes ∙ ap (λ n. c.self.inside.cells ++ replicate n 0) size)
     ∙ ap (λ (a : AreaState). let new : AreaState = record { heads = a.heads ++ h ∷ []; codes = a.codes ++ replicate (c.args.count * length (get_or c.args.shapes.now c.args.shape [])) 0 } in new) c.self.view_is

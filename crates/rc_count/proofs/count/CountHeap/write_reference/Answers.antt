@@ -16,11 +16,11 @@ take_back-requires g c =
     let p = c.args.place in
     let v = value_of c.args.value in
     let may : MayStand s p v = subst (λ x. MayStand x p v) (sym c.self.view_is) c.requires.may in
-    let whole = c.write.ensures.whole in
+    let whole = c.replace-old.ensures.whole in
     let there : IsThere s p = record { place = may.place; kind = whole.kind; value = whole.value } in
     let plain : note_of (kind_at s p) ≡ Plain = subst (λ x. note_of (kind_at x p) ≡ Plain) (sym c.self.view_is) c.requires.plain in
-    λ r. subst (λ ns. value_refs r p.pointer.region (value_of c.read-old.result) ≤ get_or ns r 0) (sym c.write.ensures.counts)
-    (old_few h.space s h.cells c.self.invariant p there v (value_of c.read-old.result) c.read-old.ensures.value plain whole.suits may.kind r)
+    λ r. subst (λ ns. value_refs r p.pointer.region (value_of c.replace-old.result) ≤ get_or ns r 0) (sym c.replace-old.ensures.counts)
+    (old_few h.space s h.cells c.self.invariant p there v (value_of c.replace-old.result) c.replace-old.ensures.before plain whole.suits may.kind r)
 
 pub give-requires-clause-live : goal.give-requires-clause-live
 give-requires-clause-live g c =
@@ -29,10 +29,10 @@ give-requires-clause-live g c =
     let p = c.args.place in
     let v = value_of c.args.value in
     let may : MayStand s p v = subst (λ x. MayStand x p v) (sym c.self.view_is) c.requires.may in
-    let whole = c.write.ensures.whole in
+    let whole = c.replace-old.ensures.whole in
     let there : IsThere s p = record { place = may.place; kind = whole.kind; value = whole.value } in
     let plain : note_of (kind_at s p) ≡ Plain = subst (λ x. note_of (kind_at x p) ≡ Plain) (sym c.self.view_is) c.requires.plain in
-    λ r some. ap (λ rs. live_in rs r) (c.take_back.ensures.regions ∙ c.write.ensures.written) ∙ live_set s.regions p.pointer.region r _ may.place.live ∙ fresh_live s p.pointer.region r v may.fresh some
+    λ r some. ap (λ rs. live_in rs r) (c.take_back.ensures.regions ∙ c.replace-old.ensures.written) ∙ live_set s.regions p.pointer.region r _ may.place.live ∙ fresh_live s p.pointer.region r v may.fresh some
 
 pub give-requires-clause-few : goal.give-requires-clause-few
 give-requires-clause-few g c =
@@ -41,10 +41,10 @@ give-requires-clause-few g c =
     let p = c.args.place in
     let v = value_of c.args.value in
     let may : MayStand s p v = subst (λ x. MayStand x p v) (sym c.self.view_is) c.requires.may in
-    let whole = c.write.ensures.whole in
+    let whole = c.replace-old.ensures.whole in
     let there : IsThere s p = record { place = may.place; kind = whole.kind; value = whole.value } in
     let plain : note_of (kind_at s p) ≡ Plain = subst (λ x. note_of (kind_at x p) ≡ Plain) (sym c.self.view_is) c.requires.plain in
-    new_few h.space s h.cells c.self.invariant p there v (value_of c.read-old.result) c.read-old.ensures.value plain whole.suits may.kind c.take_back.new.self (λ r. c.take_back.ensures.counts r ∙ ap (λ ns. get_or ns r 0) c.write.ensures.counts)
+    new_few h.space s h.cells c.self.invariant p there v (value_of c.replace-old.result) c.replace-old.ensures.before plain whole.suits may.kind c.take_back.new.self (λ r. c.take_back.ensures.counts r ∙ ap (λ ns. get_or ns r 0) c.replace-old.ensures.counts)
 
 pub invariant_of-self : goal.invariant_of-self
 invariant_of-self g c =
@@ -53,10 +53,10 @@ invariant_of-self g c =
     let p = c.args.place in
     let v = value_of c.args.value in
     let may : MayStand s p v = subst (λ x. MayStand x p v) (sym c.self.view_is) c.requires.may in
-    let whole = c.write.ensures.whole in
+    let whole = c.replace-old.ensures.whole in
     let there : IsThere s p = record { place = may.place; kind = whole.kind; value = whole.value } in
     let plain : note_of (kind_at s p) ≡ Plain = subst (λ x. note_of (kind_at x p) ≡ Plain) (sym c.self.view_is) c.requires.plain in
     let with : Regions → KeptStore = λ rs. record s { regions = rs } in
-    subst (λ rs. IsCounted c.give.new.self (with rs) h.cells) (sym (c.give.ensures.regions ∙ c.take_back.ensures.regions ∙ c.write.ensures.written))
-    (counted_written h.space s h.cells c.self.invariant p there v (value_of c.read-old.result) c.read-old.ensures.value plain whole.suits may.kind c.take_back.new.self
-    (λ r. c.take_back.ensures.counts r ∙ ap (λ ns. get_or ns r 0) c.write.ensures.counts) c.give.new.self c.give.ensures.counts)
+    subst (λ rs. IsCounted c.give.new.self (with rs) h.cells) (sym (c.give.ensures.regions ∙ c.take_back.ensures.regions ∙ c.replace-old.ensures.written))
+    (counted_written h.space s h.cells c.self.invariant p there v (value_of c.replace-old.result) c.replace-old.ensures.before plain whole.suits may.kind c.take_back.new.self
+    (λ r. c.take_back.ensures.counts r ∙ ap (λ ns. get_or ns r 0) c.replace-old.ensures.counts) c.give.new.self c.give.ensures.counts)

@@ -12,5 +12,8 @@ returns-then-number-self-clause-slot c =
 pub slot-slot-requires : goal.slot-slot-requires
 slot-slot-requires c = subst IsEntry (shown c.self.inside.chunks.items c.self.inside.len c.self.invariant.0 c.args.self.now c.self.view_is c.args.number ∙ ap (λ cs. entry_in cs c.args.number) (sym c.deref.ensures.value)) c.requires
 
+pub remember-requires : goal.remember-requires
+remember-requires c = ap slot_of (shown c.self.inside.chunks.items c.self.inside.len c.self.invariant.0 c.args.self.now c.self.view_is c.args.number ∙ ap (λ cs. entry_in cs c.args.number) (sym c.deref.ensures.value)) ∙ c.slot-slot.ensures
+
 pub returns-clause-slot : goal.returns-clause-slot
 returns-clause-slot c = ap slot_of (shown c.self.inside.chunks.items c.self.inside.len c.self.invariant.0 c.args.self.now c.self.view_is c.args.number ∙ ap (λ cs. entry_in cs c.args.number) (sym c.deref.ensures.value)) ∙ c.slot-slot.ensures

@@ -3,11 +3,11 @@ use Rattle.rc_space.specs.Spaces.{SpaceState, area_at, regions_of}
 use Rattle.std.specs.List.{list_any}
 use Rattle.std.proofs.lemmas.List.{with_items_is}
 use Rattle.rc_areas.specs.Areas.{IsLaid, objects_of}
-use Rattle.rc_space.specs.Spaces.{IsBeside, IsSpace}
+use Rattle.rc_space.specs.Spaces.{AreFreed, IsBeside, IsSpace}
 use Rattle.rc_store.specs.Stores.{is_child}
 use Rattle.rc_space.proofs.Regions.{child_is, regions_less}
 use Rattle.rc_space.proofs.Shown.{live_shown}
-use Rattle.rc_space.proofs.Grown.{empty_laid, regions_beside, space_beside}
+use Rattle.rc_space.proofs.Grown.{empty_laid, freed_less, regions_beside, space_beside}
 use Rattle.rc_space.proofs.space.Space.remove.Goals as goal
 
 pub remove-requires-clause-childless : goal.remove-requires-clause-childless
@@ -30,6 +30,7 @@ invariant_of-self c =
     let space = space_beside slots slot areas new s.shapes s.shapes c.self.invariant.space beside (λ a laid. laid) (subst (IsLaid s.shapes) (sym c.clear.ensures.empty) (empty_laid s.shapes)) in
     record {
       space = subst (λ xs. IsSpace c.remove.new.self.slots xs s.shapes) (sym items) (subst (λ n. IsSpace n new s.shapes) (sym c.remove.ensures.slots) space);
+      freed = subst (λ xs. AreFreed c.remove.new.self.members xs) (sym items) (subst (λ x. AreFreed x new) (sym c.remove.ensures.members) (freed_less ms areas new r slot c.slot-slot.ensures.slot beside c.clear.ensures.empty c.self.invariant.freed));
       count = c.self.invariant.count ∙ sym c.remove.ensures.slots;
       clear = c.self.invariant.clear;
     }

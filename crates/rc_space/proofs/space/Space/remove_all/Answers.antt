@@ -5,8 +5,8 @@ use Rattle.rc_store.specs.Sets.{has_child_outside}
 use Rattle.rc_counts.specs.Together.{without}
 use Rattle.rc_registry.specs.Registries.{at_slots}
 use Rattle.rc_groups.specs.Groups.{AreClear}
-use Rattle.rc_space.specs.Spaces.{IsSpace, SpaceState, no_area, regions_of}
-use Rattle.rc_space.proofs.Sets.{outside_shown, regions_left, space_left}
+use Rattle.rc_space.specs.Spaces.{AreFreed, IsSpace, SpaceState, no_area, regions_of}
+use Rattle.rc_space.proofs.Sets.{freed_left, outside_shown, regions_left, space_left}
 use Rattle.rc_space.proofs.Shown.{live_shown}
 use Rattle.rc_space.proofs.space.Space.remove_all.Goals as goal
 
@@ -37,8 +37,10 @@ invariant_of-self c =
     let all = with_items_is s.areas c.clear_all.new.areas (c.clear_all.auto.areas ∙ c.deref_mut.ensures.len) ∙ c.clear_all.ensures ∙ ap (at_slots ms no_area set) c.deref_mut.ensures.value in
     let marks = with_items_is s.marks c.remove_all.new.marks (c.remove_all.auto.marks ∙ c.deref_mut-2.ensures.len) in
     let space = space_left ms areas s.shapes set s.registry.slots c.self.invariant.space c.remove_all.ensures.apart (λ k d inside. live_shown ms areas s.shapes s.registry.slots c.self.invariant.space c.args.self.now.regions (ap (λ (x : SpaceState). x.regions) c.self.view_is) (get_or set k d) (c.requires.live k d inside)) in
+    let freed = freed_left ms areas s.shapes set s.registry.slots c.self.invariant.space c.remove_all.ensures.apart (λ k d inside. live_shown ms areas s.shapes s.registry.slots c.self.invariant.space c.args.self.now.regions (ap (λ (x : SpaceState). x.regions) c.self.view_is) (get_or set k d) (c.requires.live k d inside)) c.self.invariant.freed in
     record {
       space = subst (λ xs. IsSpace c.remove_all.new.registry.slots xs s.shapes) (sym all) (subst (λ n. IsSpace n left s.shapes) (sym c.remove_all.ensures.slots) space);
+      freed = subst (λ xs. AreFreed c.remove_all.new.registry.members xs) (sym all) (subst (λ x. AreFreed x left) (sym c.remove_all.ensures.members) freed);
       count = ap length marks ∙ c.remove_all.auto.marks ∙ ap length c.deref_mut-2.ensures.value ∙ c.self.invariant.count ∙ sym c.remove_all.ensures.slots;
       clear = subst AreClear (sym marks) c.remove_all.ensures.clear;
     }

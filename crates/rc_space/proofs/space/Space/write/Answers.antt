@@ -6,10 +6,10 @@ use Rattle.rc_store.specs.Stores.{HasCell, cell_place, no_object}
 use Rattle.rc_core.specs.declared.layouts.Kind.TheVariants.{Number as NumberKind}
 use Rattle.rc_areas.specs.Areas.{objects_of}
 use Rattle.rc_registry.specs.Registries.{RegistryState}
-use Rattle.rc_space.specs.Spaces.{IsBeside, IsSpace}
+use Rattle.rc_space.specs.Spaces.{AreFreed, IsBeside, IsSpace}
 use Rattle.rc_store.specs.Stores.{objects_in, objects_with, with_objects}
 use Rattle.rc_space.proofs.Shown.{area_object, cell_whole, heads_many, live_shown, objects_shown}
-use Rattle.rc_space.proofs.Grown.{regions_beside, space_beside}
+use Rattle.rc_space.proofs.Grown.{freed_beside, regions_beside, space_beside}
 use Rattle.rc_space.proofs.space.Space.write.Goals as goal
 
 pub write_cell-requires-clause-object : goal.write_cell-requires-clause-object
@@ -67,6 +67,7 @@ invariant_of-self c =
     let items = with_items_is s.areas new (c.write_cell.ensures.beside.count ∙ c.deref_mut.ensures.len) in
     record {
       space = subst (λ xs. IsSpace c.find-slot.new.self.slots xs s.shapes) (sym items) (subst (λ (x : RegistryState). IsSpace x.slots new s.shapes) (sym c.find-slot.ensures.same) (space_beside slots slot areas new s.shapes s.shapes c.self.invariant.space beside (λ a laid. laid) c.write_cell.ensures.laid));
+      freed = subst (λ xs. AreFreed c.find-slot.new.self.members xs) (sym items) (subst (λ (x : RegistryState). AreFreed x.members new) (sym c.find-slot.ensures.same) (freed_beside ms areas new r slot (live_shown ms areas s.shapes slots c.self.invariant.space c.args.self.now.regions view r spot.live) c.find-slot.ensures.slot beside c.self.invariant.freed));
       count = c.self.invariant.count ∙ ap (λ (x : RegistryState). x.slots) (sym c.find-slot.ensures.same);
       clear = c.self.invariant.clear;
     }

@@ -1,7 +1,7 @@
 use Rattle.std.proofs.Common.{◌≡◌, ◌≤◌, ◌+◌, ◌*◌, length, replicate, drop}
 use Rattle.std.specs.Prelude.{flat_map}
 use Rattle.rc_tally.specs.Tally.{IsTaken, codes_refs}
-use Rattle.rc_tally.proofs.area.take_back_object.Given as goal
+use Rattle.rc_tally.proofs.area.take_back_elements.Given as goal
 
 abbrev pub invariant-loop : goal.invariant-loop
 invariant-loop g l = record {
