@@ -5,8 +5,7 @@ ghost use Rattle.rc_code.specs.Running.{function_at, kept, reading_of};
 ghost use Rattle.rc_pile.specs.Stacks.{setting as set_to};
 ghost use Rattle.rc_pile.specs.Words.{value_of};
 ghost use Rattle.rc_steps.specs.Ready.{called};
-ghost use Rattle.rc_decode.specs.declared.op.Op.TheVariants.{Other};
-ghost use Rattle.rc_decode.specs.declared.op.Other.TheVariants.{Call, Return};
+ghost use Rattle.rc_decode.specs.declared.op.Op.TheVariants.{Call, Return};
 ghost use Rattle.rc_decode.specs.Whole.{IsBody};
 ghost use Rattle.rc_ready.specs.ShortForms.{IsReadyFor};
 ghost use Rattle.rc_ops.specs.Going.{IsInside, Went, at_of};
@@ -112,7 +111,7 @@ pub fn call<H: Heap>(
 ) -> Option<Exit>
     requires set { IsSet setting.now.image.now setting.now.bodies.now setting.now.layouts.now }
     requires inside { IsInside at.old }
-    requires ready { IsReadyFor setting.now.image.now (at_of running.old at.old) pile.old (H.store heap.old) running.old.start (Other (Call has_pins) callee) }
+    requires ready { IsReadyFor setting.now.image.now (at_of running.old at.old) pile.old (H.store heap.old) running.old.start (Call has_pins callee) }
     ensures went { Went setting.now.image.now (at_of running.old at.old) pile.old (H.store heap.old) (at_of running.new at.new) pile.new (H.store heap.new) result }
     ensures start { BeginsAt setting.now.bodies.now running.old → BeginsAt setting.now.bodies.now running.new }
 {
@@ -172,11 +171,10 @@ pub fn give_back<H: Heap>(
     pile: &mut Pile,
     at: &mut Counter,
     has_result: bool,
-    _operand: u32,
 ) -> Option<Exit>
     requires set { IsSet setting.now.image.now setting.now.bodies.now setting.now.layouts.now }
     requires inside { IsInside at.old }
-    requires ready { IsReadyFor setting.now.image.now (at_of running.old at.old) pile.old (H.store heap.old) running.old.start (Other (Return has_result) _operand) }
+    requires ready { IsReadyFor setting.now.image.now (at_of running.old at.old) pile.old (H.store heap.old) running.old.start (Return has_result) }
     ensures went { Went setting.now.image.now (at_of running.old at.old) pile.old (H.store heap.old) (at_of running.new at.new) pile.new (H.store heap.new) result }
     ensures start { BeginsAt setting.now.bodies.now running.old → BeginsAt setting.now.bodies.now running.new }
 {

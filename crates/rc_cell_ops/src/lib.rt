@@ -5,5 +5,7 @@ mod cells;
 mod deletions;
 mod reaching;
 
-pub use cells::{load, load_flat, load_plain, store, store_number};
+pub use cells::{
+    FlatCell, FlatStore, PathStore, load, load_indexed, store, store_indexed, store_number,
+};
 pub use deletions::delete;

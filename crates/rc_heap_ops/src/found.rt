@@ -63,7 +63,7 @@ pub fn live_region<H: Heap>(heap: &H, word: Word) -> Result<u32, Exit>
 ///
 /// Null traps, and a dead region is touched.
 #[inline(always)]
-pub fn live_pointer<H: Heap>(heap: &H, word: Word) -> Result<Pointer, Miss>
+pub(crate) fn live_pointer<H: Heap>(heap: &H, word: Word) -> Result<Pointer, Miss>
     requires { (value_of word ≡ Null) ⊎ ((a : Address) × (value_of word ≡ PointerTo a)) }
     ensures { FindsObject (H.store heap.now) (value_of word) result }
 {

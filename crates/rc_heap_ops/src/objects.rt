@@ -56,8 +56,17 @@ fn layout_of<'a>(setting: &Setting<'a>, type_number: u32) -> &'a Layout
     &setting.layouts[type_number as usize]
 }
 
-/// Makes an object of so many elements in a live region, and puts its address in place of so many
+/// An object to be made: so many elements of a type in a region. Its address comes in place of so many
 /// operands.
+#[derive(Clone, Copy)]
+struct Wanted {
+    operands: u32,
+    region: u32,
+    type_number: u32,
+    count: i64,
+}
+
+/// Makes an object in a live region, and puts its address on the stack.
 #[inline(always)]
 fn make<H: Heap>(
     setting: &Setting,
@@ -65,32 +74,30 @@ fn make<H: Heap>(
     running: Running,
     pile: &mut Pile,
     at: &mut Counter,
-    operands: u32,
-    region: u32,
-    type_number: u32,
-    count: i64,
+    wanted: Wanted,
 ) -> Option<Exit>
     requires set { IsSet setting.now.image.now setting.now.bodies.now setting.now.layouts.now }
     requires inside { IsInside at.old }
-    requires some { 0 < operands }
-    requires there { operands ≤ length pile.old.operands }
-    requires live { IsLive (H.store heap.old) region }
-    requires known { type_number < length setting.now.image.now.types }
-    requires fits { IsTrue (fits Int count) }
-    requires ready { IsReadyToAllocate setting.now.image.now (at_of running at.old) pile.old (H.store heap.old) operands type_number count region }
+    requires some { 0 < wanted.operands }
+    requires there { wanted.operands ≤ length pile.old.operands }
+    requires live { IsLive (H.store heap.old) wanted.region }
+    requires known { wanted.type_number < length setting.now.image.now.types }
+    requires fits { IsTrue (fits Int wanted.count) }
+    requires ready { IsReadyToAllocate setting.now.image.now (at_of running at.old) pile.old (H.store heap.old) wanted.operands wanted.type_number wanted.count wanted.region }
     ensures { Went setting.now.image.now (at_of running at.old) pile.old (H.store heap.old) (at_of running at.new) pile.new (H.store heap.new) result }
 {
-    if count < 0 {
+    if wanted.count < 0 {
         return Some(Exit::Trapped(Trap::Size));
     }
-    match heap.allocate(region, layout_of(setting, type_number), count as u32) {
+    let layout = layout_of(setting, wanted.type_number);
+    match heap.allocate(wanted.region, layout, wanted.count as u32) {
         Ok(object) => {
             let pointer = Pointer {
-                region,
+                region: wanted.region,
                 object,
                 index: 0,
             };
-            pile.give(operands, Word::of_pointer(pointer));
+            pile.give(wanted.operands, Word::of_pointer(pointer));
             at.place += 1;
             None
         }
@@ -115,7 +122,15 @@ pub fn allocate<H: Heap>(
     ensures { Went setting.now.image.now (at_of running at.old) pile.old (H.store heap.old) (at_of running at.new) pile.new (H.store heap.new) result }
 {
     match live_region(heap, pile.operand(0)) {
-        Ok(region) => make(setting, heap, running, pile, at, 1, region, type_number, 1),
+        Ok(region) => {
+            let wanted = Wanted {
+                operands: 1,
+                region,
+                type_number,
+                count: 1,
+            };
+            make(setting, heap, running, pile, at, wanted)
+        }
         Err(exit) => Some(exit),
     }
 }
@@ -137,17 +152,15 @@ pub fn allocate_array<H: Heap>(
 {
     let count = pile.number(0);
     match live_region(heap, pile.operand(1)) {
-        Ok(region) => make(
-            setting,
-            heap,
-            running,
-            pile,
-            at,
-            2,
-            region,
-            type_number,
-            count,
-        ),
+        Ok(region) => {
+            let wanted = Wanted {
+                operands: 2,
+                region,
+                type_number,
+                count,
+            };
+            make(setting, heap, running, pile, at, wanted)
+        }
         Err(exit) => Some(exit),
     }
 }

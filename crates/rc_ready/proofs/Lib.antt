@@ -1,3 +1,3 @@
 pub mod Held
-pub mod Storing
+pub mod Cells
 pub mod Forms
