@@ -1,5 +1,8 @@
 // Deletions.
-ghost use Rattle.std.specs.Prelude.{◌≡◌};
+ghost use Rattle.std.specs.Prelude.{◌≡◌, ◌<◌, false, length};
+ghost use Rattle.std.specs.List.{list_any};
+ghost use Rattle.rc_core.specs.Evaluation.{local_at};
+ghost use Rattle.rc_core.specs.Heap.{names};
 ghost use Rattle.rc_code.specs.Running.{function_at, pinned, reading_of};
 ghost use Rattle.rc_code.specs.Soundness.{instruction_at};
 ghost use Rattle.rc_store.specs.Stores.{IsLive};
@@ -33,13 +36,62 @@ fn deleting_pins(image: &Image, function: u32, place: u32) -> &[u32]
     }
 }
 
-/// Deletes a live region while these locals are pinned.
+/// Whether a local names a region.
+#[inline(always)]
+fn names(pile: &Pile, local: u32, region: u32) -> bool
+    requires { local < length pile.now.locals }
+    ensures { result ≡ names region (local_at pile.now.locals local) }
+{
+    pile.local(local).cell().names(region)
+}
+
+/// Whether one of these locals names a region.
+#[inline(always)]
+fn names_any(pile: &Pile, pins: &[u32], region: u32) -> bool
+    requires { AreLocals pins.now pile.now }
+    ensures { result ≡ list_any (λ x. names region (local_at pile.now.locals x)) pins.now }
+{
+    for local in pins {
+        if names(pile, *local, region) {
+            return true;
+        }
+    }
+    false
+}
+
+/// Deletes a live region that none of these locals names, so that pins of theirs wouldn't hinder it.
+///
+/// # Errors
+///
+/// The trap of a region that must stay.
+#[inline(always)]
+fn free_unnamed<H: Heap, L: Ledger>(
+    heap: &mut H,
+    _pile: &Pile,
+    _pins: &[u32],
+    region: u32,
+    steps: &mut Steps<L>,
+) -> Result<(), Exit>
+    requires live { IsLive (H.store heap.old) region }
+    requires unnamed { list_any (names region) (pinned _pins.now _pile.now.locals) ≡ false }
+    ensures { Frees (pinned _pins.now _pile.now.locals) region (H.store heap.old) (H.store heap.new) result }
+{
+    match heap.delete(region, steps) {
+        Ok(()) => Ok(()),
+        Err(Denied::Root) => Err(Exit::Trapped(Trap::Root)),
+        Err(Denied::Subregion) => Err(Exit::Trapped(Trap::Subregion)),
+        Err(Denied::Reference) => Err(Exit::Trapped(Trap::Reference)),
+    }
+}
+
+/// Deletes a live region while these locals are pinned. One of them names it, so that it has to stay: which
+/// trap that is depends on what else there is.
 ///
 /// # Errors
 ///
 /// The trap of a region that must stay. Or out of memory.
 #[inline(always)]
-fn free<H: Heap, L: Ledger>(
+fn free_pinned<H: Heap, L: Ledger>(
     heap: &mut H,
     pile: &Pile,
     pins: &[u32],
@@ -61,6 +113,30 @@ fn free<H: Heap, L: Ledger>(
         Err(Denied::Root) => Err(Exit::Trapped(Trap::Root)),
         Err(Denied::Subregion) => Err(Exit::Trapped(Trap::Subregion)),
         Err(Denied::Reference) => Err(Exit::Trapped(Trap::Reference)),
+    }
+}
+
+/// Deletes a live region as if these locals were pinned.
+///
+/// # Errors
+///
+/// The trap of a region that must stay. Or out of memory.
+#[inline(always)]
+fn free<H: Heap, L: Ledger>(
+    heap: &mut H,
+    pile: &Pile,
+    pins: &[u32],
+    region: u32,
+    steps: &mut Steps<L>,
+) -> Result<(), Exit>
+    requires locals { AreLocals pins.now pile.now }
+    requires live { IsLive (H.store heap.old) region }
+    ensures { Frees (pinned pins.now pile.now.locals) region (H.store heap.old) (H.store heap.new) result }
+{
+    if names_any(pile, pins, region) {
+        free_pinned(heap, pile, pins, region, steps)
+    } else {
+        free_unnamed(heap, pile, pins, region, steps)
     }
 }
 
