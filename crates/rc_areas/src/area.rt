@@ -71,7 +71,8 @@ impl Area {
         self.heads[object as usize].count
     }
 
-    /// Where a cell stands among all.
+    /// Where a cell stands among all. Mostly it is of the first element, whose place doesn't wait for the
+    /// width of elements.
     #[inline(always)]
     fn place(&self, object: u32, index: u32, cell: u32, shapes: &Shapes) -> u64
         requires laid { IsLaid shapes.now self.now }
@@ -80,6 +81,9 @@ impl Area {
         ensures { IsPlace shapes.now self.now object index cell result }
     {
         let head = self.heads[object as usize];
+        if index == 0 {
+            return head.start + cell as u64;
+        }
         let width = shapes.get(head.shape).len();
         head.start + index as u64 * width as u64 + cell as u64
     }
