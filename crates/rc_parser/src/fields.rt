@@ -18,6 +18,15 @@ use rc_syntax::word::{Mark, Token};
 use rc_words::{is_mark, spot_at};
 use std::alloc::Global;
 
+/// What every declarator begins with: stars and a name.
+#[derive(Drop)]
+pub struct DeclaratorHead {
+    /// The place of its first word.
+    pub at: u32,
+    pub stars: Vec<Note>,
+    pub name: Name,
+}
+
 /// What a declarator of a field or of a global says: stars, a name, and perhaps a length.
 #[derive(Drop)]
 pub struct Declarator {
@@ -114,32 +123,30 @@ pub fn field_dec(
 {
     let (stars, place) = stars(alloc, tokens, at, depth)?;
     let (name, behind) = name(tokens, place)?;
-    field_named(tokens, stars, name, at, behind, depth)
+    let head = DeclaratorHead { at, stars, name };
+    field_named(tokens, head, behind, depth)
 }
 
-/// Reads the length of an array, where one follows the stars and the name of a declarator that
-/// begins at `at`.
+/// Reads the length of an array, where one follows the head of a declarator.
 pub fn field_named(
     tokens: &[Token],
-    stars: Vec<Note>,
-    name: Name,
-    at: u32,
+    head: DeclaratorHead,
     place: u32,
     depth: u32,
 ) -> Result<(Declarator, u32), ParseFault>
     requires few { length tokens.now ≤ most_words }
     requires within { place ≤ length tokens.now }
-    requires behind { at < place }
+    requires behind { head.at < place }
     requires shallow { depth ≤ most_depth }
-    ensures reads { Proceeds g.FieldDec depth tokens.now at place (r.field_named (spot_of tokens.now at) stars.items name) declarator_of result }
+    ensures reads { Proceeds g.FieldDec depth tokens.now head.at place (r.field_named (spot_of tokens.now head.at) head.stars.items head.name) declarator_of result }
     ensures place { IfOk result (λ r. (place ≤ r.1) × (r.1 ≤ length tokens.now)) }
 {
-    let spot = spot_at(tokens, at);
+    let spot = spot_at(tokens, head.at);
     if !is_mark(tokens, place, Mark::OpenBracket) {
         let plain = Declarator {
             spot,
-            stars,
-            name,
+            stars: head.stars,
+            name: head.name,
             length: None,
         };
         return Ok((plain, place));
@@ -148,8 +155,8 @@ pub fn field_named(
     let end = expect_mark(tokens, behind, Mark::CloseBracket)?;
     let array = Declarator {
         spot,
-        stars,
-        name,
+        stars: head.stars,
+        name: head.name,
         length: Some(number.value),
     };
     Ok((array, end))

@@ -15,12 +15,12 @@ ghost use Rattle.rc_parser.specs.Shapes.{declarator_of, global_of};
 ghost use Rattle.rc_parser.specs.Items as items;
 ghost use Rattle.rc_parser.specs.Items.{declarator_rest, dec_rest};
 
-use crate::fields::{Declarator, field_dec, field_named};
+use crate::fields::{Declarator, DeclaratorHead, field_dec, field_named};
 use crate::parts::number;
 use rc_expr::add;
 use rc_stmt::shared_base;
 use rc_syntax::fault::ParseFault;
-use rc_syntax::tree::{Base, Constant, Item, Name, Note, Spot, TypeName};
+use rc_syntax::tree::{Base, Constant, Item, Spot, TypeName};
 use rc_syntax::word::{Key, Mark, Token, Word};
 use rc_words::{is_mark, refused_at, spot_at, word_here};
 use std::alloc::Global;
@@ -32,25 +32,23 @@ pub struct GlobalDeclarator {
     pub constant: Option<Constant>,
 }
 
-/// Reads the rest of declarators of globals that begin at `at`, after the stars and the name of
-/// the first of them.
+/// Reads the rest of declarators of globals, after the head of the first of them.
 pub fn decs_named(
     alloc: Global,
     tokens: &[Token],
-    stars: Vec<Note>,
-    name: Name,
-    at: u32,
+    head: DeclaratorHead,
     place: u32,
     depth: u32,
 ) -> Result<(Vec<GlobalDeclarator>, u32), ParseFault>
     requires few { length tokens.now ≤ most_words }
     requires within { place ≤ length tokens.now }
-    requires behind { at < place }
+    requires behind { head.at < place }
     requires shallow { depth ≤ most_depth }
-    ensures reads { Proceeds g.Decs depth tokens.now at place (dec_rest (spot_of tokens.now at) stars.items name) (λ v. map global_of v.items) result }
+    ensures reads { Proceeds g.Decs depth tokens.now head.at place (dec_rest (spot_of tokens.now head.at) head.stars.items head.name) (λ v. map global_of v.items) result }
     ensures place { IfOk result (λ r. (place ≤ r.1) × (r.1 ≤ length tokens.now)) }
 {
-    let (first, behind) = dec_named(tokens, stars, name, at, place, depth)?;
+    let at = head.at;
+    let (first, behind) = dec_named(tokens, head, place, depth)?;
     more_decs(alloc, tokens, first, at, behind, depth)
 }
 
@@ -99,23 +97,22 @@ fn dec(
     initialised(tokens, declarator, at, place, depth)
 }
 
-/// Reads the rest of a declarator of a global that begins at `at`, after its stars and its name.
+/// Reads the rest of a declarator of a global, after its head.
 fn dec_named(
     tokens: &[Token],
-    stars: Vec<Note>,
-    name: Name,
-    at: u32,
+    head: DeclaratorHead,
     place: u32,
     depth: u32,
 ) -> Result<(GlobalDeclarator, u32), ParseFault>
     requires few { length tokens.now ≤ most_words }
     requires within { place ≤ length tokens.now }
-    requires behind { at < place }
+    requires behind { head.at < place }
     requires shallow { depth ≤ most_depth }
-    ensures reads { Proceeds g.Dec depth tokens.now at place (declarator_rest (spot_of tokens.now at) stars.items name) global_of result }
+    ensures reads { Proceeds g.Dec depth tokens.now head.at place (declarator_rest (spot_of tokens.now head.at) head.stars.items head.name) global_of result }
     ensures place { IfOk result (λ r. (place ≤ r.1) × (r.1 ≤ length tokens.now)) }
 {
-    let (declarator, behind) = field_named(tokens, stars, name, at, place, depth)?;
+    let at = head.at;
+    let (declarator, behind) = field_named(tokens, head, place, depth)?;
     initialised(tokens, declarator, at, behind, depth)
 }
 

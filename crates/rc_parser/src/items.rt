@@ -12,13 +12,13 @@ ghost use Rattle.rc_words.specs.Words.{spot_of, word_at, Stands, Misses};
 ghost use Rattle.rc_stmt.specs.Along.{Parses, Proceeds};
 ghost use Rattle.rc_parser.specs.Items.{begins_item};
 
-use crate::fields::fields;
+use crate::fields::{DeclaratorHead, fields};
 use crate::functions::{deleting, function_params, resultless};
 use crate::globals::{decs_named, globals_of};
 use crate::parts::{append, only};
 use rc_stmt::{base, expect_mark, name, stars};
 use rc_syntax::fault::ParseFault;
-use rc_syntax::tree::{Base, Item, Name, Note, Tree, TypeName};
+use rc_syntax::tree::{Base, Item, Name, Tree, TypeName};
 use rc_syntax::word::{Key, Mark, Token};
 use rc_words::{is_key, is_mark, key_at, refused_at, spot_at};
 use std::alloc::Global;
@@ -170,56 +170,68 @@ fn item_based(
 {
     let (stars, behind) = stars(alloc, tokens, place, 0)?;
     let (name, end) = name(tokens, behind)?;
-    item_named(alloc, tokens, base, stars, name, at, place, end)
+    let head = DeclaratorHead {
+        at: place,
+        stars,
+        name,
+    };
+    item_named(alloc, tokens, base, head, at, end)
 }
 
-/// Reads the rest of a function or of globals, in an item that begins at `at`: its base, and the
-/// stars and the name after, which begin at `own`, were read.
+/// Reads the rest of a function or of globals, in an item that begins at `at`, after its base and
+/// the head of its first declarator.
 fn item_named(
     alloc: Global,
     tokens: &[Token],
     base: Base,
-    stars: Vec<Note>,
-    name: Name,
+    head: DeclaratorHead,
     at: u32,
-    own: u32,
     place: u32,
 ) -> Result<(Vec<Item>, u32), ParseFault>
     requires few { length tokens.now ≤ most_words }
     requires within { place ≤ length tokens.now }
-    requires later { at < own }
-    requires behind { own < place }
-    ensures reads { Proceeds g.Item 0 tokens.now at place (r.item_named (spot_of tokens.now at) base (own - at) (spot_of tokens.now own) stars.items name) (λ v. map shape.item_of v.items) result }
+    requires later { at < head.at }
+    requires behind { head.at < place }
+    ensures reads { Proceeds g.Item 0 tokens.now at place (r.item_named (spot_of tokens.now at) base (head.at - at) (spot_of tokens.now head.at) head.stars.items head.name) (λ v. map shape.item_of v.items) result }
     ensures place { IfOk result (λ r. (place < r.1) × (r.1 ≤ length tokens.now)) }
 {
     if !is_mark(tokens, place, Mark::OpenParenthesis) {
-        return globals(alloc, tokens, base, stars, name, at, own, place);
+        return globals(alloc, tokens, base, head, at, place);
     }
-    let returned = TypeName { base, stars };
-    function_params(alloc, tokens, false, Some(returned), name, at, place + 1)
+    let returned = TypeName {
+        base,
+        stars: head.stars,
+    };
+    function_params(
+        alloc,
+        tokens,
+        false,
+        Some(returned),
+        head.name,
+        at,
+        place + 1,
+    )
 }
 
 // base dec { "," dec } ";"
-/// Reads the rest of globals that share a base, in an item that begins at `at`: the first of their
-/// declarators begins at `own`, and its stars and its name were read.
+/// Reads the rest of globals that share a base, in an item that begins at `at`, after the head of
+/// the first of their declarators.
 fn globals(
     alloc: Global,
     tokens: &[Token],
     base: Base,
-    stars: Vec<Note>,
-    name: Name,
+    head: DeclaratorHead,
     at: u32,
-    own: u32,
     place: u32,
 ) -> Result<(Vec<Item>, u32), ParseFault>
     requires few { length tokens.now ≤ most_words }
     requires within { place ≤ length tokens.now }
-    requires later { at < own }
-    requires behind { own < place }
-    ensures reads { Proceeds g.Item 0 tokens.now at place (r.global_named base (spot_of tokens.now own) (own - at) stars.items name) (λ v. map shape.item_of v.items) result }
+    requires later { at < head.at }
+    requires behind { head.at < place }
+    ensures reads { Proceeds g.Item 0 tokens.now at place (r.global_named base (spot_of tokens.now head.at) (head.at - at) head.stars.items head.name) (λ v. map shape.item_of v.items) result }
     ensures place { IfOk result (λ r. (place < r.1) × (r.1 ≤ length tokens.now)) }
 {
-    let (declarators, semicolon) = decs_named(alloc, tokens, stars, name, own, place, 0)?;
+    let (declarators, semicolon) = decs_named(alloc, tokens, head, place, 0)?;
     let end = expect_mark(tokens, semicolon, Mark::Semicolon)?;
     let items = globals_of(alloc, &base, declarators)?;
     Ok((items, end))

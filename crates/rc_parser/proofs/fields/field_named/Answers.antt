@@ -15,22 +15,22 @@ use Rattle.rc_parser.proofs.fields.field_named.Goals as goal
 pub returns-then-not-is_mark-clause-reads : goal.returns-then-not-is_mark-clause-reads
 returns-then-not-is_mark-clause-reads c =
     let ts = c.args.tokens.now in
-    let at = c.args.at in
+    let at = c.args.head.at in
     let place = c.args.place in
     let past = c.requires.behind in
     let le : at ≤ place = omega (arith, past) in
-    let plain : Spot → FieldDeclarator = λ sp. record { spot = sp; stars = c.args.stars.items; name = c.args.name; length = None } in
+    let plain : Spot → FieldDeclarator = λ sp. record { spot = sp; stars = c.args.head.stars.items; name = c.args.head.name; length = None } in
     no_word place is_open_bracket _ (build (plain (spot_of ts at))) (mark m.OpenBracket) (c.if-not-is_mark.ensures.no refl) open_bracket_else
     (ends_plain place _ (plain (spot_of ts at)) (ap plain (sym c.spot_at-spot.ensures)) le (λ p. refl))
 
 pub returns-in_err-number-clause-reads : goal.returns-in_err-number-clause-reads
 returns-in_err-number-clause-reads c =
     let ts = c.args.tokens.now in
-    let at = c.args.at in
+    let at = c.args.head.at in
     let place = c.args.place in
     let past = c.requires.behind in
     let le : at ≤ place = omega (arith, past) in
-    let array : ℕ → Bool → FieldDeclarator = λ i unsigned. record { spot = spot_of ts at; stars = c.args.stars.items; name = c.args.name; length = Some i } in
+    let array : ℕ → Bool → FieldDeclarator = λ i unsigned. record { spot = spot_of ts at; stars = c.args.head.stars.items; name = c.args.head.name; length = Some i } in
     fails c.from_residual.ensures.1
     (word place (place + 1) is_open_bracket (length_in array) _ (mark m.OpenBracket) c.requires.shallow le (c.if-not-is_mark.ensures.yes refl, refl) refl refl
     (number_refused (place + 1) (λ i unsigned. read (sees is_close_bracket (build (array i unsigned)))) _ c.in_err-number.ensures))
@@ -38,13 +38,13 @@ returns-in_err-number-clause-reads c =
 pub returns-in_err-end-clause-reads : goal.returns-in_err-end-clause-reads
 returns-in_err-end-clause-reads c =
     let ts = c.args.tokens.now in
-    let at = c.args.at in
+    let at = c.args.head.at in
     let place = c.args.place in
     let past = c.requires.behind in
     let le : at ≤ place = omega (arith, past) in
     let le2 : at ≤ place + 1 = omega (arith, past) in
     let number = c.in_ok-number.number in
-    let array : ℕ → Bool → FieldDeclarator = λ i unsigned. record { spot = spot_of ts at; stars = c.args.stars.items; name = c.args.name; length = Some i } in
+    let array : ℕ → Bool → FieldDeclarator = λ i unsigned. record { spot = spot_of ts at; stars = c.args.head.stars.items; name = c.args.head.name; length = Some i } in
     fails c.from_residual-in_err-end.ensures.1
     (word place (place + 1) is_open_bracket (length_in array) _ (mark m.OpenBracket) c.requires.shallow le (c.if-not-is_mark.ensures.yes refl, refl) refl refl
     (number_read (place + 1) c.in_ok-number.behind (λ i unsigned. read (sees is_close_bracket (build (array i unsigned)))) number.value number.unsigned c.requires.shallow le2 c.in_ok-number.ensures refl
@@ -53,7 +53,7 @@ returns-in_err-end-clause-reads c =
 pub returns-clause-reads : goal.returns-clause-reads
 returns-clause-reads c =
     let ts = c.args.tokens.now in
-    let at = c.args.at in
+    let at = c.args.head.at in
     let place = c.args.place in
     let behind = c.in_ok-number.behind in
     let end = c.in_ok-end.end in
@@ -65,8 +65,8 @@ returns-clause-reads c =
     let le3 : at ≤ behind = omega (arith, past, next) in
     let le4 : at ≤ end = omega (arith, past, next, next2) in
     let number = c.in_ok-number.number in
-    let array : ℕ → Bool → FieldDeclarator = λ i unsigned. record { spot = spot_of ts at; stars = c.args.stars.items; name = c.args.name; length = Some i } in
-    let given : Spot → FieldDeclarator = λ sp. record { spot = sp; stars = c.args.stars.items; name = c.args.name; length = Some number.value } in
+    let array : ℕ → Bool → FieldDeclarator = λ i unsigned. record { spot = spot_of ts at; stars = c.args.head.stars.items; name = c.args.head.name; length = Some i } in
+    let given : Spot → FieldDeclarator = λ sp. record { spot = sp; stars = c.args.head.stars.items; name = c.args.head.name; length = Some number.value } in
     word place (place + 1) is_open_bracket (length_in array) _ (mark m.OpenBracket) c.requires.shallow le (c.if-not-is_mark.ensures.yes refl, refl) refl refl
     (number_read (place + 1) behind (λ i unsigned. read (sees is_close_bracket (build (array i unsigned)))) number.value number.unsigned c.requires.shallow le2 c.in_ok-number.ensures refl
     (word behind end is_close_bracket (build (array number.value number.unsigned)) _ (mark m.CloseBracket) c.requires.shallow le3 c.in_ok-end.ensures refl refl

@@ -13,20 +13,20 @@ one d = build (d ∷ [])
 
 pub returns-in_err-first-clause-reads : goal.returns-in_err-first-clause-reads
 returns-in_err-first-clause-reads c =
-    let at = c.args.at in
+    let at = c.args.head.at in
     let past = c.requires.behind in
     let none : 0 ≡ at - at = omega arith in
     let same : at ≤ at = omega arith in
     let le : at ≤ c.args.place = omega (arith, past) in
     fails c.from_residual.ensures.1
-    (resumed_refused Dec at c.args.place 0 one (declarator_rest (spot_of c.args.tokens.now at) c.args.stars.items c.args.name) global_of _ (record { none = refl; plain = λ n r. refl }) none same le c.in_err-first.ensures.reads)
+    (resumed_refused Dec at c.args.place 0 one (declarator_rest (spot_of c.args.tokens.now at) c.args.head.stars.items c.args.head.name) global_of _ (record { none = refl; plain = λ n r. refl }) none same le c.in_err-first.ensures.reads)
 
 pub returns-clause-reads : goal.returns-clause-reads
 returns-clause-reads c =
-    let at = c.args.at in
+    let at = c.args.head.at in
     let past = c.requires.behind in
     let none : 0 ≡ at - at = omega arith in
     let same : at ≤ at = omega arith in
     let le : at ≤ c.args.place = omega (arith, past) in
-    resumed Dec at c.args.place c.in_ok-first.behind 0 one (declarator_rest (spot_of c.args.tokens.now at) c.args.stars.items c.args.name) global_of c.in_ok-first.first (record { none = refl; plain = λ n r. refl }) none same le
+    resumed Dec at c.args.place c.in_ok-first.behind 0 one (declarator_rest (spot_of c.args.tokens.now at) c.args.head.stars.items c.args.head.name) global_of c.in_ok-first.first (record { none = refl; plain = λ n r. refl }) none same le
     c.in_ok-first.ensures.reads c.more_decs.ensures.reads

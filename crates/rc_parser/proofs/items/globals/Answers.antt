@@ -18,28 +18,28 @@ closed_globals b ds = read (sees is_semicolon (build (map (global b) ds)))
 
 pub returns-in_err-declarators-clause-reads : goal.returns-in_err-declarators-clause-reads
 returns-in_err-declarators-clause-reads c =
-    let own = c.args.own in
+    let own = c.args.head.at in
     let past = c.requires.later in
     let past2 = c.requires.behind in
     let le : c.args.at ≤ own = omega (arith, past) in
     let le2 : own ≤ c.args.place = omega (arith, past2) in
-    fails c.from_residual.ensures.1 (resumed_refused Decs own c.args.place (own - c.args.at) (closed_globals c.args.base) (dec_rest (spot_of c.args.tokens.now own) c.args.stars.items c.args.name) (λ v. map global_of v.items) _ (record { none = refl; plain = λ n r. refl }) refl le le2 c.in_err-declarators.ensures.reads)
+    fails c.from_residual.ensures.1 (resumed_refused Decs own c.args.place (own - c.args.at) (closed_globals c.args.base) (dec_rest (spot_of c.args.tokens.now own) c.args.head.stars.items c.args.head.name) (λ v. map global_of v.items) _ (record { none = refl; plain = λ n r. refl }) refl le le2 c.in_err-declarators.ensures.reads)
 
 pub returns-in_err-end-clause-reads : goal.returns-in_err-end-clause-reads
 returns-in_err-end-clause-reads c =
-    let own = c.args.own in
+    let own = c.args.head.at in
     let ds = c.in_ok-declarators.declarators in
     let semicolon = c.in_ok-declarators.semicolon in
     let past = c.requires.later in
     let past2 = c.requires.behind in
     let le : c.args.at ≤ own = omega (arith, past) in
     let le2 : own ≤ c.args.place = omega (arith, past2) in
-    fails c.from_residual-in_err-end.ensures.1 (resumed Decs own c.args.place semicolon (own - c.args.at) (closed_globals c.args.base) (dec_rest (spot_of c.args.tokens.now own) c.args.stars.items c.args.name) (λ v. map global_of v.items) ds (record { none = refl; plain = λ n r. refl }) refl le le2 c.in_ok-declarators.ensures.reads
+    fails c.from_residual-in_err-end.ensures.1 (resumed Decs own c.args.place semicolon (own - c.args.at) (closed_globals c.args.base) (dec_rest (spot_of c.args.tokens.now own) c.args.head.stars.items c.args.head.name) (λ v. map global_of v.items) ds (record { none = refl; plain = λ n r. refl }) refl le le2 c.in_ok-declarators.ensures.reads
     (word_refused semicolon is_semicolon (build (map (global c.args.base) (map global_of ds.items))) (mark m.Semicolon) _ c.in_err-end.ensures semicolon_else))
 
 pub returns-clause-reads : goal.returns-clause-reads
 returns-clause-reads c =
-    let own = c.args.own in
+    let own = c.args.head.at in
     let ds = c.in_ok-declarators.declarators in
     let semicolon = c.in_ok-declarators.semicolon in
     let end = c.in_ok-end.end in
@@ -53,6 +53,6 @@ returns-clause-reads c =
     let le2 : own ≤ c.args.place = omega (arith, past2) in
     let le3 : c.args.at ≤ semicolon = omega (arith, past, past2, past3) in
     let le4 : c.args.at ≤ end = omega (arith, past, past2, past3, next) in
-    resumed Decs own c.args.place semicolon (own - c.args.at) (closed_globals c.args.base) (dec_rest (spot_of c.args.tokens.now own) c.args.stars.items c.args.name) (λ v. map global_of v.items) ds (record { none = refl; plain = λ n r. refl }) refl le le2 c.in_ok-declarators.ensures.reads
+    resumed Decs own c.args.place semicolon (own - c.args.at) (closed_globals c.args.base) (dec_rest (spot_of c.args.tokens.now own) c.args.head.stars.items c.args.head.name) (λ v. map global_of v.items) ds (record { none = refl; plain = λ n r. refl }) refl le le2 c.in_ok-declarators.ensures.reads
     (word semicolon end is_semicolon (build tree) stop (mark m.Semicolon) d le3 c.in_ok-end.ensures refl refl
     (ends_plain end c.in_ok-items.items tree (sym c.in_ok-items.ensures.ok) le4 (λ p. refl)))
