@@ -23,4 +23,4 @@ pub use setting::Setting;
 pub use statements::{
     begin_statement, broke_to_statement, continued_to_statement, done_to_statement,
 };
-pub use storing::{place_to_statement, value_to_statement};
+pub use storing::{GivenStatement, place_to_statement, value_to_statement};

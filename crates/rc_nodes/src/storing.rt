@@ -32,6 +32,14 @@ use rc_memory::Heap;
 use rc_values::{Stop, Target, Value, Values, is_true, number_in, trap};
 use std::alloc::Global;
 
+/// A statement that waits, how far it has come, and the value that it is given there.
+#[derive(Drop)]
+pub struct GivenStatement<'p> {
+    pub statement: &'p Stmt,
+    pub stage: Stage,
+    pub value: Value,
+}
+
 /// Deletes a region, which neither live locals nor what waits in callers may name.
 #[tactic(auto, using(crate::proofs::Results::stops_on))]
 fn delete<'p>(
@@ -178,13 +186,13 @@ pub fn value_to_statement<'p>(
     turns: &mut u64,
     frames: &mut Waiting<'p>,
     locals: &mut Values,
-    s: &'p Stmt,
-    stage: &Stage,
-    value: Value,
+    given: &GivenStatement<'p>,
 ) -> Result<Control<'p>, Stop>
-    ensures { (program : Program) (w : KeptWorld) → w.heap ≡ heap.old → w.waiting ≡ waiting_of below.now → Comes result (frames_of frames.new) locals.new heap.new (with_turns turns.new w) (given_step program (stmt_of s.now) (stage_of (stmt_of s.now) stage.now) (value_of value) (frames_of frames.old) locals.old (with_turns turns.old w)) }
+    ensures { (program : Program) (w : KeptWorld) → w.heap ≡ heap.old → w.waiting ≡ waiting_of below.now → Comes result (frames_of frames.new) locals.new heap.new (with_turns turns.new w) (given_step program (stmt_of given.now.statement.now) (stage_of (stmt_of given.now.statement.now) given.now.stage) (value_of given.now.value) (frames_of frames.old) locals.old (with_turns turns.old w)) }
 {
-    match stage {
+    let s = given.statement;
+    let value = given.value;
+    match &given.stage {
         Stage::Value => value_to_waiting_statement(alloc, below, heap, frames, locals, s, value),
         Stage::Stored(target) => value_to_storing_statement(heap, s, target, value),
         Stage::Test(rounds) => value_to_condition(turns, frames, s, *rounds, value),

@@ -26,10 +26,10 @@ use rc_core::stmt::Stmt;
 use rc_frames::{Activation, Callers, Frame, Stage, Waiting, first_locals, held_for};
 use rc_memory::Heap;
 use rc_nodes::{
-    Control, Setting, allocate, begin_expression, begin_statement, broke_to_statement,
-    continued_to_statement, done_to_statement, first_value_to_inner_expression, index_to_path,
-    index_to_place, load, make_region, make_subregion, place_to_statement, pointer_to_place,
-    second_value_to_expression, step_inward, value_to_statement,
+    Control, GivenStatement, Setting, allocate, begin_expression, begin_statement,
+    broke_to_statement, continued_to_statement, done_to_statement, first_value_to_inner_expression,
+    index_to_path, index_to_place, load, make_region, make_subregion, place_to_statement,
+    pointer_to_place, second_value_to_expression, step_inward, value_to_statement,
 };
 use rc_values::{Stop, Target, Value, Values, number_in, zero_of};
 use std::alloc::Global;
@@ -297,6 +297,11 @@ fn value_to_inside_frame<'p>(
 ) -> Result<Control<'p>, Stop>
     ensures { (k : MachineControl) (w : KeptWorld) → Leads setting.now.limits result machine.new w (staying (program_of setting.now.parts.now) (state_at k machine.old) (given_step (program_of setting.now.parts.now) (stmt_of s.now) (stage_of (stmt_of s.now) stage) (value_of value) (frames_of machine.old.now.frames) machine.old.now.locals (standing setting.now.limits machine.old w))) }
 {
+    let given = GivenStatement {
+        statement: s,
+        stage,
+        value,
+    };
     let now = &mut machine.now;
     value_to_statement(
         setting.alloc,
@@ -305,9 +310,7 @@ fn value_to_inside_frame<'p>(
         &mut machine.turns,
         &mut now.frames,
         &mut now.locals,
-        s,
-        &stage,
-        value,
+        &given,
     )
 }
 
