@@ -22,6 +22,15 @@ use rc_syntax::word::{Mark, Token};
 use rc_words::{expect_mark, is_mark, spot_at, taken};
 use std::alloc::Global;
 
+/// The left side of an operator, and the operator.
+#[derive(Drop)]
+struct LeftSide {
+    /// The place of its first word.
+    at: u32,
+    operand: Box<Expr>,
+    op: BinaryOp,
+}
+
 // expr = cond .
 /// The longest expression from a place, and the place after it. The words around it are nested
 /// `depth` deep.
@@ -137,36 +146,45 @@ fn binary(
     let mut left = first;
     let mut place = after;
     while let Some(op) = operator_at(tokens, place, level) {
-        let (both, end) = beside(alloc, tokens, left, op, at, place, level, depth, far)?;
+        let side = LeftSide {
+            at,
+            operand: left,
+            op,
+        };
+        let (both, end) = beside(alloc, tokens, side, place, level, depth, far)?;
         left = both;
         place = end;
     }
     Ok((left, place))
 }
 
-/// Reads an operator and its right side, after a left side that begins at `at`.
+/// Reads an operator and its right side, after its left side.
 #[cycle(expr)]
 fn beside(
     alloc: Global,
     tokens: &[Token],
-    left: Box<Expr>,
-    op: BinaryOp,
-    at: u32,
+    left: LeftSide,
     place: u32,
     level: u8,
     depth: u32,
     far: u32,
 ) -> Result<(Box<Expr>, u32), ParseFault>
     requires few { length tokens.now ≤ most_words }
-    requires here { Stands tokens.now place (mark (g.mark_of op)) }
-    requires behind { at < place }
+    requires here { Stands tokens.now place (mark (g.mark_of left.op)) }
+    requires behind { left.at < place }
     requires shallow { depth < most_depth }
-    requires tight { level ≤ level_of op }
-    ensures reads { Continues (g.Level level) depth far tokens.now at place (build (boxed_of left)) boxed_of result }
+    requires tight { level ≤ level_of left.op }
+    ensures reads { Continues (g.Level level) depth far tokens.now left.at place (build (boxed_of left.operand)) boxed_of result }
     ensures place { IfOk result (λ r. (place < r.1) × (r.1 ≤ length tokens.now)) }
 {
     let inside = taken(tokens, place, far)?;
-    let (right, end) = binary(alloc, tokens, inside, tightness(op) + 1, depth, far)?;
-    let both = binary_node(alloc, spot_at(tokens, at), op, left, right)?;
+    let (right, end) = binary(alloc, tokens, inside, tightness(left.op) + 1, depth, far)?;
+    let both = binary_node(
+        alloc,
+        spot_at(tokens, left.at),
+        left.op,
+        left.operand,
+        right,
+    )?;
     Ok((both, end))
 }

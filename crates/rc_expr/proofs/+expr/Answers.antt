@@ -137,25 +137,25 @@ expressions::choice-returns-clause-reads t c = λ root round k a.
 pub expressions::beside-returns-in_err-right-clause-reads : goal.expressions::beside-returns-in_err-right-clause-reads
 expressions::beside-returns-in_err-right-clause-reads t c = λ root round k a.
     let ts = c.args.tokens.now in
-    let at = c.args.at in
-    let left = boxed_of c.args.left in
+    let at = c.args.left.at in
+    let left = boxed_of c.args.left.operand in
     let inner = c.in_ok-inside.inside in
     let here = c.in_ok-inside.ensures in
     let next = here.1 in
     let past = c.requires.behind in
     let none : c.args.depth + 0 ≡ c.args.depth = omega arith in
     let le : at ≤ inner = omega (arith, past, next) in
-    let h = p.behind_right (spot_of ts at) left c.args.op in
+    let h = p.behind_right (spot_of ts at) left c.args.left.op in
     passes round ts _ _ _ _ _ c.from_residual-in_err-right.ensures.1
-    (p.operator c.args.place inner left c.args.op c.tightness.result a c.requires.shallow past here.0 c.requires.here c.requires.tight next c.tightness.ensures.value)
+    (p.operator c.args.place inner left c.args.left.op c.tightness.result a c.requires.shallow past here.0 c.requires.here c.requires.tight next c.tightness.ensures.value)
     (c.in_err-right.ensures.reads root round (inside ts at inner h k) (deeper c.args.depth inner h a none le))
 
 pub expressions::beside-returns-clause-reads : goal.expressions::beside-returns-clause-reads
 expressions::beside-returns-clause-reads t c = λ root round k a.
     let ts = c.args.tokens.now in
-    let at = c.args.at in
-    let left = boxed_of c.args.left in
-    let op = c.args.op in
+    let at = c.args.left.at in
+    let left = boxed_of c.args.left.operand in
+    let op = c.args.left.op in
     let n = c.tightness.result in
     let inner = c.in_ok-inside.inside in
     let right = boxed_of c.in_ok-right.right in
