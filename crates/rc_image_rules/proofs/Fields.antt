@@ -22,6 +22,7 @@ use Rattle.rc_safety.proofs.Lists.{every_append}
 use Rattle.rc_rlang.specs.RegionCode.{Access, Routine, Rlang}
 use Rattle.rc_rlang.specs.IsRlang.{IsRlang}
 use Rattle.rc_rlang.specs.RegionRuns.{deletes}
+use Rattle.rc_region_rules.proofs.Defined.{every_of}
 use Rattle.rc_emission.specs.StackCode.{Line}
 use Rattle.rc_emission.specs.StackCode as From
 use Rattle.rc_emission.specs.KeptOperands.{same_type, slots_of}
@@ -51,7 +52,7 @@ use Rattle.rc_numbering.proofs.Programs.{routine_in, code_in, function_said}
 use Rattle.rc_image_rules.specs.Small.{FunctionIsSmall, IsSmall}
 use Rattle.rc_image_rules.proofs.Rows.{length_mapped, F, objects_count}
 use Rattle.rc_image_rules.proofs.Sounds.{function_sound}
-use Rattle.rc_image_rules.proofs.TypesNamed.{IsNamed, named_defined, globals_in, strings_in, table_named, CellIn, cells_in}
+use Rattle.rc_image_rules.proofs.TypesNamed.{every_mapped, IsNamed, named_defined, globals_in, strings_in, table_named, CellIn, cells_in}
 use Rattle.rc_core.specs.WellTyped.{IsLength}
 use Rattle.rc_rlang.specs.RegionCode.{break}
 use Rattle.rc_code.specs.Running.{reading_of}
@@ -167,23 +168,10 @@ pins_count : (f : Function) (pins : List ℕ) → IsNumber (length f.locals) →
 pins_count f [] few all up = omega arith
 pins_count f (x ∷ pins) few all up = let m = pins_few f x pins all up in omega (arith, m, few)
 
-every_of : {A : Type 0} (P : A → Type 0) (xs : List A) → ((x : ℕ) (a : A) → slice_get xs x ≡ Some a → P a) → Every P xs
-every_of P [] each = tt
-every_of P (x ∷ xs) each = (each 0 x refl, every_of P xs (λ n a e. each (suc n) a e))
-
 every_there : {A : Type 0} (P : A → Type 0) (xs : List A) (n : ℕ) (x : A) → Every P xs → slice_get xs n ≡ Some x → P x
 every_there P [] n x all e = absurd (cc e)
 every_there P (y ∷ xs) zero x all e = let q : y ≡ x = cc in subst P q all.0
 every_there P (y ∷ xs) (suc n) x all e = every_there P xs n x all.1 e
-
-every_mapped : {A B : Type 0} (P : A → Type 0) (Q : B → Type 0) (g : A → B) → ((a : A) → P a → Q (g a)) → (xs : List A) → Every P xs → Every Q (map g xs)
-every_mapped P Q g each [] all = tt
-every_mapped P Q g each (x ∷ xs) all = (each x all.0, every_mapped P Q g each xs all.1)
-
-slice_mapped : {A B : Type 0} (g : A → B) (xs : List A) (n : ℕ) (x : A) → slice_get xs n ≡ Some x → slice_get (map g xs) n ≡ Some (g x)
-slice_mapped g [] n x e = absurd (cc e)
-slice_mapped g (y ∷ xs) zero x e = let q : y ≡ x = cc in ap (λ z. Some (g z)) q
-slice_mapped g (y ∷ xs) (suc n) x e = slice_mapped g xs n x e
 
 unmapped : {A B : Type 0} (g : A → B) (xs : List A) (n : ℕ) (y : B) → slice_get (map g xs) n ≡ Some y → (x : A) × (slice_get xs n ≡ Some x) × (g x ≡ y)
 unmapped g [] n y e = absurd (cc e)

@@ -12,6 +12,7 @@ use Rattle.rc_rlang.specs.RegionCode as From
 use Rattle.rc_rlang.specs.RegionFits.{dropped, operands, step_types, steps_types}
 use Rattle.rc_rlang.specs.IsRlang.{IsRlang}
 use Rattle.rc_rlang.specs.RegionRuns.{deletes}
+use Rattle.rc_region_rules.proofs.Defined.{every_of}
 use Rattle.rc_emission.specs.StackCode.{Line}
 use Rattle.rc_emission.specs.StackCode as To
 use Rattle.rc_emission.specs.OperationCode.{wide}
@@ -70,7 +71,7 @@ every_once : {A : Type 0} (P : A → Type 0) (equal : A → A → Bool) (xs : Li
 every_once P equal [] all = tt
 every_once P equal (x ∷ xs) all = every_entered P (nat_lt (place_in equal (once equal xs) x) (length (once equal xs))) x (once equal xs) all.0 (every_once P equal xs all.1)
 
-every_mapped : {A B : Type 0} (P : A → Type 0) (Q : B → Type 0) (g : A → B) → ((a : A) → P a → Q (g a)) → (xs : List A) → Every P xs → Every Q (map g xs)
+pub every_mapped : {A B : Type 0} (P : A → Type 0) (Q : B → Type 0) (g : A → B) → ((a : A) → P a → Q (g a)) → (xs : List A) → Every P xs → Every Q (map g xs)
 every_mapped P Q g each [] all = tt
 every_mapped P Q g each (x ∷ xs) all = (each x all.0, every_mapped P Q g each xs all.1)
 
@@ -172,10 +173,6 @@ module _ (r : Rlang) (f : Routine) where
       (every_mapped KD D (λ e. wide e.ty) (λ e d. wide_defined e.ty d) (once same_kept (kept_code f.body)) (every_once KD same_kept (kept_code f.body) (code_kept f.body said)))
 
 -- ---- names
-
-every_of : {A : Type 0} (P : A → Type 0) (xs : List A) → ((x : ℕ) (a : A) → slice_get xs x ≡ Some a → P a) → Every P xs
-every_of P [] each = tt
-every_of P (x ∷ xs) each = (each 0 x refl, every_of P xs (λ n a e. each (suc n) a e))
 
 flat_named : {A : Type 0} (P Q : Ty → Type 0) (g : A → List Ty) (xs : List A) → ((k : ℕ) (x : A) → slice_get xs k ≡ Some x → Every P (g x) → Every Q (g x)) → Every P (flat_map g xs) → Every Q (flat_map g xs)
 flat_named P Q g [] each all = tt
