@@ -1,2 +1,3 @@
+mod Cells
+mod InOrder
 pub mod One
-pub mod Cells

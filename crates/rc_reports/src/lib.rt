@@ -13,7 +13,7 @@ mod site;
 mod text;
 
 pub use entry::{Entry, entries};
-pub use listing::sites;
+pub use listing::{sites, sites_by_points};
 pub use site::Site;
 pub use text::{removed_count, report_text};
 

@@ -1,20 +1,30 @@
-// The stores of a function to annotated cells, in the order of the text.
+// The stores of a function to annotated cells, in the order of the text or of their points.
 ghost use Rattle.std.specs.Prelude.{◌≡◌, ◌++◌, ◌+◌, List, IfOk, OnOk, map, drop};
 ghost use Rattle.rc_core.specs.Laid.{AreLaidOut, kind_of};
 ghost use Rattle.rc_core.specs.Layout.{Layout};
 ghost use Rattle.rc_core.specs.Programs.{Struct};
 ghost use Rattle.rc_rlang.specs.Shapes.{act_of, code_of, codes_of, routine_in};
-ghost use Rattle.rc_rlang.specs.Sites.{act_sites, cells_sites, store_sites};
-ghost use Rattle.rc_reports.specs.Listed.{all_listed, listed, sites_of};
+ghost use Rattle.rc_rlang.specs.RegionPoints.{code_points, codes_points};
+ghost use Rattle.rc_rlang.specs.Sites.{act_sites, cells_sites, code_sites, store_sites};
+ghost use Rattle.rc_reports.specs.Listed.{listed, sites_of};
+ghost use Rattle.rc_reports.specs.Ordered.{all_ordered, ordered};
 
 use crate::site::Site;
 use rc_base::NoMemory;
 use rc_core::ty::{Note, Ty};
 use rc_core::{Kind, Layouts};
 use rc_graph::{cell_note, note_in};
-use rc_points::{act_points, branch_points, code_points, steps_points};
+use rc_points::{act_points, branch_points, steps_points};
 use rc_rlang::code::{Act, Code, Routine};
 use std::alloc::Global;
+
+/// An order of stores. The two differ at loops alone: the third part of a loop's head stands before its
+/// body, and has its points behind it.
+#[derive(Clone, Copy)]
+pub(crate) enum Order {
+    Text,
+    Points,
+}
 
 /// The sum.
 ///
@@ -79,25 +89,31 @@ fn list_act(layouts: &Layouts, act: &Act, here: u32, out: &mut Vec<Site>) -> Res
     }
 }
 
-/// Lists the stores of the code of a statement, whose first point is `here`.
-///
-/// The points of code that stands in other code are counted once for each statement around it.
+/// Lists the stores of the code of a statement, whose first point is `here`. Gives the point behind it.
 #[cycle(code)]
 #[tactic(auto, using(rc_rlang::proofs::CodeRows::block_is))]
-fn list_code(layouts: &Layouts, code: &Code, here: u32, out: &mut Vec<Site>) -> Result<(), NoMemory>
-    ensures { (structs : List Struct) → AreLaidOut structs layouts.now → OnOk result (sites_of out.new.items ≡ sites_of out.old.items ++ listed (code_of structs code.now) here) }
+fn list_code(
+    alloc: Global,
+    layouts: &Layouts,
+    order: Order,
+    code: &Code,
+    here: u32,
+    out: &mut Vec<Site>,
+) -> Result<u32, NoMemory>
+    ensures sites { (structs : List Struct) → AreLaidOut structs layouts.now → OnOk result (sites_of out.new.items ≡ sites_of out.old.items ++ ordered order (code_of structs code.now) here) }
+    ensures behind { (structs : List Struct) → AreLaidOut structs layouts.now → IfOk result (λ n. n ≡ here + code_points (code_of structs code.now)) }
 {
     match code {
         Code::Simple { steps, act } => {
             let at_act = sum(here, steps_points(steps.as_slice())?)?;
-            list_act(layouts, act, at_act, out)
+            list_act(layouts, act, at_act, out)?;
+            sum(at_act, act_points(layouts, act)?)
         }
-        Code::Block { body } => list_codes(layouts, body.as_slice(), here, out),
+        Code::Block { body } => list_codes(alloc, layouts, order, body.as_slice(), here, out),
         Code::Branch { steps, yes, no, .. } => {
             let at_yes = sum(sum(1, here)?, steps_points(steps.as_slice())?)?;
-            let at_no = sum(at_yes, code_points(layouts, yes)?)?;
-            list_code(layouts, yes, at_yes, out)?;
-            list_code(layouts, no, at_no, out)
+            let at_no = list_code(alloc, layouts, order, yes, at_yes, out)?;
+            list_code(alloc, layouts, order, no, at_no, out)
         }
         Code::Loop {
             steps,
@@ -108,32 +124,50 @@ fn list_code(layouts: &Layouts, code: &Code, here: u32, out: &mut Vec<Site>) -> 
         } => {
             let at_test = sum(sum(1, here)?, steps_points(steps.as_slice())?)?;
             let at_body = sum(at_test, branch_points(test))?;
-            let at_third = sum(at_body, code_points(layouts, body)?)?;
-            list_code(layouts, third, at_third, out)?;
-            list_code(layouts, body, at_body, out)
+            match order {
+                Order::Points => {
+                    let at_third = list_code(alloc, layouts, order, body, at_body, out)?;
+                    list_code(alloc, layouts, order, third, at_third, out)
+                }
+                Order::Text => {
+                    // The third part comes first, though it is known only behind the body where it begins.
+                    let mut inside = Vec::new(alloc);
+                    let at_third = list_code(alloc, layouts, order, body, at_body, &mut inside)?;
+                    let behind = list_code(alloc, layouts, order, third, at_third, out)?;
+                    out.append(&mut inside)?;
+                    Ok(behind)
+                }
+            }
         }
-        Code::Repeat { body, .. } => list_code(layouts, body, sum(1, here)?, out),
-        Code::Clear { .. } => Ok(()),
-        Code::Break { .. } => Ok(()),
-        Code::Continue { .. } => Ok(()),
+        Code::Repeat { body, steps, .. } => {
+            let at_steps = list_code(alloc, layouts, order, body, sum(1, here)?, out)?;
+            let at_test = sum(at_steps, steps_points(steps.as_slice())?)?;
+            sum(at_test, 1)
+        }
+        Code::Clear { .. } => sum(here, 1),
+        Code::Break { .. } => sum(here, 1),
+        Code::Continue { .. } => sum(here, 1),
     }
 }
 
+/// Lists the stores of the code of statements, one after another. Gives the point behind it.
 #[cycle(code)]
 fn list_codes(
+    alloc: Global,
     layouts: &Layouts,
+    order: Order,
     body: &[Code],
     here: u32,
     out: &mut Vec<Site>,
-) -> Result<(), NoMemory>
-    ensures { (structs : List Struct) → AreLaidOut structs layouts.now → OnOk result (sites_of out.new.items ≡ sites_of out.old.items ++ all_listed (codes_of structs body.now) here) }
+) -> Result<u32, NoMemory>
+    ensures sites { (structs : List Struct) → AreLaidOut structs layouts.now → OnOk result (sites_of out.new.items ≡ sites_of out.old.items ++ all_ordered order (codes_of structs body.now) here) }
+    ensures behind { (structs : List Struct) → AreLaidOut structs layouts.now → IfOk result (λ n. n ≡ here + codes_points (codes_of structs body.now)) }
 {
     let mut at = here;
     for i in 0..body.len() {
-        list_code(layouts, &body[i], at, out)?;
-        at = sum(at, code_points(layouts, &body[i])?)?;
+        at = list_code(alloc, layouts, order, &body[i], at, out)?;
     }
-    Ok(())
+    Ok(at)
 }
 
 /// The stores of a function to annotated cells, in the order in which they stand in the text.
@@ -145,6 +179,23 @@ pub fn sites(alloc: Global, layouts: &Layouts, routine: &Routine) -> Result<Vec<
     ensures { (structs : List Struct) → AreLaidOut structs layouts.now → IfOk result (λ all. sites_of all.items ≡ listed (routine_in structs routine.now).body 1) }
 {
     let mut all = Vec::new(alloc);
-    list_code(layouts, &routine.body, 1, &mut all)?;
+    list_code(alloc, layouts, Order::Text, &routine.body, 1, &mut all)?;
+    Ok(all)
+}
+
+/// The stores of a function to annotated cells, in the order of their points.
+///
+/// # Errors
+///
+/// Out of memory.
+pub fn sites_by_points(
+    alloc: Global,
+    layouts: &Layouts,
+    routine: &Routine,
+) -> Result<Vec<Site>, NoMemory>
+    ensures { (structs : List Struct) → AreLaidOut structs layouts.now → IfOk result (λ all. sites_of all.items ≡ code_sites (routine_in structs routine.now).body 1) }
+{
+    let mut all = Vec::new(alloc);
+    list_code(alloc, layouts, Order::Points, &routine.body, 1, &mut all)?;
     Ok(all)
 }

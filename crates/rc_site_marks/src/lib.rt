@@ -3,6 +3,5 @@
 #![tactic(auto)]
 
 mod marks;
-mod walk;
 
 pub use marks::marks_of;

@@ -6,10 +6,10 @@ ghost use Rattle.rc_elim.specs.Masks.{marks_in};
 ghost use Rattle.rc_rlang.specs.Shapes.{rlang_of, routine_in};
 ghost use Rattle.rc_marks.specs.InOrder.{marks_in_order, routine_marks};
 
-use crate::walk::sites;
 use rc_base::NoMemory;
 use rc_core::Layouts;
 use rc_elim::Mask;
+use rc_reports::sites_by_points;
 use rc_rlang::code::Routine;
 use rc_rlang::rlang::Rlang;
 use std::alloc::Global;
@@ -25,7 +25,7 @@ fn add_marks(
 ) -> Result<(), NoMemory>
     ensures { (structs : List Struct) → AreLaidOut structs layouts.now → OnOk result (out.new.items ≡ out.old.items ++ routine_marks (marks_in mask.now function) (routine_in structs routine.now)) }
 {
-    for site in sites(alloc, layouts, routine)?.as_slice() {
+    for site in sites_by_points(alloc, layouts, routine)?.as_slice() {
         out.push(mask.removed(function, site.point))?;
     }
     Ok(())

@@ -1,9 +1,0 @@
-use Rattle.std.proofs.Common.{◌≡◌, ◌++◌, drop, map}
-use Rattle.rc_core.specs.Laid.{kind_of}
-use Rattle.rc_core.specs.Layout.{Layout}
-use Rattle.rc_rlang.specs.Sites.{cells_sites}
-use Rattle.rc_reports.specs.Listed.{sites_of}
-use Rattle.rc_site_marks.proofs.walk.list_cells.Given as goal
-
-abbrev pub invariant-loop-i : goal.invariant-loop-i
-invariant-loop-i l = (layout : Layout) → l.kinds ≡ map kind_of layout → sites_of l.out.items ++ cells_sites (drop l.i layout) l.line l.at ≡ sites_of l.fn.out.items ++ cells_sites layout l.line l.here
