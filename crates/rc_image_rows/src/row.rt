@@ -1,5 +1,9 @@
 // A row.
+use crate::asking::differs;
+use crate::sweep::swept;
+use rc_row_files::{Found, bytes, push_line, unread};
 use std::alloc::{AllocError, Global};
+use std::io;
 
 /// An image, and what it must come to. What a row doesn't say is not asked.
 #[derive(Drop)]
@@ -11,8 +15,12 @@ pub(crate) struct Row {
     pub(crate) written: Vec<u8>,
 }
 
-impl Row {
-    pub(crate) fn new(alloc: Global, name: &str) -> Result<Row, AllocError> {
+impl rc_row_files::Row for Row {
+    fn tried() -> &'static str {
+        "changed images"
+    }
+
+    fn new(alloc: Global, name: &str) -> Result<Row, AllocError> {
         Ok(Row {
             name: String::from_str(alloc, name)?,
             image: Vec::new(alloc),
@@ -20,5 +28,27 @@ impl Row {
             listing: String::new(alloc),
             written: Vec::new(alloc),
         })
+    }
+
+    fn take(&mut self, alloc: Global, key: &str, value: &str) -> io::Result<()> {
+        match key {
+            "image" => self.image = bytes(alloc, value)?,
+            "written" => self.written = bytes(alloc, value)?,
+            "answer" => self.answer = String::from_str(alloc, value)?,
+            "list" => push_line(&mut self.listing, value)?,
+            _ => return unread(),
+        }
+        Ok(())
+    }
+
+    fn compare(&self, rt: &HostRuntime, file: &str) -> io::Result<Found> {
+        let found = Found {
+            tried: 0,
+            differ: u64::from(differs(rt, file, self)?),
+        };
+        if !file.starts_with("sweep") {
+            return Ok(found);
+        }
+        Ok(found.and(swept(rt, file, self)?))
     }
 }

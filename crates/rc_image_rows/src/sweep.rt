@@ -3,15 +3,9 @@ use crate::asking::is_written;
 use crate::row::Row;
 use rc_image::{ImageFault, read};
 use rc_loader::{LoadFault, load};
+use rc_row_files::Found;
 use std::alloc::Global;
 use std::io;
-
-/// How many images were tried, and how many of them are not answered as they must be.
-#[derive(Clone, Copy)]
-pub(crate) struct Found {
-    pub(crate) changed: u64,
-    pub(crate) differ: u64,
-}
 
 /// Whether bytes are read as an image that has them, and loaded, or refused.
 fn is_answered(alloc: Global, bytes: &[u8]) -> io::Result<bool> {
@@ -43,10 +37,7 @@ fn changed(alloc: Global, bytes: &[u8], at: usize, to: &[u8]) -> io::Result<Vec<
 
 /// Tries the image with a byte changed, taken away and doubled, and the bytes before it alone.
 fn try_at(alloc: Global, bytes: &[u8], at: usize, byte: u8) -> io::Result<Found> {
-    let mut found = Found {
-        changed: 0,
-        differ: 0,
-    };
+    let mut found = Found::none();
     let others: [&[u8]; 8] = [
         &[],
         &[byte, byte],
@@ -59,31 +50,21 @@ fn try_at(alloc: Global, bytes: &[u8], at: usize, byte: u8) -> io::Result<Found>
     ];
     for to in others {
         let other = changed(alloc, bytes, at, to)?;
-        found.changed = found.changed.saturating_add(1);
-        if !is_answered(alloc, other.as_slice())? {
-            found.differ = found.differ.saturating_add(1);
-        }
+        found = found.and(Found::one(!is_answered(alloc, other.as_slice())?));
     }
     if let Some(prefix) = bytes.get(..at) {
-        found.changed = found.changed.saturating_add(1);
-        match read(alloc, prefix) {
-            Err(ImageFault::Short) => {}
-            _ => found.differ = found.differ.saturating_add(1),
-        }
+        let short = matches!(read(alloc, prefix), Err(ImageFault::Short));
+        found = found.and(Found::one(!short));
     }
     Ok(found)
 }
 
 /// Tries an image with each of its bytes changed.
 pub(crate) fn swept(rt: &HostRuntime, file: &str, row: &Row) -> io::Result<Found> {
-    let mut all = Found {
-        changed: 0,
-        differ: 0,
-    };
+    let mut all = Found::none();
     for (at, byte) in row.image.iter().enumerate() {
         let found = try_at(rt.alloc(), row.image.as_slice(), at, *byte)?;
-        all.changed = all.changed.saturating_add(found.changed);
-        all.differ = all.differ.saturating_add(found.differ);
+        all = all.and(found);
         if found.differ > 0 {
             let name = row.name.as_str();
             println!(rt; "{file}: {name}: changed at {at}")?;

@@ -4,42 +4,12 @@ use crate::row::{Came, Failing, Row};
 use rc_base::{Buffer, Bytes, Drawer, NoMemory};
 use rc_count::CountHeap;
 use rc_driver::{rc_main, status_of};
+use rc_row_files::Found;
 use std::alloc::{AllocError, Global};
 use std::io::{self, ErrorKind};
 
 /// How many bytes the error stream takes.
 const ERROR_ROOM: u32 = 256;
-
-/// How many calls were made, and how many of them differ.
-#[derive(Clone, Copy)]
-pub(crate) struct Found {
-    pub(crate) calls: u64,
-    pub(crate) differ: u64,
-}
-
-impl Found {
-    pub(crate) fn none() -> Found {
-        Found {
-            calls: 0,
-            differ: 0,
-        }
-    }
-
-    pub(crate) fn one(differs: bool) -> Found {
-        Found {
-            calls: 1,
-            differ: u64::from(differs),
-        }
-    }
-
-    /// Both together.
-    pub(crate) fn and(self, other: Found) -> Found {
-        Found {
-            calls: self.calls.saturating_add(other.calls),
-            differ: self.differ.saturating_add(other.differ),
-        }
-    }
-}
 
 fn with_one_file(alloc: Global, text: &[u8], fails: Vec<u64>) -> Result<Drawer, AllocError> {
     let name = String::from_str(alloc, "a.c")?;

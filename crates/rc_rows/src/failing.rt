@@ -1,6 +1,7 @@
 // Each call of the outside fails in turn.
-use crate::calling::{Asked, Found, came, differs, is_other, print, same_bytes};
+use crate::calling::{Asked, came, differs, is_other, print, same_bytes};
 use crate::row::{Calls, Came, Failing, Row, Side};
+use rc_row_files::Found;
 use std::alloc::{AllocError, Global};
 use std::io;
 

@@ -1,11 +1,9 @@
 //! Compares the top call with what it must come to, row by row, over objects in memory.
 //!
-//! The rows stand in files of `data/`. A line is a key and what it gives, with a blank between them; a
-//! line that begins with `#` says nothing, nor does an empty one.
+//! The rows stand in files of `data/`, as rc_row_files says. Their keys are:
 //!
 //! | Key | What it gives |
 //! |---|---|
-//! | `row` | a name, with which a row begins: the lines up to the next one are the row's |
 //! | `text`, `line` | a piece of the text of the file `a.c`; `line` puts a line feed after it |
 //! | `same` | nothing: the text is that of the row before |
 //! | `input` | a piece of what there is to read |
@@ -32,10 +30,9 @@ mod piece;
 mod reading;
 mod row;
 
-use calling::differing;
-use reading::rows_of;
+use rc_row_files::compare_files;
+use row::Row;
 use std::process::ExitCode;
-use std::{env, fs, io};
 
 const FILES: [&str; 14] = [
     "words.rows",
@@ -54,45 +51,6 @@ const FILES: [&str; 14] = [
     "soak.rows",
 ];
 
-/// Goes through the rows of a file, and answers how many calls differ.
-fn compare(rt: &HostRuntime, file: &str) -> io::Result<u64> {
-    let text = fs::read_to_string(rt, file)?;
-    let rows = rows_of(rt, file, text.as_str())?;
-    let mut calls = 0u64;
-    let mut differ = 0u64;
-    for row in rows.iter() {
-        let found = differing(rt, file, row)?;
-        calls = calls.saturating_add(found.calls);
-        differ = differ.saturating_add(found.differ);
-    }
-    let count = rows.len();
-    println!(rt; "{file}: {count} rows, {calls} calls, {differ} differ")?;
-    Ok(differ)
-}
-
-/// Goes through the files that the arguments name, or through all where there are none.
-fn compare_files(rt: &HostRuntime) -> io::Result<u64> {
-    let mut differ = 0u64;
-    let mut chosen = false;
-    for file in env::args(rt)?.skip(1) {
-        chosen = true;
-        differ = differ.saturating_add(compare(rt, file.as_str())?);
-    }
-    if !chosen {
-        for file in FILES {
-            differ = differ.saturating_add(compare(rt, file)?);
-        }
-    }
-    Ok(differ)
-}
-
 fn main(rt: HostRuntime) -> ExitCode {
-    match compare_files(&rt) {
-        Ok(0) => ExitCode::SUCCESS,
-        Ok(_) => ExitCode::FAILURE,
-        Err(error) => {
-            let _ = println!(rt; "{error}");
-            ExitCode::FAILURE
-        }
-    }
+    compare_files::<Row>(&rt, &FILES)
 }

@@ -1,28 +1,9 @@
-// Rows, read from the text of a file.
+// What the keys of a row give.
 use crate::piece::{push_piece, push_pieces};
 use crate::row::{Calls, Row};
+use rc_row_files::{number, numbers, unread};
 use std::alloc::Global;
-use std::io::{self, ErrorKind};
-
-fn unread<T>() -> io::Result<T> {
-    Err(io::Error::from(ErrorKind::InvalidData))
-}
-
-fn number(word: &str) -> io::Result<u64> {
-    match word.parse() {
-        Ok(number) => Ok(number),
-        Err(_) => unread(),
-    }
-}
-
-/// The numbers, with a blank between two of them.
-fn numbers(alloc: Global, list: &str) -> io::Result<Vec<u64>> {
-    let mut numbers = Vec::new(alloc);
-    for word in list.split(' ') {
-        numbers.push(number(word)?)?;
-    }
-    Ok(numbers)
-}
+use std::io;
 
 /// How many calls are made of the files, the input, the output and the error stream.
 fn calls(alloc: Global, list: &str) -> io::Result<Calls> {
@@ -75,7 +56,7 @@ fn take_piece(row: &mut Row, key: &str, value: &str) -> io::Result<()> {
 }
 
 /// Takes what a key gives.
-fn take(alloc: Global, row: &mut Row, key: &str, value: &str) -> io::Result<()> {
+pub(crate) fn take(alloc: Global, row: &mut Row, key: &str, value: &str) -> io::Result<()> {
     match key {
         "words" => {
             row.words = words(alloc, value)?;
@@ -93,34 +74,4 @@ fn take(alloc: Global, row: &mut Row, key: &str, value: &str) -> io::Result<()> 
         _ => take_piece(row, key, value)?,
     }
     Ok(())
-}
-
-/// Takes a line: it begins a row, or says something of the last one.
-fn take_line(alloc: Global, rows: &mut Vec<Row>, line: &str) -> io::Result<()> {
-    if line.is_empty() || line.starts_with('#') {
-        return Ok(());
-    }
-    let (key, value) = line.split_once(' ').unwrap_or((line, ""));
-    if key == "row" {
-        rows.push(Row::new(alloc, value)?)?;
-        return Ok(());
-    }
-    match rows.as_mut_slice() {
-        [.., before, row] if key == "same" => row.text = before.text.clone()?,
-        [.., row] => take(alloc, row, key, value)?,
-        [] => return unread(),
-    }
-    Ok(())
-}
-
-/// The rows of a file's text. A line that can't be read is printed, and is an error.
-pub(crate) fn rows_of(rt: &HostRuntime, file: &str, text: &str) -> io::Result<Vec<Row>> {
-    let mut rows = Vec::new(rt.alloc());
-    for (before, line) in text.split('\n').enumerate() {
-        if let Err(error) = take_line(rt.alloc(), &mut rows, line) {
-            println!(rt; "{file}: cannot read {line:?}, which stands after {before} lines")?;
-            return Err(error);
-        }
-    }
-    Ok(rows)
 }

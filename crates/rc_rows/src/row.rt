@@ -1,5 +1,9 @@
 // A row: what the calls are given, and what each must come to.
+use crate::calling::differing;
+use crate::reading::take;
+use rc_row_files::Found;
 use std::alloc::{AllocError, Global};
+use std::io;
 
 /// What the outside is made of.
 #[derive(Clone, Copy)]
@@ -84,9 +88,12 @@ pub(crate) struct Row {
     pub(crate) wanted: Came,
 }
 
-impl Row {
-    /// A row of this name that gives nothing else.
-    pub(crate) fn new(alloc: Global, name: &str) -> Result<Row, AllocError> {
+impl rc_row_files::Row for Row {
+    fn tried() -> &'static str {
+        "calls"
+    }
+
+    fn new(alloc: Global, name: &str) -> Result<Row, AllocError> {
         Ok(Row {
             name: String::from_str(alloc, name)?,
             words: Vec::new(alloc),
@@ -106,5 +113,18 @@ impl Row {
                 stored: Vec::new(alloc),
             },
         })
+    }
+
+    fn take(&mut self, alloc: Global, key: &str, value: &str) -> io::Result<()> {
+        take(alloc, self, key, value)
+    }
+
+    fn take_same(&mut self, before: &Row) -> io::Result<()> {
+        self.text = before.text.clone()?;
+        Ok(())
+    }
+
+    fn compare(&self, rt: &HostRuntime, file: &str) -> io::Result<Found> {
+        differing(rt, file, self)
     }
 }

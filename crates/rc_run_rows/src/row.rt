@@ -1,6 +1,9 @@
 // A row.
+use crate::running::differs;
 use rc_base::Limits;
+use rc_row_files::{Found, bytes, number, numbers, small_number, unread};
 use std::alloc::{AllocError, Global};
+use std::io;
 
 /// What a run must come to: its answer as `{:?}` prints it, the bytes that it writes, and, where that is
 /// asked, how many bytes of the input are left.
@@ -26,8 +29,8 @@ pub(crate) struct Row {
     pub(crate) wanted: Wanted,
 }
 
-impl Row {
-    pub(crate) fn new(alloc: Global, name: &str) -> Result<Row, AllocError> {
+impl rc_row_files::Row for Row {
+    fn new(alloc: Global, name: &str) -> Result<Row, AllocError> {
         Ok(Row {
             name: String::from_str(alloc, name)?,
             image: Vec::new(alloc),
@@ -46,5 +49,27 @@ impl Row {
                 left: None,
             },
         })
+    }
+
+    fn take(&mut self, alloc: Global, key: &str, value: &str) -> io::Result<()> {
+        match key {
+            "image" => self.image = bytes(alloc, value)?,
+            "input" => self.input = bytes(alloc, value)?,
+            "turns" => self.limits.turns = number(value)?,
+            "regions" => self.limits.regions = small_number(value)?,
+            "blocks" => self.limits.blocks = small_number(value)?,
+            "room" => self.room = small_number(value)?,
+            "reads" => self.reads = numbers(alloc, value)?,
+            "writes" => self.writes = numbers(alloc, value)?,
+            "out" => self.wanted.out = bytes(alloc, value)?,
+            "left" => self.wanted.left = Some(number(value)?),
+            "answer" => self.wanted.answer = String::from_str(alloc, value)?,
+            _ => return unread(),
+        }
+        Ok(())
+    }
+
+    fn compare(&self, rt: &HostRuntime, file: &str) -> io::Result<Found> {
+        Ok(Found::one(differs(rt, file, self)?))
     }
 }
