@@ -47,7 +47,7 @@ pub fn live_region<H: Heap>(heap: &H, word: Word) -> Result<u32, Exit>
     requires { (value_of word ≡ Null) ⊎ ((r : ℕ) × (value_of word ≡ Handle r)) }
     ensures { FindsRegion (H.store heap.now) (value_of word) result }
 {
-    if word.is_null() {
+    if word.leads_nowhere() {
         return Err(Exit::Trapped(Trap::Null));
     }
     let region = word.region();
@@ -67,7 +67,7 @@ pub(crate) fn live_pointer<H: Heap>(heap: &H, word: Word) -> Result<Pointer, Mis
     requires { (value_of word ≡ Null) ⊎ ((a : Address) × (value_of word ≡ PointerTo a)) }
     ensures { FindsObject (H.store heap.now) (value_of word) result }
 {
-    if word.is_null() {
+    if word.leads_nowhere() {
         return Err(Miss::Null);
     }
     let pointer = word.pointer();

@@ -37,7 +37,7 @@ pub fn region_of<H: Heap>(
     ensures { Went _setting.now.image.now (at_of running at.old) pile.old (H.store _heap.now) (at_of running at.new) pile.new (H.store _heap.now) result }
 {
     let word = pile.operand(0);
-    if word.is_null() {
+    if word.leads_nowhere() {
         return Some(Exit::Trapped(Trap::Null));
     }
     let pointer = word.pointer();

@@ -1,5 +1,5 @@
 // A value in sixteen bytes.
-ghost use Rattle.std.specs.Prelude.{◌≡◌, ◌↔◌, ◌+◌, ◌*◌, ◌/◌, ◌%◌, ◌<◌, ◌^◌, ℕ, ℤ, IsTrue};
+ghost use Rattle.std.specs.Prelude.{◌≡◌, ◌≢◌, ◌↔◌, ◌+◌, ◌*◌, ◌/◌, ◌%◌, ◌<◌, ◌^◌, ℕ, ℤ, IsTrue};
 ghost use Rattle.rc_core.specs.Heap.{Number, Null, Handle, Address};
 ghost use Rattle.rc_core.specs.Heap.{Pointer as PointerTo};
 ghost use Rattle.rc_core.specs.Evaluation.{is_true, same_value};
@@ -119,6 +119,14 @@ impl Word {
         ensures { IsTrue result ↔ (value_of self ≡ Null) }
     {
         self.high >> 32 == 1
+    }
+
+    /// Whether it is null, of one that is no number.
+    #[inline(always)]
+    pub fn leads_nowhere(self) -> bool
+        ensures { ((n : ℤ) → value_of self ≢ Number n) → (IsTrue result ↔ (value_of self ≡ Null)) }
+    {
+        self.high < REGION
     }
 
     /// Whether it is a number that isn't zero, a region or a pointer.
