@@ -63,10 +63,13 @@ fn suits<L: Ledger>(
     }
 }
 
-/// How many cells so many elements have.
+/// How many cells so many elements have. Mostly it is one element.
 fn size_of(count: u32, width: usize) -> Result<u64, NoMemory>
     ensures { IfOk result (λ size. size ≡ count * width) }
 {
+    if count == 1 {
+        return Ok(width as u64);
+    }
     match (count as u64).checked_mul(width as u64) {
         Some(size) => Ok(size),
         None => Err(NoMemory),
@@ -110,6 +113,7 @@ impl CountHeap {
     }
 
     /// Appends an object to a live region that has so many, and answers its number.
+    #[inline(never)]
     fn append(
         &mut self,
         region: u32,
@@ -185,6 +189,7 @@ impl Heap for CountHeap {
         self.append(0, number, kind, n)
     }
 
+    #[inline(always)]
     fn allocate(&mut self, region: u32, kind: &Layout, n: u32) -> Result<u32, MakeFault> {
         let number = self.space.objects(region);
         if number >= self.block_limit as usize {
