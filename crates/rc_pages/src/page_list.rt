@@ -1,5 +1,5 @@
 // The pages of a list of cells.
-ghost use Rattle.std.specs.Prelude.{◌≡◌, ◌+◌, ◌<◌, ◌≤◌, ◌++◌, ◌∷◌, [], length, take, slice_index, slice_index_or, slice_set, IsTrue, OnOk};
+ghost use Rattle.std.specs.Prelude.{◌≡◌, ◌↔◌, ◌+◌, ◌<◌, ◌≤◌, ◌++◌, ◌∷◌, [], length, take, slice_index, slice_index_or, slice_set, IsTrue, OnOk};
 ghost use Rattle.rc_pages.specs.Cells.{Popped, zero_page};
 
 use crate::page::Page;
@@ -47,7 +47,7 @@ impl PageList {
     }
 
     pub(crate) fn is_empty(&self) -> bool
-        ensures empty { IsTrue result → self.now.pages ≡ [] }
+        ensures empty { IsTrue result ↔ (self.now.pages ≡ []) }
         ensures room { IsTrue result → 0 < self.now.room }
     {
         match &self.first {
