@@ -11,7 +11,4 @@ mod step;
 mod whole;
 
 pub use end::ImageEnd;
-pub use machine::Machine;
-pub use rounds::run_on;
 pub use start::{run, run_first};
-pub use whole::run_to_end;

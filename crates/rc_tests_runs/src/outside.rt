@@ -1,6 +1,6 @@
 // The objects over the real outside.
+use rc_adapters::{Folder, StdSink, StdSource};
 use rc_base::{Failed, Shelf, ShelfFault, Sink, Source};
-use rc_driver::{Folder, StdSink, StdSource};
 use std::alloc::Global;
 use std::io::{self, ErrorKind, Write};
 use std::test::Fail;
