@@ -6,6 +6,7 @@ mod deletions;
 mod reaching;
 
 pub use cells::{
-    FlatCell, FlatStore, PathStore, load, load_indexed, store, store_indexed, store_number,
+    FlatCell, FlatStore, PathStore, load, load_indexed, store, store_byte, store_indexed,
+    store_number,
 };
 pub use deletions::delete;

@@ -1,15 +1,16 @@
 // Objects and pointers.
-ghost use Rattle.std.specs.Prelude.{◌≡◌, ◌≤◌, ◌<◌, ◌+◌, false, true, length, pos, suc, unsigned_abs, IsTrue, MatchOption};
+ghost use Rattle.std.specs.Prelude.{◌≡◌, ◌≤◌, ◌<◌, ◌+◌, ℕ, false, true, length, pos, suc, unsigned_abs, IsTrue, MatchOption};
 ghost use Rattle.rc_core.specs.Evaluation.{toward};
 ghost use Rattle.rc_core.specs.Shapes.{kinds_in};
 ghost use Rattle.rc_core.specs.Source.{is_index};
 ghost use Rattle.rc_core.specs.Typing.{fits};
 ghost use Rattle.rc_core.specs.declared.ty.NumberType.TheVariants.{Int};
+ghost use Rattle.rc_core.specs.declared.ty.Signedness.{Signedness};
 ghost use Rattle.rc_code.specs.Running.{layout_at, reading_of};
 ghost use Rattle.rc_store.specs.Stores.{IsLive};
 ghost use Rattle.rc_decode.specs.declared.op.Op.TheVariants.{Other};
-ghost use Rattle.rc_decode.specs.declared.op.Other.TheVariants.{Allocate, AllocateArray, Move, RegionOf};
-ghost use Rattle.rc_steps.specs.Ready.{IsReadyToAllocate};
+ghost use Rattle.rc_decode.specs.declared.op.Other.TheVariants.{Allocate, AllocateArray, RegionOf};
+ghost use Rattle.rc_steps.specs.Ready.{IsReadyToAllocate, IsReadyToMove};
 ghost use Rattle.rc_ready.specs.ShortForms.{IsReadyFor};
 ghost use Rattle.rc_ops.specs.Going.{IsInside, Went, at_of};
 ghost use Rattle.rc_calls.specs.Setting.{IsSet};
@@ -200,10 +201,9 @@ pub fn move_pointer<H: Heap>(
     pile: &mut Pile,
     at: &mut Counter,
     direction: Direction,
-    _operand: u32,
 ) -> Option<Exit>
     requires inside { IsInside at.old }
-    requires ready { IsReadyFor _setting.now.image.now (at_of running at.old) pile.old (H.store heap.now) running.start (Other (Move direction) _operand) }
+    requires ready { (t : ℕ) × (s : Signedness) × IsReadyToMove _setting.now.image.now (at_of running at.old) pile.old (H.store heap.now) t s direction }
     ensures { Went _setting.now.image.now (at_of running at.old) pile.old (H.store heap.now) (at_of running at.new) pile.new (H.store heap.now) result }
 {
     let n = pile.number(0);
