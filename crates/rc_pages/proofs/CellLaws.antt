@@ -39,7 +39,7 @@ module _ (w : ℕ) where
   cell-write (page ∷ pages) (suc q) r at x whole inside small is =
       set-append_right page (concat pages) w at x (first page pages whole) (omega (arith, suc-mul q w)) ∙ ap (λ cells. page ++ cells) (cell-write pages q r (at - w) x (rest page pages whole) (omega arith) small (omega (arith, suc-mul q w)))
 
-  take-past : (xs more : List ℕ) (n k : ℕ) → n ≡ length xs + k → take n (xs ++ more) ≡ xs ++ take k more
+  pub take-past : (xs more : List ℕ) (n k : ℕ) → n ≡ length xs + k → take n (xs ++ more) ≡ xs ++ take k more
   take-past [] more n k is = ap (λ m. take m more) (omega (arith, is))
   take-past (x ∷ xs) more zero k is = absurd (omega (arith, is))
   take-past (x ∷ xs) more (suc n) k is = ap (λ cells. x ∷ cells) (take-past xs more n k (omega (arith, is)))
@@ -59,11 +59,11 @@ module _ (w : ℕ) where
       ∙ sym (append_assoc page (take (q * w) (concat pages)) new)
       ∙ ap (λ cells. cells ++ new) (sym (take-past page (concat pages) at (q * w) (omega (arith, is, long, suc-mul q w))))
 
-longer-length : (old some : List (List ℕ)) (count : ℕ) → IsLonger old some count → length some ≡ length old + count
+pub longer-length : (old some : List (List ℕ)) (count : ℕ) → IsLonger old some count → length some ≡ length old + count
 longer-length old some count grown = ap (λ pages. length pages) grown.is ∙ length-append old grown.more ∙ ap (λ k. length old + k) grown.long
 
 module _ (pages : List (List ℕ)) (len : ℕ) (held : Holds pages len) where
-  all_cells : length (concat pages) ≡ length pages * 256
+  pub all_cells : length (concat pages) ≡ length pages * 256
   all_cells = length-cells 256 pages held.whole
 
   fits : len ≤ length (concat pages)

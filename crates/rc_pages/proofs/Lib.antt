@@ -2,3 +2,4 @@ pub mod BigLiteral
 pub mod CellLaws
 pub mod PageMemory
 pub mod Walks
+mod Clean

@@ -1,5 +1,6 @@
 -- What a bank shows, and how cells lie in pages.
-use Rattle.std.specs.Prelude.{◌≡◌, ◌+◌, ◌-◌, ◌/◌, ℕ, suc, List, [], ◌∷◌, ◌++◌, length, replicate, All, Option, Some, None}
+use Rattle.std.specs.Prelude.{◌≡◌, ◌≤◌, ◌+◌, ◌-◌, ◌*◌, ◌/◌, take, ℕ, suc, List, [], ◌∷◌, ◌++◌, length, replicate, All, Option, Some, None}
+use Rattle.std.specs.List.{concat}
 
 -- the places of a bank, and how many of them have a spare page
 pub record BankState : Type 0 where
@@ -51,3 +52,9 @@ pub record IsLonger (old new : List (List ℕ)) (count : ℕ) : Type 0 where
 pub record Holds (pages : List (List ℕ)) (cells : ℕ) : Type 0 where
   pub whole : AreWhole pages
   pub enough : length pages ≡ pages_for cells
+
+-- behind the first cells, so many, all are zero up to here
+pub record IsClean (pages : List (List ℕ)) (cells clean : ℕ) : Type 0 where
+  pub behind : cells ≤ clean
+  pub inside : clean ≤ 256 * length pages
+  pub zeros : take clean (concat pages) ≡ take cells (concat pages) ++ replicate (clean - cells) 0

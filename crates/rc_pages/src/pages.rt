@@ -1,7 +1,7 @@
 // Lists of cells.
-ghost use Rattle.std.specs.Prelude.{◌≡◌, ◌+◌, ◌-◌, ◌*◌, ◌<◌, ◌≤◌, [], ◌++◌, length, take, replicate, min, slice_index, slice_set, OnOk, OnErr};
+ghost use Rattle.std.specs.Prelude.{◌≡◌, ◌+◌, ◌-◌, ◌*◌, ◌<◌, ◌≤◌, [], ◌++◌, length, take, replicate, min, slice_index, slice_set, IfOk, OnOk, OnErr};
 ghost use Rattle.std.specs.List.{concat};
-ghost use Rattle.rc_pages.specs.Cells.{AreWhole, IsLonger, pages_for, more_pages};
+ghost use Rattle.rc_pages.specs.Cells.{AreWhole, Holds, IsClean, IsLonger, pages_for, more_pages};
 
 use crate::bank::Bank;
 use crate::page::Page;
@@ -20,18 +20,20 @@ pub struct Pages {
     alloc: Global,
     pages: PageList,
     len: u64,
+    /// Up to here the cells behind the list's own are zero already.
+    clean: u64,
 }
 
 impl Model for Pages {
     ghost use Rattle.std.specs.Prelude.{List, ℕ, take};
     ghost use Rattle.std.specs.List.{concat};
-    ghost use Rattle.rc_pages.specs.Cells.{Holds};
+    ghost use Rattle.rc_pages.specs.Cells.{Holds, IsClean};
 
     ghost Value = { List ℕ };
 
     ghost view = { λ p. take p.len (concat p.pages.pages) };
 
-    ghost invariant = { λ p. Holds p.pages.pages p.len };
+    ghost invariant = { λ p. Holds p.pages.pages p.len × IsClean p.pages.pages p.len p.clean };
 }
 
 /// How many pages so many cells need.
@@ -140,6 +142,53 @@ fn clear(pages: &mut PageList, from: u64, to: u64)
     }
 }
 
+/// A list that grows: how many cells it has, up to where those behind them are zero, and how many it is to
+/// have.
+#[derive(Clone, Copy)]
+struct Growth {
+    len: u64,
+    clean: u64,
+    total: u64,
+}
+
+/// Up to where cells are made zero when a list of so many grows to a total: as many more as there were, if
+/// the last page has them. So a list that grows cell by cell asks for zeros a few times a page, and a small
+/// one pays for none that it doesn't use.
+fn clean_to(len: u64, total: u64) -> u64
+    ensures enough { total ≤ result }
+    ensures inside { result ≤ 256 * pages_for total }
+{
+    let left = (CELLS - total % CELLS) % CELLS;
+    total.saturating_add(left.min(len))
+}
+
+/// Appends the pages that a list needs to grow, and makes its new cells zero, with some behind them.
+/// Answers up to where.
+#[inline(never)]
+fn add_clean(
+    alloc: Global,
+    pages: &mut PageList,
+    growth: Growth,
+    bank: &mut Bank,
+) -> Result<u64, NoMemory>
+    requires holds { Holds pages.old.pages growth.len }
+    requires clean { IsClean pages.old.pages growth.len growth.clean }
+    requires more { growth.clean < growth.total }
+    ensures holds { OnOk result (Holds pages.new.pages growth.total) }
+    ensures clean { IfOk result (λ now. IsClean pages.new.pages growth.len now) }
+    ensures enough { IfOk result (λ now. growth.total ≤ now) }
+    ensures cells { OnOk result (take growth.len (concat pages.new.pages) ≡ take growth.len (concat pages.old.pages)) }
+    ensures err { OnErr result (pages.new.pages ≡ pages.old.pages) }
+    ensures spare { OnOk result (bank.new ≡ record bank.old { kept = bank.old.kept - (pages_for growth.total - length pages.old.pages) }) }
+    ensures same { OnErr result (bank.new ≡ bank.old) }
+{
+    let missing = pages_for(growth.total) - pages.len();
+    add_missing(alloc, pages, missing, bank)?;
+    let clean = clean_to(growth.len, growth.total);
+    clear(pages, growth.clean, clean);
+    Ok(clean)
+}
+
 impl Pages {
     /// An empty list. It takes no memory.
     pub fn new(alloc: Global) -> Pages
@@ -149,6 +198,7 @@ impl Pages {
             alloc,
             pages: PageList::new(alloc),
             len: 0,
+            clean: 0,
         }
     }
 
@@ -160,6 +210,7 @@ impl Pages {
     }
 
     /// Appends so many zeros. The pages that are missing come out of the bank as far as it has some.
+    #[inline(always)]
     pub fn push_zeros(&mut self, n: u64, bank: &mut Bank) -> Result<(), NoMemory>
         ensures ok { OnOk result (self.new ≡ self.old ++ replicate n 0) }
         ensures err { OnErr result (self.new ≡ self.old) }
@@ -170,9 +221,16 @@ impl Pages {
         let Some(len) = self.len.checked_add(n) else {
             return Err(NoMemory);
         };
-        let missing = pages_for(len) - self.pages.len();
-        add_missing(self.alloc, &mut self.pages, missing, bank)?;
-        clear(&mut self.pages, self.len, len);
+        if len <= self.clean {
+            self.len = len;
+            return Ok(());
+        }
+        let growth = Growth {
+            len: self.len,
+            clean: self.clean,
+            total: len,
+        };
+        self.clean = add_clean(self.alloc, &mut self.pages, growth, bank)?;
         self.len = len;
         Ok(())
     }
@@ -211,5 +269,6 @@ impl Pages {
             bank.keep(page);
         }
         self.len = 0;
+        self.clean = 0;
     }
 }
