@@ -136,8 +136,9 @@ impl CountHeap {
     }
 
     /// Writes a counted cell, or one that holds a number. What the old value counts is taken back, and
-    /// what the new one counts is given.
-    #[inline(never)]
+    /// what the new one counts is given. It goes into its caller, so that place and value needn't pass through
+    /// memory.
+    #[inline(always)]
     fn write_reference<L: Ledger>(&mut self, place: Place, value: Cell, steps: &mut Steps<L>)
         requires may { MayStand self.old place (value_of value) }
         requires plain { note_of (kind_at self.old place) ≡ Plain }
