@@ -1,5 +1,7 @@
 // What keys give.
-ghost use Rattle.std.specs.Prelude.{IsErr};
+ghost use Rattle.std.specs.Prelude.{◌≡◌, ◌++◌, ◌∷◌, [], IfOk, IsErr, Ok, OnOk, string_bytes};
+ghost use Rattle.std.specs.Str.Parse.{ParsesUnsigned};
+ghost use Rattle.hex.specs.Hex.{decode_of};
 
 use std::alloc::Global;
 use std::io::{self, ErrorKind};
@@ -12,7 +14,9 @@ pub fn unread<T>() -> io::Result<T>
 }
 
 /// The bytes of these hexadecimal digits.
-pub fn bytes(alloc: Global, digits: &str) -> io::Result<Vec<u8>> {
+pub fn bytes(alloc: Global, digits: &str) -> io::Result<Vec<u8>>
+    ensures { IfOk result (λ bytes. decode_of digits.now ≡ Ok bytes.items) }
+{
     match hex::decode(alloc, digits) {
         Ok(bytes) => Ok(bytes),
         Err(_) => unread(),
@@ -20,7 +24,9 @@ pub fn bytes(alloc: Global, digits: &str) -> io::Result<Vec<u8>> {
 }
 
 /// The number of 64 bits of these decimal digits.
-pub fn number(word: &str) -> io::Result<u64> {
+pub fn number(word: &str) -> io::Result<u64>
+    ensures { ParsesUnsigned 64 10 word.now result }
+{
     match word.parse() {
         Ok(number) => Ok(number),
         Err(_) => unread(),
@@ -28,7 +34,9 @@ pub fn number(word: &str) -> io::Result<u64> {
 }
 
 /// The number of 32 bits of these decimal digits.
-pub fn small_number(word: &str) -> io::Result<u32> {
+pub fn small_number(word: &str) -> io::Result<u32>
+    ensures { ParsesUnsigned 32 10 word.now result }
+{
     match word.parse() {
         Ok(number) => Ok(number),
         Err(_) => unread(),
@@ -45,7 +53,9 @@ pub fn numbers(alloc: Global, list: &str) -> io::Result<Vec<u64>> {
 }
 
 /// Puts a line behind a text.
-pub fn push_line(text: &mut String, line: &str) -> io::Result<()> {
+pub fn push_line(text: &mut String, line: &str) -> io::Result<()>
+    ensures { OnOk result (string_bytes text.new ≡ string_bytes text.old ++ line.now ++ 10 ∷ []) }
+{
     text.push_str(line)?;
     text.push('\n')?;
     Ok(())
