@@ -2,11 +2,10 @@
 use Rattle.std.proofs.Common.{◌≡◌, ◌+◌, ◌-◌, ◌*◌, ◌/◌, ◌%◌, ◌<◌, ◌≤◌, ℕ, zero, suc, List, [], ◌∷◌, ◌++◌, length, take, drop, replicate, get_or, set, sym, ap, subst, ◌∙◌, refl, arith, append_assoc, append-nil, length-append, length-set, length-take-le, take-append-drop}
 use Rattle.std.specs.Prelude.{All}
 use Rattle.std.specs.List.{concat}
-use Rattle.std.proofs.lemmas.List.{get_or-take, get_or_append_left, get_or-append_right, set-append_left, set-append_right, take_at, take-append-le, take_more_set, length-replicate, replicate-append-replicate}
+use Rattle.std.proofs.lemmas.List.{get_or-take, get_or_append_left, get_or-append_right, set-append_left, set-append_right, take_at, take_more_set, length-replicate, replicate-append-replicate}
 use Rattle.std.proofs.lemmas.List.Elements.{All-append, All-set}
-use Rattle.std.proofs.lemmas.List.Folds.{concat-append}
 use native.Mathlib.Nat.{zero-mul, suc-mul}
-use Rattle.rc_pages.specs.Cells.{AreWhole, Holds, IsLonger, pages_for, more_pages, zero_page}
+use Rattle.rc_pages.specs.Cells.{AreWhole, Holds, IsLonger, zero_page}
 
 -- pages of w cells each
 module _ (w : ℕ) where
@@ -102,29 +101,6 @@ module _ (pages : List (List ℕ)) (len : ℕ) (held : Holds pages len) where
           let apart : concat written ≡ set cells at x ++ drop len (concat pages)
           = moved ∙ ap (λ all. set all at x) (sym (take-append-drop len (concat pages))) ∙ set-append_left cells (drop len (concat pages)) at x (omega (arith, inside, held-length)) in
           ap (λ all. take len all) apart ∙ take_at (set cells at x) (drop len (concat pages)) len (length-set cells at x ∙ held-length)
-
-  -- as many pages are appended as n more cells need, and the new cells are made zero
-  module _ (n total count : ℕ) (longer cleared : List (List ℕ)) (sum : total ≡ len + n) (missing : count ≡ pages_for total - length pages) (grown : IsLonger pages longer count) (same : length cleared ≡ length longer) where
-    counted : length cleared ≡ length pages + count
-    counted = same ∙ longer-length pages longer count grown
-
-    pub pushed-inside : total ≤ 256 * length longer
-    pushed-inside = omega (arith, longer-length pages longer count grown, sum, missing, held.enough)
-
-    pub pushed-holds : AreWhole cleared → Holds cleared total
-    pushed-holds whole = record { whole = whole; enough = omega (arith, counted, sum, missing, held.enough) }
-
-    pub pushed-count : (now : List ℕ) → take len (concat pages) ≡ now → count ≡ more_pages (length now) n
-    pushed-count now shown =
-        let before : length now ≡ len = ap (λ all. length all) (sym shown) ∙ held-length in
-        missing ∙ ap (λ k. pages_for k - length pages) sum ∙ ap (λ k. pages_for (len + n) - k) held.enough ∙ ap (λ k. more_pages k n) (sym before)
-
-    pub pushed-shown : (now : List ℕ) → take len (concat pages) ≡ now → take total (concat cleared) ≡ take len (concat longer) ++ replicate (total - len) 0 → take total (concat cleared) ≡ now ++ replicate n 0
-    pushed-shown now shown cells =
-        cells
-        ∙ ap (λ all. take len all ++ replicate (total - len) 0) (ap (λ all. concat all) grown.is ∙ concat-append pages grown.more)
-        ∙ ap (λ all. all ++ replicate (total - len) 0) (take-append-le len (concat pages) (concat grown.more) fits ∙ shown)
-        ∙ ap (λ k. now ++ replicate k 0) (omega (arith, sum))
 
 -- the same of a list that shows the cells
 module _ (pages : List (List ℕ)) (len : ℕ) (now : List ℕ) (held : Holds pages len) (shown : take len (concat pages) ≡ now) (at : ℕ) (inside : at < length now) where

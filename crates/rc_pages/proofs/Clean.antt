@@ -21,26 +21,6 @@ module _ (pages : List (List ℕ)) (len clean n total cells : ℕ) (held : Holds
       ∙ take-past 0 own (replicate (clean - len) 0) total n (omega (arith, sum, own-length))
       ∙ ap (λ cells. own ++ cells) (take-replicate n (clean - len) 0 (omega (arith, sum, within)))
 
-  pub grown-clean : IsClean pages total clean
-  grown-clean = record {
-    behind = within;
-    inside = is.inside;
-    zeros = is.zeros
-        ∙ ap (λ k. own ++ replicate k 0) (omega (arith, sum, within))
-        ∙ ap (λ cells. own ++ cells) (sym (replicate-append-replicate n (clean - total) 0))
-        ∙ sym (append_assoc own (replicate n 0) (replicate (clean - total) 0))
-        ∙ ap (λ cells. cells ++ replicate (clean - total) 0) (sym grown-shown);
-  }
-
-  pub grown-holds : Holds pages len → Holds pages total
-  grown-holds held = record { whole = held.whole; enough = omega (arith, held.enough, is.inside, sum, within) }
-
-  -- and no page is asked for
-  pub grown-count : Holds pages len → (now : List ℕ) → own ≡ now → pages_for (length now + n) - pages_for (length now) ≡ 0
-  grown-count held now shown =
-      let long : length now ≡ len = ap (λ cells. length cells) (sym shown) ∙ own-length in
-      omega (arith, long, held.enough, is.inside, sum, within)
-
 -- a cell of the list is written
 module _ (pages : List (List ℕ)) (len clean : ℕ) (held : Holds pages len) (is : IsClean pages len clean) (at : ℕ) (inside : at < len) (x : ℕ) where
   abbrev written : List (List ℕ)
