@@ -2,8 +2,8 @@
 ghost use Rattle.std.specs.Prelude.{◌≡◌, [], ◌∷◌, length, slice_get};
 ghost use Rattle.rc_code.specs.Image.{opcode_of, kind_number, direction_number, operands_of};
 
-use crate::items::Items;
 use crate::opcode::{Arithmetic, Jump, Opcode, Simple, Typed};
+use crate::pins::Pins;
 use rc_core::operators::Direction;
 use rc_core::ty::Signedness;
 
@@ -30,9 +30,9 @@ pub enum Instruction {
     Store(u32, bool),
     Simple(Simple),
     /// The pinned locals.
-    Delete(Items<u32>),
+    Delete(Pins),
     /// The number of a function, and the pinned locals.
-    Call(u32, Items<u32>),
+    Call(u32, Pins),
     /// The number of the target.
     Jump(Jump, u32),
 }
@@ -125,7 +125,7 @@ fn first(at: usize, operand: u32) -> Option<u64>
 }
 
 /// The operand of that number, of the count of pinned locals and these.
-fn pin(pins: &Items<u32>, at: usize) -> Option<u64>
+fn pin(pins: &Pins, at: usize) -> Option<u64>
     ensures { result ≡ slice_get (length pins.now ∷ pins.now) at }
 {
     let pins = pins.as_slice();

@@ -10,6 +10,7 @@ mod kind;
 mod laws;
 mod loaded;
 mod opcode;
+mod pins;
 
 pub use image::{Function, Global, Image, Index, Initial, Parts, Path};
 pub use instruction::Instruction;
@@ -21,3 +22,4 @@ pub use laws::{
 };
 pub use loaded::Loaded;
 pub use opcode::{Arithmetic, Jump, Opcode, Operand, Simple, Typed};
+pub use pins::Pins;

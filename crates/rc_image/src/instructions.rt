@@ -6,7 +6,7 @@ ghost use Rattle.rc_image.specs.Spelling.{instruction_bytes};
 ghost use Rattle.rc_fields.specs.Reading.{Gives, many, counted_at};
 ghost use Rattle.rc_image.specs.Reading.{direction_at, bit_at, pins_at, move_at, store_at, call_at, operands_at, instruction_at};
 
-use rc_code::{Instruction, Items, Opcode};
+use rc_code::{Instruction, Opcode, Pins};
 use rc_core::operators::Direction;
 use rc_fields::{
     Stop, read_kind, read_number, read_numbers, write_kind, write_number, write_numbers,
@@ -41,12 +41,12 @@ fn read_bit(bytes: &[u8]) -> Result<(bool, &[u8]), Stop>
 
 /// Reads how many locals are pinned, and these.
 #[tactic(auto, unfolding(rc_fields::specs::Reading::counted_at))]
-fn read_pins(alloc: Global, bytes: &[u8]) -> Result<(Items<u32>, &[u8]), Stop>
+fn read_pins(alloc: Global, bytes: &[u8]) -> Result<(Pins, &[u8]), Stop>
     ensures { Gives (λ x. (x.0, x.1.now)) result (pins_at bytes.now) }
 {
     let (count, rest) = read_number(bytes)?;
     let (pins, rest) = read_numbers(alloc, count as usize, rest)?;
-    Ok((Items::new(pins), rest))
+    Ok((Pins::new(alloc, pins)?, rest))
 }
 
 fn read_move(bytes: &[u8]) -> Result<(Instruction, &[u8]), Stop>

@@ -11,7 +11,7 @@ ghost use Rattle.rc_numbers.specs.Placed.{path_number, placed, placed_code, type
 use crate::numbers::Numbers;
 use crate::rows::{backward, conversion, forward, pointee, row_of, unary_row, word_of};
 use rc_base::NoMemory;
-use rc_code::{Instruction as Row, Items, Jump, Simple, Typed};
+use rc_code::{Instruction as Row, Jump, Pins, Simple, Typed};
 use rc_core::ty::Ty;
 use rc_lines::{Instruction, Line};
 use std::alloc::Global;
@@ -31,10 +31,10 @@ fn by_type(numbers: &Numbers<'_>, row: Simple, row_typed: Typed, ty: &Ty) -> Res
 }
 
 /// Pinned locals.
-fn pins(alloc: Global, of: &[u32]) -> Result<Items<u32>, NoMemory>
+fn pins(alloc: Global, of: &[u32]) -> Result<Pins, NoMemory>
     ensures { IfOk result (λ r. r ≡ of.now) }
 {
-    Ok(Items::new(Vec::from_slice(alloc, of)?))
+    Ok(Pins::new(alloc, Vec::from_slice(alloc, of)?)?)
 }
 
 /// An instruction that stands at a place, of a function with so many.
