@@ -25,7 +25,7 @@ use Rattle.rc_code.specs.Soundness.{Kind, numbers, handles, pointers, kind_of, t
 use Rattle.rc_loader.specs.declared.fault.Rule.{Rule}
 use Rattle.rc_loader.specs.declared.fault.Rule.TheVariants as rule
 use Rattle.rc_loader.specs.Violations.{Leads, GoesOn, IsTarget, HasHeight, rank, KeepsAt}
-use Rattle.rc_loader.specs.Decisions.{same_kind, same_kinds, is_pin, are_pins, may_be_marked, names_what_is_there, leads_inside, may_end, leads_to, is_named, empties, left_below, is_empty_enough, are_kinds, checked_kinds, checked_height, checked, Stand, KeepsAll, BreaksHere}
+use Rattle.rc_loader.specs.Decisions.{same_kind, same_kinds, is_pin, are_pins, reached_cell, may_be_marked, names_what_is_there, leads_inside, may_end, leads_to, is_named, empties, left_below, is_empty_enough, are_kinds, checked_kinds, checked_height, checked, Stand, KeepsAll, BreaksHere}
 use Rattle.rc_loader.proofs.Operands.{cell_there}
 
 -- ---- tests
@@ -102,7 +102,7 @@ module _ (parts : Parts) (f : Function) where
   Marks : (path : ℕ) → Bool → Type 0
   Marks path proved = proved ≡ true → (true ≡ true) × (is_plain (note_of (cell_at (reading_of parts) (path_at (reading_of parts) path))) ≡ false)
 
-  marks_decide : (path : ℕ) (proved : Bool) → Decides (may_be_marked parts path proved) (proved ≡ true → (true ≡ true) × (is_plain (note_of (cell_at (reading_of parts) (path_at (reading_of parts) path))) ≡ false))
+  marks_decide : (path : ℕ) (proved : Bool) → Decides (may_be_marked (reached_cell parts (path_at (reading_of parts) path)) proved) (proved ≡ true → (true ≡ true) × (is_plain (note_of (cell_at (reading_of parts) (path_at (reading_of parts) path))) ≡ false))
   marks_decide path false = (λ e is. absurd (not_true is), λ h. refl)
     where
       not_true : false ≡ true → ⊥
@@ -344,7 +344,7 @@ module _ (parts : Parts) (f : Function) (n : ℕ) (stack : List Storage) (stand 
       not_true e = absurd cc
 
   height_decides : (i : Instruction) (target : Bool) → target ≡ is_named f.code n → count_off (reading_of parts) f i ≤ length stack
-      → Decides (is_empty_enough i target (length stack - count_off (reading_of parts) f i) (length stack)) (HasHeight (reading_of parts) f n i)
+      → Decides (is_empty_enough (empties i) target (length stack - count_off (reading_of parts) f i) (length stack)) (HasHeight (reading_of parts) f n i)
   height_decides i target is le =
       let d = both _ _ (empty_decides i) (clear_decides target is) in
       (λ e. let h = d.0 e in record { enough = let same = as_high in omega (arith, le, same); empty = h.0; target = h.1 }, λ g. d.1 (g.empty, g.target))
@@ -424,7 +424,7 @@ module _ (parts : Parts) (f : Function) (n : ℕ) (stack : List Storage) (stand 
         record { broken = refused _ (operands_decide (instruction_at f n) le) e; earlier = after_heights ((names_decide parts f (instruction_at f n)).0 names) goes high }
 
     from_height : names_what_is_there parts f (instruction_at f n) ≡ true → GoesOn f n (instruction_at f n) → count_off (reading_of parts) f (instruction_at f n) ≤ length stack → (b : Bool)
-        → is_empty_enough (instruction_at f n) target (length stack - count_off (reading_of parts) f (instruction_at f n)) (length stack) ≡ b
+        → is_empty_enough (empties (instruction_at f n)) target (length stack - count_off (reading_of parts) f (instruction_at f n)) (length stack) ≡ b
         → Tells (cond b (checked_kinds parts f (instruction_at f n) stack (length stack - count_off (reading_of parts) f (instruction_at f n))) (Err rule.Height))
     from_height names goes le true e = from_kinds names goes ((height_decides (instruction_at f n) target is le).0 e) le _ refl
     from_height names goes le false e =

@@ -2,4 +2,5 @@ pub mod Operands
 pub mod Firsts
 pub mod Marks
 pub mod Deciding
+pub mod Meeting
 pub mod Totals

@@ -1,6 +1,6 @@
 -- The rules at one instruction as tests that a loader makes, of the image as it is written. Operands stand in the order in which
 -- they were pushed.
-use Rattle.std.specs.Prelude.{◌≡◌, ◌<◌, ℕ, suc, ◌-◌, Bool, true, false, ◌&&◌, ◌||◌, not, nat_lt, nat_le, ◌==◌, List, [], ◌∷◌, ◌++◌, length, map, drop, reverse, get_or, Option, Some, None, Result, Ok, Err, if◌then◌else◌}
+use Rattle.std.specs.Prelude.{◌≡◌, ◌<◌, ℕ, suc, ◌-◌, Bool, true, false, ◌&&◌, ◌||◌, not, nat_lt, nat_le, ◌==◌, List, [], ◌∷◌, ◌++◌, length, map, drop, reverse, get_or, Option, Some, None, option_to_list, Result, Ok, Err, if◌then◌else◌}
 use Rattle.rc_core.specs.declared.ty.NumberType.TheVariants as numbers
 use Rattle.rc_core.specs.Layout.{note_of, is_plain}
 use Rattle.rc_code.specs.declared.kind.Cell.{Cell}
@@ -15,10 +15,11 @@ use Rattle.rc_code.specs.declared.image.Function.{Function}
 use Rattle.rc_code.specs.declared.image.Parts.{Parts}
 use Rattle.rc_code.specs.Image.{kind_number, cells_at}
 use Rattle.rc_code.specs.Running.{reading_of, cell_kind, pointee, storage_by, path_at}
-use Rattle.rc_code.specs.Soundness.{Kind, numbers as number_kind, handles, pointers, kind_of, place_kinds, local_in, is_regional, takes, count_off, kinds_before, ends}
+use Rattle.rc_code.specs.Soundness.{Kind, numbers as number_kind, handles, pointers, kind_of, place_kinds, local_in, is_regional, takes, gives, count_off, kinds_before, ends}
 use Rattle.rc_loader.specs.Violations.{rank, KeepsAt}
 use Rattle.rc_loader.specs.declared.taken.Taken.{Taken}
 use Rattle.rc_loader.specs.declared.taken.Taken.TheVariants as taken
+use Rattle.rc_loader.specs.declared.demands.Demands.{Demands}
 use Rattle.rc_loader.specs.declared.fault.Rule.{Rule}
 use Rattle.rc_loader.specs.declared.fault.Rule.TheVariants as rule
 
@@ -89,9 +90,10 @@ abbrev pub are_pins : Function → List ℕ → Bool
 are_pins f [] = true
 are_pins f (x ∷ pins) = is_pin f x && is_before x pins && are_pins f pins
 
-abbrev pub may_be_marked : Parts → (path : ℕ) → (proved : Bool) → Bool
-may_be_marked parts path false = true
-may_be_marked parts path true = is_annotated (reached_cell parts (path_at (reading_of parts) path))
+-- by a store to that cell
+abbrev pub may_be_marked : Cell → (proved : Bool) → Bool
+may_be_marked c false = true
+may_be_marked c true = is_annotated c
 
 abbrev pub names_what_is_there : Parts → Function → Instruction → Bool
 names_what_is_there parts f (instruction.Global g) = nat_lt g (length parts.globals)
@@ -100,7 +102,7 @@ names_what_is_there parts f (instruction.Set x) = nat_lt x (length f.locals)
 names_what_is_there parts f (instruction.Load path) = nat_lt path (length parts.paths)
 names_what_is_there parts f (instruction.Typed row type) = nat_lt type (length parts.types)
 names_what_is_there parts f (instruction.Move type kind direction) = nat_lt type (length parts.types)
-names_what_is_there parts f (instruction.Store path proved) = nat_lt path (length parts.paths) && may_be_marked parts path proved
+names_what_is_there parts f (instruction.Store path proved) = nat_lt path (length parts.paths) && may_be_marked (reached_cell parts (path_at (reading_of parts) path)) proved
 names_what_is_there parts f (instruction.Delete pins) = are_pins f pins
 names_what_is_there parts f (instruction.Call g pins) = nat_lt g (length parts.functions) && are_pins f pins
 names_what_is_there parts f i = true
@@ -134,8 +136,8 @@ empties (instruction.Simple simple.Return) = true
 empties i = false
 
 -- of the operands that are left below those that are taken, and of all that stand before the instruction
-abbrev pub is_empty_enough : Instruction → (target : Bool) → (below height : ℕ) → Bool
-is_empty_enough i target below height = (if empties i then below == 0 else true) && (if target then height == 0 else true)
+abbrev pub is_empty_enough : (empties target : Bool) → (below height : ℕ) → Bool
+is_empty_enough empties target below height = (if empties then below == 0 else true) && (if target then height == 0 else true)
 
 -- ---- all of them
 
@@ -148,7 +150,7 @@ checked_kinds parts f i stack below = if are_kinds parts f i (drop below stack) 
 
 abbrev pub checked_height : Parts → Function → Instruction → (target : Bool) → List Storage → Option ℕ → Result ℕ Rule
 checked_height parts f i target stack None = Err rule.Height
-checked_height parts f i target stack (Some below) = if is_empty_enough i target below (length stack) then checked_kinds parts f i stack below else Err rule.Height
+checked_height parts f i target stack (Some below) = if is_empty_enough (empties i) target below (length stack) then checked_kinds parts f i stack below else Err rule.Height
 
 -- at an instruction, before which these operands stand: how many of them it leaves, or the rule that is broken
 abbrev pub checked : Parts → Function → (n : ℕ) → Instruction → (target : Bool) → List Storage → Result ℕ Rule
@@ -156,6 +158,28 @@ checked parts f n i target stack =
     if names_what_is_there parts f i then
     (if leads_inside (length f.code) n i && may_end (length f.code) n i then checked_height parts f i target stack (left_below (count_off (reading_of parts) f i) (length stack))
     else Err rule.Target) else Err rule.Number
+
+-- ---- the same, of what an instruction demands
+
+-- what an instruction that names what is there asks and gives
+pub record AreDemands (parts : Parts) (f : Function) (n : ℕ) (i : Instruction) (d : Demands) : Type 0 where
+  pub named : names_what_is_there parts f i ≡ true
+  pub leads : d.leads ≡ leads_inside (length f.code) n i
+  pub empties : d.empties ≡ empties i
+  pub kinds : reverse (pushed d.taken) ≡ takes (reading_of parts) f i
+  pub any : is_any d.taken ≡ is_pop i
+  pub given : map kind_of (option_to_list d.given) ≡ gives (reading_of parts) f i
+
+abbrev pub met_kinds : Demands → List Storage → (below : ℕ) → Result ℕ Rule
+met_kinds d stack below = if are_taken d.taken (drop below stack) then Ok below else Err rule.Kind
+
+abbrev pub met_height : Demands → (target : Bool) → List Storage → Option ℕ → Result ℕ Rule
+met_height d target stack None = Err rule.Height
+met_height d target stack (Some below) = if is_empty_enough d.empties target below (length stack) then met_kinds d stack below else Err rule.Height
+
+-- whether it `ends` well is whether it isn't the last one, or nothing behind it is run
+abbrev pub met : Demands → (ends target : Bool) → List Storage → Result ℕ Rule
+met d ends target stack = if d.leads && ends then met_height d target stack (left_below (count_of d.taken) (length stack)) else Err rule.Target
 
 -- ---- what a loader knows before an instruction
 

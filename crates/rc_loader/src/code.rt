@@ -1,15 +1,15 @@
 // The rules of code, from the first instruction to the last.
-ghost use Rattle.std.specs.Prelude.{◌≡◌, suc, ◌<◌, ◌≤◌, ◌-◌, ◌++◌, true, length, map, take, option_to_list, IfOk, OnOk, MatchOption};
+ghost use Rattle.std.specs.Prelude.{◌≡◌, suc, ◌<◌, ◌++◌, true, length, map, take, option_to_list, IfOk, OnOk, MatchOption};
 ghost use Rattle.rc_code.specs.Image.{IsNumber};
 ghost use Rattle.rc_code.specs.Running.{reading_of};
-ghost use Rattle.rc_code.specs.Soundness.{kind_of, gives, instruction_at, FunctionIsSound};
+ghost use Rattle.rc_code.specs.Soundness.{kind_of, instruction_at, FunctionIsSound};
 ghost use Rattle.rc_loader.specs.Violations.{BreaksFirst};
-ghost use Rattle.rc_loader.specs.Decisions.{empties, is_empty_enough, checked, names_what_is_there, is_named, Stand, KeepsAll, BreaksHere};
+ghost use Rattle.rc_loader.specs.Decisions.{is_empty_enough, met, is_named, Stand, KeepsAll, BreaksHere};
 
+use crate::demands::{Demands, demands_of};
 use crate::fault::Rule;
-use crate::names::{leads_inside, may_end, names_what_is_there, targets_of};
-use crate::taken::{gives, taken_by};
-use rc_code::{Function, Instruction, Parts, Simple, Storage};
+use crate::names::{may_end, targets_of};
+use rc_code::{Function, Instruction, Parts, Storage};
 use std::alloc::{AllocError, Global};
 
 /// A rule that is broken at an instruction.
@@ -19,69 +19,40 @@ pub(crate) struct Broken {
     pub(crate) instruction: u32,
 }
 
-/// Whether an instruction leaves no operands below its own.
-fn empties(instruction: &Instruction) -> bool
-    ensures { result ≡ empties instruction.now }
-{
-    match instruction {
-        Instruction::Jump(..) | Instruction::Simple(Simple::Return) => true,
-        _ => false,
-    }
-}
-
 /// Whether no operands are left below, and none stand before, where that has to be.
-fn is_empty_enough(instruction: &Instruction, target: bool, below: usize, height: usize) -> bool
-    ensures { result ≡ is_empty_enough instruction.now target below height }
+fn is_empty_enough(empties: bool, target: bool, below: usize, height: usize) -> bool
+    ensures { result ≡ is_empty_enough empties target below height }
 {
-    (!empties(instruction) || below == 0) && (!target || height == 0)
+    (!empties || below == 0) && (!target || height == 0)
 }
 
-/// Asks the rules at an instruction, before which these operands stand, and answers how many of them
-/// are left below those that it takes.
-fn check_instruction(
-    parts: &Parts,
-    function: &Function,
-    at: usize,
-    instruction: &Instruction,
-    target: bool,
-    stack: &[Storage],
-) -> Result<usize, Rule>
-    requires { at < length function.now.code }
-    ensures { result ≡ checked parts.now function.now at instruction.now target stack.now }
+/// Asks whether demands are met where these operands stand before an instruction that doesn't run off the
+/// code's end, or does, and that is a target, or isn't. Answers how many operands are left below those
+/// that it takes.
+fn meet(demands: &Demands<'_>, ends: bool, target: bool, stack: &[Storage]) -> Result<usize, Rule>
+    ensures { result ≡ met demands.now ends target stack.now }
 {
-    if !names_what_is_there(parts, function, instruction) {
-        return Err(Rule::Number);
-    }
-    let size = function.code.as_slice().len();
-    if !(leads_inside(size, at, instruction) && may_end(size, at, instruction)) {
+    if !(demands.leads && ends) {
         return Err(Rule::Target);
     }
-    let taken = taken_by(parts, function, instruction);
-    let Some(below) = taken.below(stack.len()) else {
+    let Some(below) = demands.taken.below(stack.len()) else {
         return Err(Rule::Height);
     };
-    if !is_empty_enough(instruction, target, below, stack.len()) {
+    if !is_empty_enough(demands.empties, target, below, stack.len()) {
         return Err(Rule::Height);
     }
-    if !taken.are(&stack[below..]) {
+    if !demands.taken.are(&stack[below..]) {
         return Err(Rule::Kind);
     }
     Ok(below)
 }
 
-/// Puts what an instruction gives, which names what is there, in place of the operands that it takes.
-fn go_on(
-    parts: &Parts,
-    function: &Function,
-    instruction: &Instruction,
-    below: usize,
-    stack: &mut Vec<Storage>,
-) -> Result<(), AllocError>
-    requires { names_what_is_there parts.now function.now instruction.now ≡ true }
-    ensures { OnOk result (map kind_of stack.new.items ≡ map kind_of (take below stack.old.items) ++ gives (reading_of parts.now) function.now instruction.now) }
+/// Puts what an instruction gives, if anything, in place of the operands that it takes.
+fn go_on(given: Option<Storage>, below: usize, stack: &mut Vec<Storage>) -> Result<(), AllocError>
+    ensures { OnOk result (map kind_of stack.new.items ≡ map kind_of (take below stack.old.items) ++ map kind_of (option_to_list given)) }
 {
     stack.truncate(below);
-    if let Some(given) = gives(parts, function, instruction) {
+    if let Some(given) = given {
         stack.push(given)?;
     }
     Ok(())
@@ -110,10 +81,14 @@ fn step(
     ensures { IfOk result (λ broken. MatchOption broken (KeepsAll parts.now function.now at × Stand parts.now function.now (suc at) stack.new.items) (λ rule. BreaksHere parts.now function.now at rule)) }
 {
     let instruction = instruction_of(function, at);
-    match check_instruction(parts, function, at, instruction, target, stack) {
+    let Some(demands) = demands_of(parts, function, at, instruction) else {
+        return Ok(Some(Rule::Number));
+    };
+    let ends = may_end(function.code.as_slice().len(), at, instruction);
+    match meet(&demands, ends, target, stack) {
         Err(rule) => Ok(Some(rule)),
         Ok(below) => {
-            go_on(parts, function, instruction, below, stack)?;
+            go_on(demands.given, below, stack)?;
             Ok(None)
         }
     }

@@ -4,6 +4,7 @@
 #![tactic(auto)]
 
 mod code;
+mod demands;
 mod fault;
 mod laws;
 mod loading;

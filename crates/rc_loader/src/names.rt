@@ -1,10 +1,10 @@
 // Whether operands name what is there, and jumps stay in their function.
-ghost use Rattle.std.specs.Prelude.{◌≡◌, ℕ, ◌<◌, ◌||◌, false, length, get_or, IfOk};
+ghost use Rattle.std.specs.Prelude.{◌≡◌, ℕ, ◌<◌, ◌||◌, nat_lt, false, length, get_or, IfOk};
 ghost use Rattle.rc_code.specs.Soundness.{is_regional, ends};
-ghost use Rattle.rc_loader.specs.Decisions.{is_before, is_pin, are_pins, may_be_marked, names_what_is_there, leads_inside, may_end, leads_to, is_named};
+ghost use Rattle.rc_loader.specs.Decisions.{is_before, is_pin, are_pins, may_be_marked, may_end, leads_to, is_named};
 
-use crate::taken::{is_annotated, path_of, reached_cell};
-use rc_code::{Function, Instruction, Jump, Parts, Simple, Storage};
+use crate::taken::is_annotated;
+use rc_code::{Cell, Function, Instruction, Jump, Parts, Simple, Storage};
 use std::alloc::{AllocError, Global};
 
 /// Whether a local may be pinned.
@@ -38,7 +38,7 @@ fn is_before(local: u32, after: &[u32]) -> bool
 }
 
 /// Whether these are locals that may be pinned, in increasing order.
-fn are_pins(function: &Function, pins: &[u32]) -> bool
+pub(crate) fn are_pins(function: &Function, pins: &[u32]) -> bool
     ensures { result ≡ are_pins function.now pins.now }
 {
     let mut rest = pins;
@@ -51,60 +51,18 @@ fn are_pins(function: &Function, pins: &[u32]) -> bool
     true
 }
 
-/// Whether a store by that path may have the mark, if it has it.
-fn may_be_marked(parts: &Parts, path: u32, proved: bool) -> bool
-    requires { path < length parts.now.paths }
-    ensures { result ≡ may_be_marked parts.now path proved }
+/// Whether a store to that cell may have the mark, if it has it.
+pub(crate) fn may_be_marked(cell: Cell, proved: bool) -> bool
+    ensures { result ≡ may_be_marked cell proved }
 {
-    !proved || is_annotated(reached_cell(parts, path_of(parts, path)))
+    !proved || is_annotated(cell)
 }
 
-/// Whether the operands of an instruction name what is there.
-pub(crate) fn names_what_is_there(
-    parts: &Parts,
-    function: &Function,
-    instruction: &Instruction,
-) -> bool
-    ensures { result ≡ names_what_is_there parts.now function.now instruction.now }
+/// Whether there is a type of that number.
+pub(crate) fn has_type(parts: &Parts, type_number: u32) -> bool
+    ensures { result ≡ nat_lt type_number (length parts.now.types) }
 {
-    match instruction {
-        Instruction::Global(global) => (*global as usize) < parts.globals.as_slice().len(),
-        Instruction::Get(local) | Instruction::Set(local) => {
-            (*local as usize) < function.locals.as_slice().len()
-        }
-        Instruction::Load(path) => (*path as usize) < parts.paths.as_slice().len(),
-        Instruction::Typed(_, type_number) | Instruction::Move(type_number, ..) => {
-            (*type_number as usize) < parts.types.as_slice().len()
-        }
-        Instruction::Store(path, proved) => {
-            (*path as usize) < parts.paths.as_slice().len() && may_be_marked(parts, *path, *proved)
-        }
-        Instruction::Delete(pins) => are_pins(function, pins.as_slice()),
-        Instruction::Call(callee, pins) => {
-            (*callee as usize) < parts.functions.as_slice().len()
-                && are_pins(function, pins.as_slice())
-        }
-        Instruction::Constant(..)
-        | Instruction::Arithmetic(..)
-        | Instruction::Simple(_)
-        | Instruction::Jump(..) => true,
-    }
-}
-
-/// Whether a jump that stands at that number leads to one of so many instructions, forwards or back
-/// as it says.
-pub(crate) fn leads_inside(size: usize, at: usize, instruction: &Instruction) -> bool
-    ensures { result ≡ leads_inside size at instruction.now }
-{
-    match instruction {
-        Instruction::Jump(Jump::Always | Jump::IfZero, target) => {
-            at < *target as usize && (*target as usize) < size
-        }
-        Instruction::Jump(Jump::Back, target) => {
-            *target as usize <= at && (*target as usize) < size
-        }
-        _ => true,
-    }
+    (type_number as usize) < parts.types.as_slice().len()
 }
 
 /// Whether nothing behind an instruction is run.
