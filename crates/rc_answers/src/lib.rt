@@ -11,3 +11,4 @@ mod texts;
 pub use answer::{Done, Fault, status_of};
 pub use image_refusal::ImageRefusal;
 pub use telling::tell;
+pub use texts::trap_name;

@@ -53,6 +53,14 @@ fn trap_text(trap: Trap) -> &'static [u8]
     }
 }
 
+/// The name of a trap: what its line says of it behind `trap`.
+pub fn trap_name(trap: Trap) -> &'static [u8]
+    ensures { result.now ≡ trap_name trap }
+{
+    let name = &trap_text(trap)[7..];
+    &name[..name.len() - 1]
+}
+
 fn end_line(end: End) -> Line
     ensures { line_bytes result ≡ end_line end }
 {

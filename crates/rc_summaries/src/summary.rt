@@ -1,9 +1,9 @@
 // The summary of a run.
 ghost use Rattle.std.specs.Prelude.{◌≡◌, ◌++◌, IfOk, OnOk, codes};
-ghost use Rattle.rc_answers.specs.Lines.{trap_name};
 ghost use Rattle.rc_summaries.specs.Summary.{checks_text, end_text, functions_text, size_text, summary_text};
 
-use rc_base::{End, NoMemory, Trap};
+use rc_answers::trap_name;
+use rc_base::{End, NoMemory};
 use rc_text::Text;
 use std::alloc::Global;
 
@@ -20,26 +20,6 @@ pub struct Summary {
     pub removed: u64,
     /// How the run ended.
     pub end: End,
-}
-
-fn trap_name(trap: Trap) -> &'static [u8]
-    ensures { result.now ≡ trap_name trap }
-{
-    match trap {
-        Trap::Null => b"null",
-        Trap::Bounds => b"bounds",
-        Trap::Size => b"size",
-        Trap::Zero => b"zero",
-        Trap::Overflow => b"overflow",
-        Trap::Shift => b"shift",
-        Trap::SameRegion => b"sameregion",
-        Trap::ParentPtr => b"parentptr",
-        Trap::Traditional => b"traditional",
-        Trap::Root => b"root",
-        Trap::Subregion => b"subregion",
-        Trap::Reference => b"reference",
-        Trap::Full => b"full",
-    }
 }
 
 fn append_end(text: &mut Text, end: End) -> Result<(), NoMemory>
