@@ -4,7 +4,7 @@
 -- `Runs` and `Source`, the world and what is done to it; `Flow` and `Live`, which locals are live; `Evaluation` and `Execution`;
 -- `Meaning`. `Points` is a second reading of `Execution`, which ties it to `Flow`; `Laws` is what all runs keep; `Examples` and
 -- `Cases` are programs whose meaning was computed. `Typing`, `Deletes` and `WellTyped` say when a program's parts fit together.
--- `Shapes` leads from the types of the code to these, and `Store` is what heaps will keep.
+-- `Shapes` leads from the types of the code to these, and `Store` is what heaps keep.
 pub mod Types
 pub mod Programs
 pub mod Layout

@@ -1,6 +1,6 @@
--- The store model: what the heaps of compiled programs will keep. Neither the meaning nor a law speaks of it yet. Of the
--- regions that were made only the live ones have a parent and objects; the values of waiting callers are pinned. What names a
--- region from outside is counted, over cells that count alone.
+-- The store model: what the heaps of compiled programs keep. The meaning of a program doesn't speak of it; the contract of a
+-- heap does, and the law that joins machine and meaning. Of the regions that were made only the live ones have a parent and
+-- objects; the values of waiting callers are pinned. What names a region from outside is counted, over cells that count alone.
 use Rattle.std.specs.Prelude.{ℕ, suc, ◌+◌, ◌&&◌, nat_eq, List, [], ◌∷◌, zip, Option, Some, None, count_by, sum_by, if◌then◌else◌}
 use Rattle.rc_core.specs.Types.{CellKind}
 use Rattle.rc_core.specs.Layout.{is_counted}
