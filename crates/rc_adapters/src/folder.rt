@@ -4,10 +4,13 @@ ghost use Rattle.rc_base.specs.declared.outside.ShelfFault.TheVariants.{Absent};
 ghost use Rattle.rc_adapters.specs.Adapters.{IsFrontOf, untold_shelf};
 
 use crate::write_front::write_front;
-use rc_base::{BUFFER_BYTES, Octets, Piece, Shelf, ShelfFault};
+use rc_base::{Octets, Piece, Shelf, ShelfFault};
 use std::alloc::Global;
 use std::io::{ErrorKind, Read};
 use std::rt::Files;
+
+/// How many bytes are asked for at once: a system takes longer over many small reads.
+const READ_BYTES: usize = 65_536;
 
 /// The files of the system, by their paths from the folder that the program runs in. It doesn't tell
 /// what they hold.
@@ -37,7 +40,7 @@ fn read_front<R: Read>(alloc: Global, reader: &mut R, most: usize) -> Result<Pie
     ensures never_absent { IfErr result (λ fault. fault ≢ Absent) }
 {
     let mut bytes = Vec::new(alloc);
-    let mut buffer = [0; BUFFER_BYTES];
+    let mut buffer = [0; READ_BYTES];
     loop {
         let Ok(count) = reader.read(&mut buffer) else {
             return Err(ShelfFault::Failed);
