@@ -37,10 +37,10 @@ fn is_same(before: Option<u32>, line: u32) -> bool
 fn push_run(lines: &mut Vec<u32>, run: Run) -> Result<(), AllocError>
     ensures { OnOk result (lines.new.items ≡ lines.old.items ++ replicate run.count run.line) }
 {
-    for _ in 0..run.count {
-        lines.push(run.line)?;
-    }
-    Ok(())
+    let Some(len) = lines.len().checked_add(run.count) else {
+        return Err(AllocError);
+    };
+    lines.resize(len, run.line)
 }
 
 /// Reads the length and the line of a run, for which `left` lines are left and after which `more`
