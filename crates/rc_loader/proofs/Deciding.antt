@@ -5,8 +5,6 @@ use Rattle.std.specs.List.{AllByRecursion as Every}
 use Rattle.std.proofs.lemmas.Bool.{ltb-true, lt-ltb, leb-true, le-leb, eqb-true, eq-eqb}
 use Rattle.std.proofs.lemmas.List.{length-reverse, length-drop, reverse-append, reverse-reverse, take-append-drop, take-map, drop-map}
 use Rattle.std.proofs.Math.Seq.{take-append_seam, drop-append_seam}
-use Rattle.rc_core.specs.declared.ty.Signedness.{Signedness}
-use Rattle.rc_core.specs.declared.ty.Signedness.TheVariants.{Signed, Unsigned}
 use Rattle.rc_core.specs.Layout.{note_of, is_plain}
 use Rattle.rc_code.specs.declared.kind.Storage.{Storage}
 use Rattle.rc_code.specs.declared.opcode.Jump.{Jump}
@@ -19,14 +17,16 @@ use Rattle.rc_code.specs.declared.instruction.Instruction.{Instruction}
 use Rattle.rc_code.specs.declared.instruction.Instruction.TheVariants as instruction
 use Rattle.rc_code.specs.declared.image.Function.{Function}
 use Rattle.rc_code.specs.declared.image.Parts.{Parts}
-use Rattle.rc_code.specs.Image.{kind_number}
 use Rattle.rc_code.specs.Running.{Reading, reading_of, function_at, path_at, cell_at, layout_of}
-use Rattle.rc_code.specs.Soundness.{Kind, numbers, handles, pointers, kind_of, takes, gives, result_kinds, count_off, instruction_at, kinds_before, increase, IsPin, ArePins, Names, Operands, Empty, ends}
+use Rattle.rc_code.specs.Soundness.{Kind, takes, gives, result_kinds, count_off, instruction_at, kinds_before, increase, IsPin, ArePins, Names, Operands, Empty, ends}
 use Rattle.rc_loader.specs.declared.fault.Rule.{Rule}
 use Rattle.rc_loader.specs.declared.fault.Rule.TheVariants as rule
 use Rattle.rc_loader.specs.Violations.{Leads, GoesOn, IsTarget, HasHeight, rank, KeepsAt}
+use Rattle.rc_loader.specs.Codes.{kind_in}
+use Rattle.rc_loader.specs.declared.operand.Operand.{Operand}
 use Rattle.rc_loader.specs.Decisions.{same_kind, same_kinds, is_pin, are_pins, reached_cell, may_be_marked, names_what_is_there, leads_inside, may_end, leads_to, is_named, empties, left_below, is_empty_enough, are_kinds, checked_kinds, checked_height, checked, Stand, KeepsAll, BreaksHere}
 use Rattle.rc_loader.proofs.Operands.{cell_there}
+use Rattle.rc_loader.proofs.Sames.{kind_same, kind_itself}
 
 -- ---- tests
 
@@ -208,28 +208,6 @@ target_decides f n = (finds f.code n, λ t. named f.code n t.0 t.1 t.2)
 
 -- ---- kinds
 
-sign_same : (s t : Signedness) → (kind_number s == kind_number t) ≡ true → s ≡ t
-sign_same Signed Signed e = refl
-sign_same Unsigned Unsigned e = refl
-sign_same Signed Unsigned e = absurd cc
-sign_same Unsigned Signed e = absurd cc
-
-kind_same : (a b : Kind) → same_kind a b ≡ true → a ≡ b
-kind_same (numbers s) (numbers t) e = ap numbers (sign_same s t e)
-kind_same handles handles e = refl
-kind_same (pointers t) (pointers u) e = ap pointers (eqb-true t u e)
-kind_same (numbers s) handles e = absurd cc
-kind_same (numbers s) (pointers u) e = absurd cc
-kind_same handles (numbers s) e = absurd cc
-kind_same handles (pointers u) e = absurd cc
-kind_same (pointers t) (numbers s) e = absurd cc
-kind_same (pointers t) handles e = absurd cc
-
-kind_itself : (a : Kind) → same_kind a a ≡ true
-kind_itself (numbers s) = eq-eqb (kind_number s) (kind_number s) refl
-kind_itself handles = refl
-kind_itself (pointers t) = eq-eqb t t refl
-
 kinds_same : (ks ls : List Kind) → same_kinds ks ls ≡ true → ks ≡ ls
 kinds_same [] [] e = refl
 kinds_same [] (l ∷ ls) e = absurd cc
@@ -298,19 +276,19 @@ gives_one image f (instruction.Simple row) = by row
     by simple.Pop = refl
 gives_one image f i = refl
 
-module _ (parts : Parts) (f : Function) (n : ℕ) (stack : List Storage) (stand : Stand parts f n stack) where
+module _ (parts : Parts) (f : Function) (n : ℕ) (stack : List Operand) (stand : Stand parts f n stack) where
   as_high : length stack ≡ length (kinds_before (reading_of parts) f n)
-  as_high = sym (as_long kind_of stack) ∙ ap length stand ∙ length-reverse (kinds_before (reading_of parts) f n)
+  as_high = sym (as_long kind_in stack) ∙ ap length stand ∙ length-reverse (kinds_before (reading_of parts) f n)
 
-  top_are : (count : ℕ) → count ≤ length stack → map kind_of (drop (length stack - count) stack) ≡ reverse (take count (kinds_before (reading_of parts) f n))
+  top_are : (count : ℕ) → count ≤ length stack → map kind_in (drop (length stack - count) stack) ≡ reverse (take count (kinds_before (reading_of parts) f n))
   top_are count le =
-      sym (drop-map kind_of (length stack - count) stack) ∙ ap (drop (length stack - count)) stand
+      sym (drop-map kind_in (length stack - count) stack) ∙ ap (drop (length stack - count)) stand
       ∙ ap (λ m. drop (m - count) (reverse (kinds_before (reading_of parts) f n))) as_high
       ∙ last_are (kinds_before (reading_of parts) f n) count (let e = as_high in omega (arith, le, e))
 
-  rest_are : (count : ℕ) → map kind_of (take (length stack - count) stack) ≡ reverse (drop count (kinds_before (reading_of parts) f n))
+  rest_are : (count : ℕ) → map kind_in (take (length stack - count) stack) ≡ reverse (drop count (kinds_before (reading_of parts) f n))
   rest_are count =
-      sym (take-map kind_of (length stack - count) stack) ∙ ap (take (length stack - count)) stand
+      sym (take-map kind_in (length stack - count) stack) ∙ ap (take (length stack - count)) stand
       ∙ ap (λ m. take (m - count) (reverse (kinds_before (reading_of parts) f n))) as_high
       ∙ before_last (kinds_before (reading_of parts) f n) count
 
@@ -352,17 +330,17 @@ module _ (parts : Parts) (f : Function) (n : ℕ) (stack : List Storage) (stand 
   -- ---- kinds
 
   usual : (ts : List Kind) → length ts ≤ length stack
-      → Decides (same_kinds (map kind_of (drop (length stack - length ts) stack)) (reverse ts)) ((lower : List Kind) × (kinds_before (reading_of parts) f n ≡ ts ++ lower))
+      → Decides (same_kinds (map kind_in (drop (length stack - length ts) stack)) (reverse ts)) ((lower : List Kind) × (kinds_before (reading_of parts) f n ≡ ts ++ lower))
   usual ts le = (λ e. (drop (length ts) (kinds_before (reading_of parts) f n), onto e), λ h. from h.0 h.1)
     where
-      onto : same_kinds (map kind_of (drop (length stack - length ts) stack)) (reverse ts) ≡ true → kinds_before (reading_of parts) f n ≡ ts ++ drop (length ts) (kinds_before (reading_of parts) f n)
+      onto : same_kinds (map kind_in (drop (length stack - length ts) stack)) (reverse ts) ≡ true → kinds_before (reading_of parts) f n ≡ ts ++ drop (length ts) (kinds_before (reading_of parts) f n)
       onto e =
           let same = kinds_same _ _ e in
           let turned = sym (top_are (length ts) le) ∙ same in
           let front = sym (reverse-reverse (take (length ts) (kinds_before (reading_of parts) f n))) ∙ ap reverse turned ∙ reverse-reverse ts in
           sym (take-append-drop (length ts) (kinds_before (reading_of parts) f n)) ∙ ap (λ xs. xs ++ drop (length ts) (kinds_before (reading_of parts) f n)) front
 
-      from : (lower : List Kind) → kinds_before (reading_of parts) f n ≡ ts ++ lower → same_kinds (map kind_of (drop (length stack - length ts) stack)) (reverse ts) ≡ true
+      from : (lower : List Kind) → kinds_before (reading_of parts) f n ≡ ts ++ lower → same_kinds (map kind_in (drop (length stack - length ts) stack)) (reverse ts) ≡ true
       from lower is =
           ap (λ xs. same_kinds xs (reverse ts)) (top_are (length ts) le ∙ ap reverse (ap (take (length ts)) is ∙ take-append_seam ts lower)) ∙ kinds_themselves (reverse ts)
 
@@ -468,10 +446,10 @@ module _ (parts : Parts) (f : Function) (n : ℕ) (stack : List Storage) (stand 
     pub named_here : (left : ℕ) → Ok left ≡ checked parts f n (instruction_at f n) target stack → names_what_is_there parts f (instruction_at f n) ≡ true
     named_here left e = (told (Ok left) e).2
 
-    pub stand_next : (left : ℕ) (next : List Storage) → Ok left ≡ checked parts f n (instruction_at f n) target stack
-        → map kind_of next ≡ map kind_of (take left stack) ++ gives (reading_of parts) f (instruction_at f n) → Stand parts f (suc n) next
+    pub stand_next : (left : ℕ) (next : List Operand) → Ok left ≡ checked parts f n (instruction_at f n) target stack
+        → map kind_in next ≡ map kind_in (take left stack) ++ gives (reading_of parts) f (instruction_at f n) → Stand parts f (suc n) next
     stand_next left next e is =
-        is ∙ ap (λ m. map kind_of (take m stack) ++ gives (reading_of parts) f (instruction_at f n)) (told (Ok left) e).1
+        is ∙ ap (λ m. map kind_in (take m stack) ++ gives (reading_of parts) f (instruction_at f n)) (told (Ok left) e).1
         ∙ ap (λ ks. ks ++ gives (reading_of parts) f (instruction_at f n)) (rest_are (count_off (reading_of parts) f (instruction_at f n)))
         ∙ ap (λ ks. reverse (drop (count_off (reading_of parts) f (instruction_at f n)) (kinds_before (reading_of parts) f n)) ++ ks) (sym (gives_one (reading_of parts) f (instruction_at f n)))
         ∙ sym (reverse-append (gives (reading_of parts) f (instruction_at f n)) (drop (count_off (reading_of parts) f (instruction_at f n)) (kinds_before (reading_of parts) f n)))

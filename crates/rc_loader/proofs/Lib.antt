@@ -1,3 +1,5 @@
+pub mod Sames
+pub mod Coded
 pub mod Operands
 pub mod Firsts
 pub mod Marks

@@ -1,13 +1,12 @@
 -- Kinds of operands, as a loader finds them.
-use Rattle.std.proofs.Common.{◌≡◌, ℕ, zero, suc, ◌-◌, ◌≤◌, Bool, true, false, cond, ◌&&◌, List, [], ◌∷◌, ◌++◌, map, length, take, reverse, refl, sym, ap, ◌∙◌, arith}
+use Rattle.std.proofs.Common.{◌≡◌, ℕ, zero, suc, ◌-◌, ◌≤◌, Bool, true, false, cond, ◌&&◌, ◌==◌, List, [], ◌∷◌, ◌++◌, map, length, take, reverse, refl, sym, ap, ◌∙◌, arith}
 use Rattle.std.specs.Prelude.{get_or}
 use Rattle.std.proofs.lemmas.List.{reverse-append, reverse-reverse, length-reverse}
 use Rattle.rc_core.specs.declared.ty.NumberType.TheVariants as number_type
 use Rattle.rc_core.specs.Types.{int_cell}
 use Rattle.rc_code.specs.declared.kind.Cell.TheVariants as cell
-use Rattle.rc_code.specs.declared.kind.Storage.{Storage}
-use Rattle.rc_code.specs.declared.kind.Storage.TheVariants as storage
 use Rattle.rc_code.specs.declared.opcode.Simple.TheVariants as simple
+use Rattle.rc_loader.specs.declared.operand.Operand.{Operand}
 use Rattle.rc_loader.specs.declared.taken.Taken.{Taken}
 use Rattle.rc_loader.specs.declared.taken.Taken.TheVariants as taken
 use Rattle.rc_code.specs.declared.instruction.Instruction.{Instruction}
@@ -18,6 +17,7 @@ use Rattle.rc_code.specs.declared.image.Parts.{Parts}
 use Rattle.rc_code.specs.Image.{cells_at}
 use Rattle.rc_code.specs.Running.{Reading, reading_of, cell_kind, layout_of, cell_at, path_at, storage_by, pointee}
 use Rattle.rc_code.specs.Soundness.{Kind, kind_of, place_kinds, takes, count_off}
+use Rattle.rc_loader.specs.Codes.{kind_in}
 use Rattle.rc_loader.specs.Decisions.{same_kind, same_kinds, reached_cell, storage_in, pushed, is_any, is_pop, count_of, are_taken, are_kinds}
 
 mapped_or : {A B : Type 0} (change : A → B) (xs : List A) (n : ℕ) (d : A) → get_or (map change xs) n (change d) ≡ change (get_or xs n d)
@@ -66,11 +66,11 @@ all_taken (suc n) [] le = refl
 all_taken zero (x ∷ xs) le = absurd (omega (arith, le))
 all_taken (suc n) (x ∷ xs) le = ap (λ ys. x ∷ ys) (all_taken n xs (omega (arith, le)))
 
-pub stored_is : (parts : Parts) (f : Function) (i : Instruction) (p : ℕ) (b : Bool) (path : Path) (value : Storage) → i ≡ instruction.Store p b → path ≡ path_at (reading_of parts) p
-    → value ≡ storage_in (reached_cell parts path) → reverse (place_kinds path ++ kind_of value ∷ []) ≡ takes (reading_of parts) f i
+pub stored_is : (parts : Parts) (f : Function) (i : Instruction) (p : ℕ) (b : Bool) (path : Path) (value : Operand) → i ≡ instruction.Store p b → path ≡ path_at (reading_of parts) p
+    → kind_in value ≡ kind_of (storage_in (reached_cell parts path)) → reverse (place_kinds path ++ kind_in value ∷ []) ≡ takes (reading_of parts) f i
 stored_is parts f i p b path value is at holds =
-    value_last (place_kinds path) (kind_of value)
-    ∙ ap (λ v. kind_of v ∷ reverse (place_kinds path)) holds
+    value_last (place_kinds path) (kind_in value)
+    ∙ ap (λ v. v ∷ reverse (place_kinds path)) holds
     ∙ ap (λ c. kind_of (storage_by pointee c) ∷ reverse (place_kinds path)) (cell_there parts path)
     ∙ ap (λ q. takes_by q) at
     ∙ ap (takes (reading_of parts) f) (sym is)
@@ -93,7 +93,7 @@ count_off_by : (image : Reading) (f : Function) (i : Instruction) → count_off 
 count_off_by image f (instruction.Simple simple.Pop) = refl
 count_off_by image f i = refl
 
-taken_by : (t : Taken) (operands : List Storage) → are_taken t operands ≡ cond (is_any t) true (same_kinds (map kind_of operands) (pushed t))
+taken_by : (t : Taken) (operands : List Operand) → are_taken t operands ≡ cond (is_any t) true (same_kinds (map kind_in operands) (pushed t))
 taken_by taken.Nothing operands = refl
 taken_by (taken.One a) operands = refl
 taken_by (taken.Two a b) operands = refl
@@ -107,29 +107,33 @@ count_is t image f i kinds any =
     count_by t ∙ ap (λ b. cond b 1 (length (pushed t))) any ∙ ap (cond (is_pop i) 1) (sym (length-reverse (pushed t)) ∙ ap length kinds) ∙ sym (count_off_by image f i)
 
 pub kinds_are : (t : Taken) (parts : Parts) (f : Function) (i : Instruction) → reverse (pushed t) ≡ takes (reading_of parts) f i → is_any t ≡ is_pop i
-    → (operands : List Storage) → are_taken t operands ≡ are_kinds parts f i operands
+    → (operands : List Operand) → are_taken t operands ≡ are_kinds parts f i operands
 kinds_are t parts f i kinds any operands =
-    taken_by t operands ∙ ap (λ b. cond b true (same_kinds (map kind_of operands) (pushed t))) any
-    ∙ ap (λ ks. cond (is_pop i) true (same_kinds (map kind_of operands) ks)) (sym (reverse-reverse (pushed t)) ∙ ap reverse kinds)
+    taken_by t operands ∙ ap (λ b. cond b true (same_kinds (map kind_in operands) (pushed t))) any
+    ∙ ap (λ ks. cond (is_pop i) true (same_kinds (map kind_in operands) ks)) (sym (reverse-reverse (pushed t)) ∙ ap reverse kinds)
 
-map-last : (place : List Storage) (last : Storage) → map kind_of (place ++ last ∷ []) ≡ map kind_of place ++ kind_of last ∷ []
+map-last : (place : List Operand) (last : Operand) → map kind_in (place ++ last ∷ []) ≡ map kind_in place ++ kind_in last ∷ []
 map-last [] last = refl
-map-last (s ∷ place) last = ap (λ ks. kind_of s ∷ ks) (map-last place last)
+map-last (o ∷ place) last = ap (λ ks. kind_in o ∷ ks) (map-last place last)
 
-pub stored_kinds : (operands place : List Storage) (last : Storage) (kinds : List Kind) (value : Kind) → operands ≡ place ++ last ∷ []
-    → same_kinds (map kind_of operands) (kinds ++ value ∷ []) ≡ (same_kinds (map kind_of place) kinds && same_kind (kind_of last) value)
+pub stored_kinds : (operands place : List Operand) (last : Operand) (kinds : List Kind) (value : Kind) → operands ≡ place ++ last ∷ []
+    → same_kinds (map kind_in operands) (kinds ++ value ∷ []) ≡ (same_kinds (map kind_in place) kinds && same_kind (kind_in last) value)
 stored_kinds operands place last kinds value is =
-    ap (λ os. same_kinds (map kind_of os) (kinds ++ value ∷ [])) is ∙ ap (λ ks. same_kinds ks (kinds ++ value ∷ [])) (map-last place last) ∙ same_last (map kind_of place) kinds (kind_of last) value
+    ap (λ os. same_kinds (map kind_in os) (kinds ++ value ∷ [])) is ∙ ap (λ ks. same_kinds ks (kinds ++ value ∷ [])) (map-last place last) ∙ same_last (map kind_in place) kinds (kind_in last) value
 
-last_of : (xs : List Storage) (n : ℕ) → length xs ≡ suc n → xs ≡ take n xs ++ get_or xs n (storage.Number number_type.Int) ∷ []
-last_of [] n e = absurd (omega (arith, e))
-last_of (x ∷ []) zero e = refl
-last_of (x ∷ y ∷ xs) zero e = absurd (omega (arith, e))
-last_of (x ∷ xs) (suc n) e = ap (λ ys. x ∷ ys) (last_of xs n (omega (arith, e)))
+last_of : (xs : List Operand) (n : ℕ) (d : Operand) → length xs ≡ suc n → xs ≡ take n xs ++ get_or xs n d ∷ []
+last_of [] n d e = absurd (omega (arith, e))
+last_of (x ∷ []) zero d e = refl
+last_of (x ∷ y ∷ xs) zero d e = absurd (omega (arith, e))
+last_of (x ∷ xs) (suc n) d e = ap (λ ys. x ∷ ys) (last_of xs n d (omega (arith, e)))
 
-pub stored_are : (operands : List Storage) (kinds : List Kind) (value : Kind) (placed valued : Bool) → 1 ≤ length operands
-    → placed ≡ same_kinds (map kind_of (take (length operands - 1) operands)) kinds → valued ≡ same_kind (kind_of (get_or operands (length operands - 1) (storage.Number number_type.Int))) value
-    → (placed && valued) ≡ same_kinds (map kind_of operands) (kinds ++ value ∷ [])
-stored_are operands kinds value placed valued some p v =
-    ap (λ b. b && valued) p ∙ ap (λ b. same_kinds (map kind_of (take (length operands - 1) operands)) kinds && b) v
-    ∙ sym (stored_kinds operands (take (length operands - 1) operands) (get_or operands (length operands - 1) (storage.Number number_type.Int)) kinds value (last_of operands (length operands - 1) (omega (arith, some))))
+pub stored_are : (operands : List Operand) (d : Operand) (kinds : List Kind) (value : Kind) (placed valued : Bool) → 1 ≤ length operands
+    → placed ≡ same_kinds (map kind_in (take (length operands - 1) operands)) kinds → valued ≡ same_kind (kind_in (get_or operands (length operands - 1) d)) value
+    → (placed && valued) ≡ same_kinds (map kind_in operands) (kinds ++ value ∷ [])
+stored_are operands d kinds value placed valued some p v =
+    ap (λ b. b && valued) p ∙ ap (λ b. same_kinds (map kind_in (take (length operands - 1) operands)) kinds && b) v
+    ∙ sym (stored_kinds operands (take (length operands - 1) operands) (get_or operands (length operands - 1) d) kinds value (last_of operands (length operands - 1) d (omega (arith, some))))
+
+pub none_are_none : (operands : List Operand) → (length operands == 0) ≡ same_kinds (map kind_in operands) []
+none_are_none [] = refl
+none_are_none (o ∷ operands) = grind arith

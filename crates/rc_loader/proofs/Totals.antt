@@ -2,7 +2,6 @@
 use Rattle.std.proofs.Common.{◌≡◌, ◌∙◌, ℕ, zero, suc, ◌<◌, ◌≤◌, ◌⊎◌, inl, inr, true, List, [], ◌∷◌, length, map, reverse, get_or, Option, Some, None, Result, Ok, Err, refl, sym, ap, subst, arith}
 use Rattle.std.proofs.Math.Nat.{eq-or-lt_of_le}
 use Rattle.rc_core.specs.declared.ty.NumberType.TheVariants.{Int, Unsigned, Char}
-use Rattle.rc_core.specs.declared.ty.Signedness.TheVariants.{Signed, Unsigned as Wrapping}
 use Rattle.rc_code.specs.declared.kind.Storage.{Storage}
 use Rattle.rc_code.specs.declared.kind.Storage.TheVariants as storage
 use Rattle.rc_code.specs.declared.opcode.Simple.TheVariants as simple
@@ -11,31 +10,25 @@ use Rattle.rc_code.specs.declared.instruction.Instruction.TheVariants as instruc
 use Rattle.rc_code.specs.declared.image.Function.{Function}
 use Rattle.rc_code.specs.declared.image.Parts.{Parts}
 use Rattle.rc_code.specs.Running.{Reading, reading_of, function_at}
-use Rattle.rc_code.specs.Soundness.{Kind, numbers, handles, pointers, kind_of, kinds_before, instruction_at, Names, FunctionIsSound, Sound}
+use Rattle.rc_code.specs.Soundness.{Kind, kinds_before, instruction_at, Names, FunctionIsSound, Sound}
 use Rattle.rc_loader.specs.declared.fault.Rule.{Rule}
 use Rattle.rc_loader.specs.declared.fault.Rule.TheVariants as rule
 use Rattle.rc_loader.specs.declared.fault.Violation.{Violation}
 use Rattle.rc_loader.specs.Violations.{rank, KeepsAt, BreaksFirst, MainIsFine, InFunction, FirstViolation}
+use Rattle.rc_loader.specs.Codes.{code_of, kind_in}
+use Rattle.rc_loader.specs.declared.operand.Operand.{Operand}
 use Rattle.rc_loader.specs.Decisions.{checked, is_named, Stand, KeepsAll, BreaksHere}
+use Rattle.rc_loader.proofs.Coded.{kind_again}
 use Rattle.rc_loader.proofs.Firsts.{code_is_sound}
 use Rattle.rc_loader.proofs.Deciding.{Tells, told}
 
 -- an operand of each kind
-abbrev storage_for : Kind → Storage
-storage_for (numbers Signed) = storage.Number Int
-storage_for (numbers Wrapping) = storage.Number Unsigned
-storage_for handles = storage.Region
-storage_for (pointers t) = storage.Pointer t
+abbrev operand_for : Kind → Operand
+operand_for k = record { code = code_of k }
 
-kind_again : (k : Kind) → kind_of (storage_for k) ≡ k
-kind_again (numbers Signed) = refl
-kind_again (numbers Wrapping) = refl
-kind_again handles = refl
-kind_again (pointers t) = refl
-
-kinds_again : (ks : List Kind) → map kind_of (map storage_for ks) ≡ ks
+kinds_again : (ks : List Kind) → map kind_in (map operand_for ks) ≡ ks
 kinds_again [] = refl
-kinds_again (k ∷ ks) = ap (λ j. j ∷ map kind_of (map storage_for ks)) (kind_again k) ∙ ap (λ ls. k ∷ ls) (kinds_again ks)
+kinds_again (k ∷ ks) = ap (λ j. j ∷ map kind_in (map operand_for ks)) (kind_again k) ∙ ap (λ ls. k ∷ ls) (kinds_again ks)
 
 module _ (parts : Parts) (f : Function) where
   abbrev Broken : Type 0
@@ -43,8 +36,8 @@ module _ (parts : Parts) (f : Function) where
 
   -- ---- at one instruction
 
-  abbrev stack : ℕ → List Storage
-  stack n = map storage_for (reverse (kinds_before (reading_of parts) f n))
+  abbrev stack : ℕ → List Operand
+  stack n = map operand_for (reverse (kinds_before (reading_of parts) f n))
 
   stands : (n : ℕ) → Stand parts f n (stack n)
   stands n = kinds_again (reverse (kinds_before (reading_of parts) f n))

@@ -17,6 +17,8 @@ use Rattle.rc_code.specs.Image.{kind_number, cells_at}
 use Rattle.rc_code.specs.Running.{reading_of, cell_kind, pointee, storage_by, path_at}
 use Rattle.rc_code.specs.Soundness.{Kind, numbers as number_kind, handles, pointers, kind_of, place_kinds, local_in, is_regional, takes, gives, count_off, kinds_before, ends}
 use Rattle.rc_loader.specs.Violations.{rank, KeepsAt}
+use Rattle.rc_loader.specs.Codes.{kind_in}
+use Rattle.rc_loader.specs.declared.operand.Operand.{Operand}
 use Rattle.rc_loader.specs.declared.taken.Taken.{Taken}
 use Rattle.rc_loader.specs.declared.taken.Taken.TheVariants as taken
 use Rattle.rc_loader.specs.declared.demands.Demands.{Demands}
@@ -50,10 +52,10 @@ is_annotated c = not (is_plain (note_of (cell_kind c)))
 -- the kinds of operands that are taken
 abbrev pub pushed : Taken → List Kind
 pushed taken.Nothing = []
-pushed (taken.One a) = kind_of a ∷ []
-pushed (taken.Two a b) = kind_of a ∷ kind_of b ∷ []
+pushed (taken.One a) = kind_in a ∷ []
+pushed (taken.Two a b) = kind_in a ∷ kind_in b ∷ []
 pushed (taken.Place path) = place_kinds path.now
-pushed (taken.Stored path value) = place_kinds path.now ++ kind_of value ∷ []
+pushed (taken.Stored path value) = place_kinds path.now ++ kind_in value ∷ []
 pushed (taken.Arguments parameters) = map kind_of parameters.now
 pushed taken.Anything = []
 
@@ -73,9 +75,9 @@ is_pop i = false
 abbrev pub left_below : (count height : ℕ) → Option ℕ
 left_below count height = if nat_le count height then Some (height - count) else None
 
-abbrev pub are_taken : Taken → List Storage → Bool
+abbrev pub are_taken : Taken → List Operand → Bool
 are_taken taken.Anything operands = true
-are_taken t operands = same_kinds (map kind_of operands) (pushed t)
+are_taken t operands = same_kinds (map kind_in operands) (pushed t)
 
 -- ---- names
 
@@ -142,18 +144,18 @@ is_empty_enough empties target below height = (if empties then below == 0 else t
 -- ---- all of them
 
 -- `POP` takes one of any kind
-abbrev pub are_kinds : Parts → Function → Instruction → List Storage → Bool
-are_kinds parts f i operands = if is_pop i then true else same_kinds (map kind_of operands) (reverse (takes (reading_of parts) f i))
+abbrev pub are_kinds : Parts → Function → Instruction → List Operand → Bool
+are_kinds parts f i operands = if is_pop i then true else same_kinds (map kind_in operands) (reverse (takes (reading_of parts) f i))
 
-abbrev pub checked_kinds : Parts → Function → Instruction → List Storage → (below : ℕ) → Result ℕ Rule
+abbrev pub checked_kinds : Parts → Function → Instruction → List Operand → (below : ℕ) → Result ℕ Rule
 checked_kinds parts f i stack below = if are_kinds parts f i (drop below stack) then Ok below else Err rule.Kind
 
-abbrev pub checked_height : Parts → Function → Instruction → (target : Bool) → List Storage → Option ℕ → Result ℕ Rule
+abbrev pub checked_height : Parts → Function → Instruction → (target : Bool) → List Operand → Option ℕ → Result ℕ Rule
 checked_height parts f i target stack None = Err rule.Height
 checked_height parts f i target stack (Some below) = if is_empty_enough (empties i) target below (length stack) then checked_kinds parts f i stack below else Err rule.Height
 
 -- at an instruction, before which these operands stand: how many of them it leaves, or the rule that is broken
-abbrev pub checked : Parts → Function → (n : ℕ) → Instruction → (target : Bool) → List Storage → Result ℕ Rule
+abbrev pub checked : Parts → Function → (n : ℕ) → Instruction → (target : Bool) → List Operand → Result ℕ Rule
 checked parts f n i target stack =
     if names_what_is_there parts f i then
     (if leads_inside (length f.code) n i && may_end (length f.code) n i then checked_height parts f i target stack (left_below (count_off (reading_of parts) f i) (length stack))
@@ -168,24 +170,24 @@ pub record AreDemands (parts : Parts) (f : Function) (n : ℕ) (i : Instruction)
   pub empties : d.empties ≡ empties i
   pub kinds : reverse (pushed d.taken) ≡ takes (reading_of parts) f i
   pub any : is_any d.taken ≡ is_pop i
-  pub given : map kind_of (option_to_list d.given) ≡ gives (reading_of parts) f i
+  pub given : map kind_in (option_to_list d.given) ≡ gives (reading_of parts) f i
 
-abbrev pub met_kinds : Demands → List Storage → (below : ℕ) → Result ℕ Rule
+abbrev pub met_kinds : Demands → List Operand → (below : ℕ) → Result ℕ Rule
 met_kinds d stack below = if are_taken d.taken (drop below stack) then Ok below else Err rule.Kind
 
-abbrev pub met_height : Demands → (target : Bool) → List Storage → Option ℕ → Result ℕ Rule
+abbrev pub met_height : Demands → (target : Bool) → List Operand → Option ℕ → Result ℕ Rule
 met_height d target stack None = Err rule.Height
 met_height d target stack (Some below) = if is_empty_enough d.empties target below (length stack) then met_kinds d stack below else Err rule.Height
 
 -- whether it `ends` well is whether it isn't the last one, or nothing behind it is run
-abbrev pub met : Demands → (ends target : Bool) → List Storage → Result ℕ Rule
+abbrev pub met : Demands → (ends target : Bool) → List Operand → Result ℕ Rule
 met d ends target stack = if d.leads && ends then met_height d target stack (left_below (count_of d.taken) (length stack)) else Err rule.Target
 
 -- ---- what a loader knows before an instruction
 
 -- these operands stand before it
-abbrev pub Stand : Parts → Function → (n : ℕ) → List Storage → Type 0
-Stand parts f n stack = map kind_of stack ≡ reverse (kinds_before (reading_of parts) f n)
+abbrev pub Stand : Parts → Function → (n : ℕ) → List Operand → Type 0
+Stand parts f n stack = map kind_in stack ≡ reverse (kinds_before (reading_of parts) f n)
 
 abbrev pub KeepsAll : Parts → Function → (n : ℕ) → Type 0
 KeepsAll parts f n = (r : Rule) → KeepsAt (reading_of parts) f n r

@@ -1,3 +1,4 @@
 pub mod Violations
 pub mod Unmarked
+pub mod Codes
 pub mod Decisions

@@ -2,14 +2,16 @@
 ghost use Rattle.std.specs.Prelude.{◌≡◌, suc, ◌<◌, ◌++◌, true, length, map, take, option_to_list, IfOk, OnOk, MatchOption};
 ghost use Rattle.rc_code.specs.Image.{IsNumber};
 ghost use Rattle.rc_code.specs.Running.{reading_of};
-ghost use Rattle.rc_code.specs.Soundness.{kind_of, instruction_at, FunctionIsSound};
+ghost use Rattle.rc_code.specs.Soundness.{instruction_at, FunctionIsSound};
 ghost use Rattle.rc_loader.specs.Violations.{BreaksFirst};
+ghost use Rattle.rc_loader.specs.Codes.{kind_in};
 ghost use Rattle.rc_loader.specs.Decisions.{is_empty_enough, met, is_named, Stand, KeepsAll, BreaksHere};
 
 use crate::demands::{Demands, demands_of};
 use crate::fault::Rule;
 use crate::names::{may_end, targets_of};
-use rc_code::{Function, Instruction, Parts, Storage};
+use crate::operand::Operand;
+use rc_code::{Function, Instruction, Parts};
 use std::alloc::{AllocError, Global};
 
 /// A rule that is broken at an instruction.
@@ -29,7 +31,7 @@ fn is_empty_enough(empties: bool, target: bool, below: usize, height: usize) -> 
 /// Asks whether demands are met where these operands stand before an instruction that doesn't run off the
 /// code's end, or does, and that is a target, or isn't. Answers how many operands are left below those
 /// that it takes.
-fn meet(demands: &Demands<'_>, ends: bool, target: bool, stack: &[Storage]) -> Result<usize, Rule>
+fn meet(demands: &Demands<'_>, ends: bool, target: bool, stack: &[Operand]) -> Result<usize, Rule>
     ensures { result ≡ met demands.now ends target stack.now }
 {
     if !(demands.leads && ends) {
@@ -48,8 +50,8 @@ fn meet(demands: &Demands<'_>, ends: bool, target: bool, stack: &[Storage]) -> R
 }
 
 /// Puts what an instruction gives, if anything, in place of the operands that it takes.
-fn go_on(given: Option<Storage>, below: usize, stack: &mut Vec<Storage>) -> Result<(), AllocError>
-    ensures { OnOk result (map kind_of stack.new.items ≡ map kind_of (take below stack.old.items) ++ map kind_of (option_to_list given)) }
+fn go_on(given: Option<Operand>, below: usize, stack: &mut Vec<Operand>) -> Result<(), AllocError>
+    ensures { OnOk result (map kind_in stack.new.items ≡ map kind_in (take below stack.old.items) ++ map kind_in (option_to_list given)) }
 {
     stack.truncate(below);
     if let Some(given) = given {
@@ -73,7 +75,7 @@ fn step(
     function: &Function,
     at: usize,
     target: bool,
-    stack: &mut Vec<Storage>,
+    stack: &mut Vec<Operand>,
 ) -> Result<Option<Rule>, AllocError>
     requires there { at < length function.now.code }
     requires target { target ≡ is_named function.now.code at }

@@ -5,10 +5,11 @@ ghost use Rattle.rc_code.specs.declared.instruction.Instruction.TheVariants as i
 ghost use Rattle.rc_loader.specs.Decisions.{empties, names_what_is_there, AreDemands};
 
 use crate::names::{are_pins, has_type, may_be_marked};
+use crate::operand::{INT, Operand, REGION};
 use crate::taken::{
-    INT, Taken, callee_of, given_by_arithmetic, given_by_simple, given_by_typed, global_type,
-    local_of, number, parameters_of, path_of, reached_cell, storage_in, taken_by_arithmetic,
-    taken_by_simple, taken_by_typed,
+    Taken, callee_of, given_by_arithmetic, given_by_simple, given_by_typed, global_type, held_by,
+    local_of, parameters_of, path_of, reached_cell, taken_by_arithmetic, taken_by_simple,
+    taken_by_typed,
 };
 use rc_code::{Function, Instruction, Jump, Parts, Simple, Storage};
 
@@ -18,8 +19,8 @@ use rc_code::{Function, Instruction, Jump, Parts, Simple, Storage};
 pub(crate) struct Demands<'p> {
     /// The operands that it takes.
     pub(crate) taken: Taken<'p>,
-    /// A local that would hold the operand that it gives, none where it gives none.
-    pub(crate) given: Option<Storage>,
+    /// The operand that it gives, if any.
+    pub(crate) given: Option<Operand>,
     /// Whether it leaves no operands below those that it takes.
     pub(crate) empties: bool,
     /// Whether it leads to an instruction of its function, forwards or back as it says. All but jumps do.
@@ -27,7 +28,7 @@ pub(crate) struct Demands<'p> {
 }
 
 /// Those of an instruction behind which the next one runs.
-fn going_on<'p>(taken: Taken<'p>, given: Option<Storage>) -> Demands<'p>
+fn going_on<'p>(taken: Taken<'p>, given: Option<Operand>) -> Demands<'p>
     ensures { result ≡ record { taken = taken.entry; given = given; empties = false; leads = true } }
 {
     Demands {
@@ -95,22 +96,25 @@ pub(crate) fn demands_of<'p>(
     ensures { MatchOption result (names_what_is_there parts.now function.now instruction.now ≡ false) (AreDemands parts.now function.now at instruction.now) }
 {
     match instruction {
-        Instruction::Constant(kind, _) => Some(going_on(Taken::Nothing, Some(number(*kind)))),
+        Instruction::Constant(kind, _) => Some(going_on(
+            Taken::Nothing,
+            Some(Operand::number(*kind)),
+        )),
         Instruction::Global(global) => {
-            let pointer = Storage::Pointer(global_type(parts, *global)?);
+            let pointer = Operand::held(Storage::Pointer(global_type(parts, *global)?));
             Some(going_on(Taken::Nothing, Some(pointer)))
         }
         Instruction::Get(local) => {
-            let storage = local_of(function, *local)?;
-            Some(going_on(Taken::Nothing, Some(storage)))
+            let held = Operand::held(local_of(function, *local)?);
+            Some(going_on(Taken::Nothing, Some(held)))
         }
         Instruction::Set(local) => {
-            let storage = local_of(function, *local)?;
-            Some(going_on(Taken::One(storage), None))
+            let held = Operand::held(local_of(function, *local)?);
+            Some(going_on(Taken::One(held), None))
         }
         Instruction::Load(path) => {
             let path = path_of(parts, *path)?;
-            let given = storage_in(reached_cell(parts, path));
+            let given = held_by(reached_cell(parts, path));
             Some(going_on(Taken::Place(path), Some(given)))
         }
         Instruction::Typed(typed, type_number) => {
@@ -128,8 +132,8 @@ pub(crate) fn demands_of<'p>(
             if !has_type(parts, *type_number) {
                 return None;
             }
-            let pointer = Storage::Pointer(*type_number);
-            Some(going_on(Taken::Two(pointer, number(*kind)), Some(pointer)))
+            let pointer = Operand::held(Storage::Pointer(*type_number));
+            Some(going_on(Taken::Two(pointer, Operand::number(*kind)), Some(pointer)))
         }
         Instruction::Store(path, proved) => {
             let path = path_of(parts, *path)?;
@@ -137,21 +141,22 @@ pub(crate) fn demands_of<'p>(
             if !may_be_marked(cell, *proved) {
                 return None;
             }
-            Some(going_on(Taken::Stored(path, storage_in(cell)), None))
+            Some(going_on(Taken::Stored(path, held_by(cell)), None))
         }
         Instruction::Simple(simple) => Some(demands_of_simple(function, *simple)),
         Instruction::Delete(pins) => {
             if !are_pins(function, pins.as_slice()) {
                 return None;
             }
-            Some(going_on(Taken::One(Storage::Region), None))
+            Some(going_on(Taken::One(REGION), None))
         }
         Instruction::Call(callee, pins) => {
             let callee = callee_of(parts, *callee)?;
             if !are_pins(function, pins.as_slice()) {
                 return None;
             }
-            Some(going_on(Taken::Arguments(parameters_of(callee)), callee.result))
+            let given = callee.result.map(Operand::held);
+            Some(going_on(Taken::Arguments(parameters_of(callee)), given))
         }
         Instruction::Jump(jump, target) => Some(demands_of_jump(function, at, *jump, *target)),
     }

@@ -9,6 +9,7 @@ mod fault;
 mod laws;
 mod loading;
 mod names;
+mod operand;
 mod taken;
 
 pub use fault::{LoadFault, Rule, Violation};

@@ -1,6 +1,7 @@
 use Rattle.std.proofs.Common.{◌++◌, map, length, take, sym, ap, ◌∙◌}
 use Rattle.rc_code.specs.Running.{reading_of}
-use Rattle.rc_code.specs.Soundness.{kind_of, gives}
+use Rattle.rc_code.specs.Soundness.{gives}
+use Rattle.rc_loader.specs.Codes.{kind_in}
 use Rattle.rc_loader.specs.declared.fault.Rule.TheVariants.{Number}
 use Rattle.rc_loader.specs.Decisions.{may_end, checked, met}
 use Rattle.rc_loader.proofs.Deciding.{broken_here, kept_here, stand_next}
@@ -24,7 +25,7 @@ returns-in_ok-go_on-in-Ok c =
     let given = c.in-Some.ensures.given ∙ ap (gives (reading_of c.args.parts.now) c.args.function.now) c.instruction_of-instruction.ensures in (
       kept_here c.args.parts.now c.args.function.now c.args.at c.args.stack.now.items c.requires.stand c.requires.there c.args.target c.requires.target c.in-Ok.below answer,
       stand_next c.args.parts.now c.args.function.now c.args.at c.args.stack.now.items c.requires.stand c.requires.there c.args.target c.requires.target c.in-Ok.below c.go_on.new.stack.items
-          answer (c.in_ok-go_on-in-Ok.ensures ∙ ap (λ ks. map kind_of (take c.in-Ok.below c.args.stack.now.items) ++ ks) given),
+          answer (c.in_ok-go_on-in-Ok.ensures ∙ ap (λ ks. map kind_in (take c.in-Ok.below c.args.stack.now.items) ++ ks) given),
     )
 
 pub returns-in_default : goal.returns-in_default

@@ -2,6 +2,7 @@ use Rattle.std.proofs.Common.{map, reverse, option_to_list, refl, sym, ap, ap₂
 use Rattle.rc_code.specs.declared.instruction.Instruction.TheVariants as instruction
 use Rattle.rc_code.specs.Running.{reading_of}
 use Rattle.rc_code.specs.Soundness.{kind_of}
+use Rattle.rc_loader.specs.Codes.{kind_in}
 use Rattle.rc_loader.specs.Decisions.{pushed, is_any, may_be_marked, reached_cell, storage_in, AreDemands}
 use Rattle.rc_loader.proofs.Operands.{stored_is}
 use Rattle.rc_loader.proofs.demands.demands_of.Goals as goal
@@ -15,7 +16,7 @@ returns-else-not-has_type c =
       empties = ap (λ d. d.empties) is;
       kinds = ap (λ d. reverse (pushed d.taken)) is ∙ c.taken_by_typed.ensures.kinds (reading_of c.args.parts.now) c.args.function.now;
       any = ap (λ d. is_any d.taken) is ∙ c.taken_by_typed.ensures.any;
-      given = ap (λ d. map kind_of (option_to_list d.given)) is ∙ c.given_by_typed-given.ensures (reading_of c.args.parts.now) c.args.function.now;
+      given = ap (λ d. map kind_in (option_to_list d.given)) is ∙ c.given_by_typed-given.ensures (reading_of c.args.parts.now) c.args.function.now;
     })
 
 pub returns-else-not-may_be_marked : goal.returns-else-not-may_be_marked
@@ -28,9 +29,9 @@ returns-else-not-may_be_marked c =
       leads = ap (λ d. d.leads) is;
       empties = ap (λ d. d.empties) is;
       kinds = ap (λ d. reverse (pushed d.taken)) is
-          ∙ stored_is c.args.parts.now c.args.function.now (instruction.Store c.in-Store.path c.in-Store.proved) c.in-Store.path c.in-Store.proved c.in_ok-path-in-Store.path.now c.storage_in.result refl path.1 (c.storage_in.ensures ∙ ap storage_in cell);
+          ∙ stored_is c.args.parts.now c.args.function.now (instruction.Store c.in-Store.path c.in-Store.proved) c.in-Store.path c.in-Store.proved c.in_ok-path-in-Store.path.now c.held_by.result refl path.1 (c.held_by.ensures ∙ ap (λ k. kind_of (storage_in k)) cell);
       any = ap (λ d. is_any d.taken) is;
-      given = ap (λ d. map kind_of (option_to_list d.given)) is;
+      given = ap (λ d. map kind_in (option_to_list d.given)) is;
     })
 
 pub returns-in-Simple : goal.returns-in-Simple
