@@ -80,8 +80,37 @@ fn body_is(alloc: Global, body: &str, wanted: Is) -> Result<bool, AllocError> {
     Ok(is_answer(alloc, &tokens, wanted))
 }
 
-/// Whether a function whose body has some words, then these words so many times, then some words,
-/// these so many times, and some more is answered so.
+/// Adds these words so many times.
+fn add_repeated(
+    alloc: Global,
+    tokens: &mut Vec<Token>,
+    text: &str,
+    times: u32,
+) -> Result<(), AllocError> {
+    for _ in 0..times {
+        add_words(alloc, tokens, text, 1)?;
+    }
+    Ok(())
+}
+
+/// Adds a function whose body has some words, then these words so many times, then some words, these so
+/// many times, and some more.
+fn add_function(
+    alloc: Global,
+    tokens: &mut Vec<Token>,
+    parts: &[&str; 5],
+    times: u32,
+) -> Result<(), AllocError> {
+    add_words(alloc, tokens, "int f ( void ) {", 1)?;
+    add_words(alloc, tokens, parts[0], 1)?;
+    add_repeated(alloc, tokens, parts[1], times)?;
+    add_words(alloc, tokens, parts[2], 1)?;
+    add_repeated(alloc, tokens, parts[3], times)?;
+    add_words(alloc, tokens, parts[4], 1)?;
+    add_words(alloc, tokens, "}", 1)
+}
+
+/// Whether such a function is answered so.
 fn repeated_is(
     alloc: Global,
     parts: &[&str; 5],
@@ -89,17 +118,7 @@ fn repeated_is(
     wanted: Is,
 ) -> Result<bool, AllocError> {
     let mut tokens = Vec::new(alloc);
-    add_words(alloc, &mut tokens, "int f ( void ) {", 1)?;
-    add_words(alloc, &mut tokens, parts[0], 1)?;
-    for _ in 0..times {
-        add_words(alloc, &mut tokens, parts[1], 1)?;
-    }
-    add_words(alloc, &mut tokens, parts[2], 1)?;
-    for _ in 0..times {
-        add_words(alloc, &mut tokens, parts[3], 1)?;
-    }
-    add_words(alloc, &mut tokens, parts[4], 1)?;
-    add_words(alloc, &mut tokens, "}", 1)?;
+    add_function(alloc, &mut tokens, parts, times)?;
     Ok(is_answer(alloc, &tokens, wanted))
 }
 
@@ -179,29 +198,47 @@ fn depths(rt: HostRuntime) -> Result<(), Fail> {
 #[test]
 fn lengths(rt: HostRuntime) -> Result<(), Fail> {
     let alloc = rt.alloc();
-    // An expression of 1,023 words, and one of 1,025.
-    assert!(rt; repeated_is(alloc, &["", "a +", "a ;", "", ""], 511, Is::Tree)?);
-    assert!(rt; repeated_is(alloc, &["", "a +", "a ;", "", ""], 512, Is::Deep(1))?);
-    // Arrows in a row, and conditionals each in the middle of the one before.
-    assert!(rt; repeated_is(alloc, &["a", "-> b", ";", "", ""], 511, Is::Tree)?);
-    assert!(rt; repeated_is(alloc, &["", "a ?", "a", ": a", ";"], 255, Is::Tree)?);
-    assert!(rt; repeated_is(alloc, &["", "a ?", "a", ": a", ";"], 500, Is::Deep(1))?);
-    // What one statement has doesn't count in the next.
-    assert!(rt; repeated_is(alloc, &["", "a = a ;", "", "int a ;", ""], 2000, Is::Tree)?);
-    assert!(rt; repeated_is(alloc, &["f ( a", "", "", ", a", ") ;"], 500, Is::Tree)?);
+    for (parts, times, wanted) in [
+        // An expression of 1,023 words, and one of 1,025.
+        (&["", "a +", "a ;", "", ""], 511, Is::Tree),
+        (&["", "a +", "a ;", "", ""], 512, Is::Deep(1)),
+        // Arrows in a row, and conditionals each in the middle of the one before.
+        (&["a", "-> b", ";", "", ""], 511, Is::Tree),
+        (&["", "a ?", "a", ": a", ";"], 255, Is::Tree),
+        (&["", "a ?", "a", ": a", ";"], 500, Is::Deep(1)),
+        // What one statement has doesn't count in the next.
+        (&["", "a = a ;", "", "int a ;", ""], 2000, Is::Tree),
+        (&["f ( a", "", "", ", a", ") ;"], 500, Is::Tree),
+    ] {
+        let part = parts[1];
+        assert!(rt;
+            repeated_is(alloc, parts, times, wanted)?,
+            "{part} {times} times"
+        );
+    }
     Ok(())
+}
+
+/// Adds so many empty statements.
+fn add_semicolons(tokens: &mut Vec<Token>, times: u32) -> Result<(), AllocError> {
+    for _ in 0..times {
+        let word = Word::Mark(Mark::Semicolon);
+        tokens.push(Token { word, line: 2 })?;
+    }
+    Ok(())
+}
+
+/// Whether a block of so many statements is parsed.
+fn block_is_parsed(alloc: Global, statements: u32) -> Result<bool, AllocError> {
+    let mut tokens = Vec::new(alloc);
+    add_words(alloc, &mut tokens, "int f ( void ) {", 1)?;
+    add_semicolons(&mut tokens, statements)?;
+    add_words(alloc, &mut tokens, "}", 3)?;
+    Ok(is_answer(alloc, &tokens, Is::Tree))
 }
 
 #[test]
 fn long_block(rt: HostRuntime) -> Result<(), Fail> {
-    let alloc = rt.alloc();
-    let mut tokens = Vec::new(alloc);
-    add_words(alloc, &mut tokens, "int f ( void ) {", 1)?;
-    for _ in 0..300000 {
-        let word = Word::Mark(Mark::Semicolon);
-        tokens.push(Token { word, line: 2 })?;
-    }
-    add_words(alloc, &mut tokens, "}", 3)?;
-    assert!(rt; is_answer(alloc, &tokens, Is::Tree));
+    assert!(rt; block_is_parsed(rt.alloc(), 300_000)?);
     Ok(())
 }
