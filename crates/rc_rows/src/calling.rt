@@ -3,7 +3,7 @@ use crate::failing::differing_in_turn;
 use crate::row::{Came, Failing, Row};
 use rc_base::{Buffer, Bytes, Drawer, NoMemory};
 use rc_count::CountHeap;
-use rc_driver::{rc_main, status_of};
+use rc_driver::{Done, Fault, rc_main, status_of};
 use rc_row_files::Found;
 use std::alloc::{AllocError, Global};
 use std::io::{self, ErrorKind};
@@ -25,30 +25,90 @@ fn sink(alloc: Global, room: u32, fails: &[u64]) -> io::Result<Buffer> {
     }
 }
 
-/// What stands under a name: nothing, where there is no such file.
-fn bytes_under(alloc: Global, files: &Drawer, name: &str) -> Result<Vec<u8>, AllocError> {
-    match files.file(name) {
-        Some(bytes) => bytes.to_vec(alloc),
-        None => Ok(Vec::new(alloc)),
-    }
+/// The objects over which a call is made.
+#[derive(Drop)]
+struct Outside {
+    files: Drawer,
+    input: Bytes,
+    out: Buffer,
+    err: Buffer,
 }
 
-/// Makes a call with these words, and answers what `rc_main` does, as `{:?}` prints it, and its status.
-fn answered(
+/// The objects of a row, where these calls of the outside fail.
+fn outside_of(alloc: Global, row: &Row, failing: &Failing) -> io::Result<Outside> {
+    let input = Bytes::new(row.input.clone()?, failing.reads.clone()?);
+    let out = sink(alloc, row.room, &failing.writes)?;
+    let err = sink(alloc, ERROR_ROOM, &failing.errors)?;
+    let files = with_one_file(alloc, &row.text, failing.files.clone()?)?;
+    Ok(Outside {
+        files,
+        input,
+        out,
+        err,
+    })
+}
+
+/// What `rc_main` answers to these words, over a new heap.
+fn answer_to(
     alloc: Global,
     words: &[String],
     files: &mut Drawer,
     input: &mut Bytes,
     out: &mut Buffer,
     err: &mut Buffer,
-) -> io::Result<(String, u8)> {
-    let mut heap = match CountHeap::new(alloc) {
-        Ok(heap) => heap,
-        Err(NoMemory) => return Err(io::Error::from(ErrorKind::OutOfMemory)),
+) -> Result<Result<Done, Fault>, NoMemory> {
+    let mut heap = CountHeap::new(alloc)?;
+    Ok(rc_main(alloc, words, files, input, out, err, &mut heap))
+}
+
+/// Makes a call with these words, and keeps what `rc_main` does, as `{:?}` prints it, and its status.
+fn keep_answer(
+    alloc: Global,
+    words: &[String],
+    outside: &mut Outside,
+    came: &mut Came,
+) -> io::Result<()> {
+    let Ok(answer) = answer_to(
+        alloc,
+        words,
+        &mut outside.files,
+        &mut outside.input,
+        &mut outside.out,
+        &mut outside.err,
+    ) else {
+        return Err(io::Error::from(ErrorKind::OutOfMemory));
     };
-    let answer = rc_main(alloc, words, files, input, out, err, &mut heap);
-    let status = status_of(&answer);
-    Ok((format!(in alloc; "{answer:?}")?, status))
+    came.status = status_of(&answer);
+    came.answer = format!(in alloc; "{answer:?}")?;
+    Ok(())
+}
+
+/// Keeps what stands under a name: nothing, where there is no such file.
+fn keep_file(bytes: &mut Vec<u8>, files: &Drawer, name: &str) -> io::Result<()> {
+    match files.file(name) {
+        Some(file) => Ok(bytes.extend_from_slice(file)?),
+        None => Ok(()),
+    }
+}
+
+/// Keeps what a call left.
+fn keep_outside(outside: &Outside, came: &mut Came) -> io::Result<()> {
+    came.out.extend_from_slice(outside.out.taken())?;
+    came.err.extend_from_slice(outside.err.taken())?;
+    keep_file(&mut came.file, &outside.files, "a.c")?;
+    keep_file(&mut came.stored, &outside.files, "b.c")
+}
+
+fn keep(
+    alloc: Global,
+    row: &Row,
+    words: &[String],
+    failing: &Failing,
+    came: &mut Came,
+) -> io::Result<()> {
+    let mut outside = outside_of(alloc, row, failing)?;
+    keep_answer(alloc, words, &mut outside, came)?;
+    keep_outside(&outside, came)
 }
 
 /// Makes the call of a row with these words, where these calls of the outside fail, and answers what it
@@ -59,19 +119,9 @@ pub(crate) fn came(
     words: &[String],
     failing: &Failing,
 ) -> io::Result<Came> {
-    let mut files = with_one_file(alloc, &row.text, failing.files.clone()?)?;
-    let mut input = Bytes::new(row.input.clone()?, failing.reads.clone()?);
-    let mut out = sink(alloc, row.room, &failing.writes)?;
-    let mut err = sink(alloc, ERROR_ROOM, &failing.errors)?;
-    let (answer, status) = answered(alloc, words, &mut files, &mut input, &mut out, &mut err)?;
-    Ok(Came {
-        answer,
-        status,
-        out: out.taken().to_vec(alloc)?,
-        err: err.taken().to_vec(alloc)?,
-        file: bytes_under(alloc, &files, "a.c")?,
-        stored: bytes_under(alloc, &files, "b.c")?,
-    })
+    let mut came = Came::nothing(alloc);
+    keep(alloc, row, words, failing, &mut came)?;
+    Ok(came)
 }
 
 /// Whether two lists have the same bytes.
@@ -163,17 +213,20 @@ fn differing_with(rt: &HostRuntime, asked: Asked<'_>) -> io::Result<Found> {
     }
 }
 
+/// The same with the words that ask for the file with a verb and with the row's options.
+fn differing_by(rt: &HostRuntime, file: &str, row: &Row, verb: &str) -> io::Result<Found> {
+    let words = asking(rt.alloc(), verb, &row.words)?;
+    let words = words.as_slice();
+    differing_with(rt, Asked { file, row, words })
+}
+
 /// Makes the calls of a row.
 pub(crate) fn differing(rt: &HostRuntime, file: &str, row: &Row) -> io::Result<Found> {
     if !row.both {
         let words = row.words.as_slice();
         return differing_with(rt, Asked { file, row, words });
     }
-    let mut found = Found::none();
-    for verb in ["run", "slow"] {
-        let words = asking(rt.alloc(), verb, &row.words)?;
-        let words = words.as_slice();
-        found = found.and(differing_with(rt, Asked { file, row, words })?);
-    }
-    Ok(found)
+    let run = differing_by(rt, file, row, "run")?;
+    let slow = differing_by(rt, file, row, "slow")?;
+    Ok(run.and(slow))
 }

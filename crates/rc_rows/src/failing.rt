@@ -28,18 +28,52 @@ fn line_of(side: Side) -> &'static [u8] {
     }
 }
 
-/// The first bytes, so many as there are.
-fn front(alloc: Global, bytes: &[u8], length: usize) -> Result<Vec<u8>, AllocError> {
-    let mut front = Vec::new(alloc);
+/// Puts the first of some bytes, so many as there are, at the end.
+fn push_front(list: &mut Vec<u8>, bytes: &[u8], length: usize) -> Result<(), AllocError> {
     for byte in bytes.iter().take(length) {
-        front.push(*byte)?;
+        list.push(*byte)?;
     }
-    Ok(front)
+    Ok(())
 }
 
-/// What a row's call must come to, where this call of this side fails. A failing read may come behind any
-/// front of the row's output, so it is as many bytes as came; a failing error stream takes what was to be
-/// told of the row's answer, up to the byte that fails.
+/// How many bytes of the row's output a call takes in which this call of this side fails. A failing read
+/// may come behind any front of the row's output, so it is as many bytes as came.
+fn output_length(row: &Row, side: Side, call: u64, came: usize) -> usize {
+    match side {
+        Side::Files => 0,
+        Side::Input => came,
+        Side::Output => call as usize,
+        Side::Errors => row.wanted.out.len(),
+    }
+}
+
+/// Puts what the error stream takes then. One that fails takes what was to be told of the row's answer,
+/// up to the byte that fails.
+fn push_told(told: &mut Vec<u8>, row: &Row, side: Side, call: u64) -> Result<(), AllocError> {
+    match side {
+        Side::Errors => push_front(told, row.wanted.err.as_slice(), call as usize),
+        _ => Ok(told.extend_from_slice(line_of(side))?),
+    }
+}
+
+/// Keeps what a row's call must come to, where this call of this side fails.
+fn keep_wanted(
+    wanted: &mut Came,
+    row: &Row,
+    side: Side,
+    call: u64,
+    came: usize,
+) -> Result<(), AllocError> {
+    wanted.status = FAULT;
+    wanted.answer.push_str(answer_of(side))?;
+    let length = output_length(row, side, call, came);
+    push_front(&mut wanted.out, row.wanted.out.as_slice(), length)?;
+    push_told(&mut wanted.err, row, side, call)?;
+    Ok(wanted.file.extend_from_slice(&row.text)?)
+}
+
+/// What a row's call must come to, where this call of this side fails, and so many bytes of the output
+/// came.
 fn wanted(
     alloc: Global,
     row: &Row,
@@ -47,24 +81,9 @@ fn wanted(
     call: u64,
     came: usize,
 ) -> Result<Came, AllocError> {
-    let out = match side {
-        Side::Files => 0,
-        Side::Input => came,
-        Side::Output => call as usize,
-        Side::Errors => row.wanted.out.len(),
-    };
-    let err = match side {
-        Side::Errors => front(alloc, row.wanted.err.as_slice(), call as usize)?,
-        _ => line_of(side).to_vec(alloc)?,
-    };
-    Ok(Came {
-        answer: String::from_str(alloc, answer_of(side))?,
-        status: FAULT,
-        out: front(alloc, row.wanted.out.as_slice(), out)?,
-        err,
-        file: row.text.clone()?,
-        stored: Vec::new(alloc),
-    })
+    let mut wanted = Came::nothing(alloc);
+    keep_wanted(&mut wanted, row, side, call, came)?;
+    Ok(wanted)
 }
 
 /// Whether the files are others than those that a fault leaves.

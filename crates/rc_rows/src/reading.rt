@@ -31,16 +31,28 @@ fn words(alloc: Global, list: &str) -> io::Result<Vec<String>> {
     Ok(words)
 }
 
+/// Takes a piece, and puts a line feed after it.
+fn take_line(text: &mut Vec<u8>, value: &str) -> io::Result<()> {
+    push_piece(text, value)?;
+    Ok(text.push(b'\n')?)
+}
+
+fn take_numbers(alloc: Global, list: &mut Vec<u64>, value: &str) -> io::Result<()> {
+    *list = numbers(alloc, value)?;
+    Ok(())
+}
+
+fn take_words(alloc: Global, list: &mut Vec<String>, value: &str) -> io::Result<()> {
+    *list = words(alloc, value)?;
+    Ok(())
+}
+
 /// Takes what a key of bytes gives.
 fn take_piece(row: &mut Row, key: &str, value: &str) -> io::Result<()> {
     match key {
         "text" => push_piece(&mut row.text, value),
         "text*" => push_pieces(&mut row.text, value),
-        "line" => {
-            push_piece(&mut row.text, value)?;
-            row.text.push(b'\n')?;
-            Ok(())
-        }
+        "line" => take_line(&mut row.text, value),
         "input" => push_piece(&mut row.input, value),
         "input*" => push_pieces(&mut row.input, value),
         "out" => push_piece(&mut row.wanted.out, value),
@@ -55,23 +67,41 @@ fn take_piece(row: &mut Row, key: &str, value: &str) -> io::Result<()> {
     }
 }
 
+/// Takes what a key of a number or of a text gives.
+fn take_value(alloc: Global, row: &mut Row, key: &str, value: &str) -> io::Result<()> {
+    match key {
+        "each" => {
+            row.each = Some(calls(alloc, value)?);
+            Ok(())
+        }
+        "room" => {
+            row.room = number(value)?.min(u64::from(u32::MAX)) as u32;
+            Ok(())
+        }
+        "answer" => {
+            row.wanted.answer = String::from_str(alloc, value)?;
+            Ok(())
+        }
+        "status" => {
+            row.wanted.status = number(value)?.min(255) as u8;
+            Ok(())
+        }
+        _ => take_piece(row, key, value),
+    }
+}
+
 /// Takes what a key gives.
 pub(crate) fn take(alloc: Global, row: &mut Row, key: &str, value: &str) -> io::Result<()> {
     match key {
         "words" => {
-            row.words = words(alloc, value)?;
             row.both = false;
+            take_words(alloc, &mut row.words, value)
         }
-        "options" => row.words = words(alloc, value)?,
-        "files" => row.failing.files = numbers(alloc, value)?,
-        "reads" => row.failing.reads = numbers(alloc, value)?,
-        "writes" => row.failing.writes = numbers(alloc, value)?,
-        "errors" => row.failing.errors = numbers(alloc, value)?,
-        "each" => row.each = Some(calls(alloc, value)?),
-        "room" => row.room = number(value)?.min(u64::from(u32::MAX)) as u32,
-        "answer" => row.wanted.answer = String::from_str(alloc, value)?,
-        "status" => row.wanted.status = number(value)?.min(255) as u8,
-        _ => take_piece(row, key, value)?,
+        "options" => take_words(alloc, &mut row.words, value),
+        "files" => take_numbers(alloc, &mut row.failing.files, value),
+        "reads" => take_numbers(alloc, &mut row.failing.reads, value),
+        "writes" => take_numbers(alloc, &mut row.failing.writes, value),
+        "errors" => take_numbers(alloc, &mut row.failing.errors, value),
+        _ => take_value(alloc, row, key, value),
     }
-    Ok(())
 }

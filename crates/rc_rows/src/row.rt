@@ -46,12 +46,11 @@ impl Failing {
     /// This call of this side fails too.
     pub(crate) fn add(&mut self, side: Side, call: u64) -> Result<(), AllocError> {
         match side {
-            Side::Files => self.files.push(call)?,
-            Side::Input => self.reads.push(call)?,
-            Side::Output => self.writes.push(call)?,
-            Side::Errors => self.errors.push(call)?,
+            Side::Files => Ok(self.files.push(call)?),
+            Side::Input => Ok(self.reads.push(call)?),
+            Side::Output => Ok(self.writes.push(call)?),
+            Side::Errors => Ok(self.errors.push(call)?),
         }
-        Ok(())
     }
 }
 
@@ -67,6 +66,20 @@ pub(crate) struct Came {
     pub(crate) file: Vec<u8>,
     /// Under `b.c`; nothing, where there is no such file.
     pub(crate) stored: Vec<u8>,
+}
+
+impl Came {
+    /// Nothing yet.
+    pub(crate) fn nothing(alloc: Global) -> Came {
+        Came {
+            answer: String::new(alloc),
+            status: 0,
+            out: Vec::new(alloc),
+            err: Vec::new(alloc),
+            file: Vec::new(alloc),
+            stored: Vec::new(alloc),
+        }
+    }
 }
 
 #[derive(Drop)]
@@ -104,14 +117,7 @@ impl rc_row_files::Row for Row {
             each: None,
             room: 512,
             changes: false,
-            wanted: Came {
-                answer: String::new(alloc),
-                status: 0,
-                out: Vec::new(alloc),
-                err: Vec::new(alloc),
-                file: Vec::new(alloc),
-                stored: Vec::new(alloc),
-            },
+            wanted: Came::nothing(alloc),
         })
     }
 
