@@ -15,6 +15,16 @@ pub(crate) struct Row {
     pub(crate) written: Vec<u8>,
 }
 
+fn take_bytes(alloc: Global, list: &mut Vec<u8>, value: &str) -> io::Result<()> {
+    *list = bytes(alloc, value)?;
+    Ok(())
+}
+
+fn take_answer(alloc: Global, answer: &mut String, value: &str) -> io::Result<()> {
+    *answer = String::from_str(alloc, value)?;
+    Ok(())
+}
+
 impl rc_row_files::Row for Row {
     fn tried() -> &'static str {
         "changed images"
@@ -32,13 +42,12 @@ impl rc_row_files::Row for Row {
 
     fn take(&mut self, alloc: Global, key: &str, value: &str) -> io::Result<()> {
         match key {
-            "image" => self.image = bytes(alloc, value)?,
-            "written" => self.written = bytes(alloc, value)?,
-            "answer" => self.answer = String::from_str(alloc, value)?,
-            "list" => push_line(&mut self.listing, value)?,
-            _ => return unread(),
+            "image" => take_bytes(alloc, &mut self.image, value),
+            "written" => take_bytes(alloc, &mut self.written, value),
+            "answer" => take_answer(alloc, &mut self.answer, value),
+            "list" => push_line(&mut self.listing, value),
+            _ => unread(),
         }
-        Ok(())
     }
 
     fn compare(&self, rt: &HostRuntime, file: &str) -> io::Result<Found> {
