@@ -1,9 +1,8 @@
 // A table of calls.
 ghost use Rattle.std.specs.Prelude.{◌≡◌, ◌<◌};
 
+use crate::steps::{Step, first_wrong_of_counting, first_wrong_of_plain};
 use rc_base::{Limits, Steps};
-use rc_count::CountHeap;
-use rc_scan::ScanHeap;
 use rc_store::{Cell, Denied, Heap, MakeFault};
 use std::marker::Brand;
 use std::sync::ledger::{Blank, Ledger};
@@ -42,7 +41,7 @@ pub(crate) fn delete<H: Heap>(heap: &mut H, region: u32) -> Option<Result<(), De
 }
 
 /// Pins a live region.
-fn pin<H: Heap>(heap: &mut H, region: u32) -> bool {
+pub(crate) fn pin<H: Heap>(heap: &mut H, region: u32) -> bool {
     if !heap.is_live(region) {
         return false;
     }
@@ -55,49 +54,40 @@ fn pin<H: Heap>(heap: &mut H, region: u32) -> bool {
     }
 }
 
-/// Two regions of three are made, and the fourth is one too many.
-fn makes_two<H: Heap>(heap: &mut H) -> bool {
-    child(heap, 0) == Some(Ok(1))
-        && child(heap, 1) == Some(Ok(2))
-        && child(heap, 2) == Some(Err(MakeFault::Full))
-        && child(heap, 3).is_none()
-}
-
-/// The root, a parent and a pinned region stay; a leaf goes, and its number isn't live again.
-fn deletes_one<H: Heap>(heap: &mut H) -> bool {
-    delete(heap, 0) == Some(Err(Denied::Root))
-        && delete(heap, 1) == Some(Err(Denied::Subregion))
-        && delete(heap, 2) == Some(Ok(()))
-        && delete(heap, 2).is_none()
-        && pin(heap, 1)
-        && delete(heap, 1) == Some(Err(Denied::Reference))
-        && heap.is_live(1)
-        && !heap.is_live(2)
-}
-
 /// Two regions may be made, and no objects.
-fn limits() -> Limits
-    ensures { (result.regions ≡ 2) × (result.blocks ≡ 0) }
-{
-    Limits {
-        turns: 0,
-        regions: 2,
-        blocks: 0,
-    }
-}
+const LIMITS: Limits = Limits {
+    turns: 0,
+    regions: 2,
+    blocks: 0,
+};
+
+/// Two regions of three are made, and the fourth is one too many. The root, a parent and a pinned
+/// region stay; a leaf goes, and its number isn't live again.
+const STEPS: [Step; 12] = [
+    Step::Child(0, Some(Ok(1))),
+    Step::Child(1, Some(Ok(2))),
+    Step::Child(2, Some(Err(MakeFault::Full))),
+    Step::Child(3, None),
+    Step::Delete(0, Some(Err(Denied::Root))),
+    Step::Delete(1, Some(Err(Denied::Subregion))),
+    Step::Delete(2, Some(Ok(()))),
+    Step::Delete(2, None),
+    Step::Pin(1),
+    Step::Delete(1, Some(Err(Denied::Reference))),
+    Step::IsLive(1, true),
+    Step::IsLive(2, false),
+];
 
 #[test]
 fn the_plain_heap_answers_the_table(rt: HostRuntime) -> Result<(), Fail> {
-    let mut heap = ScanHeap::new(rt.alloc())?;
-    heap.limit(&limits());
-    assert!(rt; makes_two(&mut heap) && deletes_one(&mut heap));
+    let wrong = first_wrong_of_plain(rt.alloc(), Some(&LIMITS), &STEPS)?;
+    assert_eq!(rt; wrong, None);
     Ok(())
 }
 
 #[test]
 fn the_heap_that_counts_answers_the_table(rt: HostRuntime) -> Result<(), Fail> {
-    let mut heap = CountHeap::new(rt.alloc())?;
-    heap.limit(&limits());
-    assert!(rt; makes_two(&mut heap) && deletes_one(&mut heap));
+    let wrong = first_wrong_of_counting(rt.alloc(), Some(&LIMITS), &STEPS)?;
+    assert_eq!(rt; wrong, None);
     Ok(())
 }

@@ -11,3 +11,5 @@ mod scripts;
 mod set_scripts;
 #[cfg(test)]
 mod sets;
+#[cfg(test)]
+mod steps;

@@ -5,8 +5,9 @@ ghost use Rattle.rc_core.specs.Laid.{kind_of};
 ghost use Rattle.rc_core.specs.Shapes.{kinds_in};
 ghost use Rattle.rc_core.specs.declared.layouts.Kind.TheVariants.{Region as RegionKind};
 
-use crate::calls::{child, delete};
-use rc_base::{Limits, Steps};
+use crate::calls::delete;
+use crate::steps::{Step, first_wrong_of_counting, first_wrong_of_plain};
+use rc_base::{Limits, NoMemory, Steps};
 use rc_core::layout::{CellKind, Layout};
 use rc_core::ty::Note;
 use rc_count::CountHeap;
@@ -105,41 +106,6 @@ pub(crate) fn delete_pinned<H: Heap>(heap: &mut H, region: u32) -> Option<Result
     answer
 }
 
-/// Where nothing may be made, nothing is.
-fn refuses_all<H: Heap>(heap: &mut H, layout: &Layout) -> bool
-    requires { map kind_of (kinds_in layout.now) ≡ RegionKind ∷ [] }
-{
-    child(heap, 0) == Some(Err(MakeFault::Full))
-        && name(heap, 0, 0, layout) == Some(Err(MakeFault::Full))
-}
-
-/// A reference from another region or a pin refuses a deletion, one from inside doesn't; and it goes
-/// with its region.
-fn counts_from_outside<H: Heap>(heap: &mut H, layout: &Layout) -> bool
-    requires { map kind_of (kinds_in layout.now) ≡ RegionKind ∷ [] }
-{
-    child(heap, 0) == Some(Ok(1))
-        && child(heap, 0) == Some(Ok(2))
-        && name(heap, 1, 2, layout) == Some(Ok(Cell::Region(2)))
-        && name(heap, 1, 1, layout) == Some(Ok(Cell::Region(1)))
-        && name(heap, 1, 1, layout) == Some(Err(MakeFault::Full))
-        && delete(heap, 2) == Some(Err(Denied::Reference))
-        && delete_pinned(heap, 1) == Some(Err(Denied::Reference))
-        && delete(heap, 1) == Some(Ok(()))
-        && delete(heap, 2) == Some(Ok(()))
-}
-
-/// A parent is above its child, and a child isn't above its parent.
-fn knows_parents<H: Heap>(heap: &mut H) -> bool {
-    child(heap, 0) == Some(Ok(1))
-        && child(heap, 1) == Some(Ok(2))
-        && fits(heap, 2, 1, Note::ParentPtr) == Some(true)
-        && fits(heap, 1, 2, Note::ParentPtr) == Some(false)
-        && fits(heap, 2, 1, Note::SameRegion) == Some(false)
-        && fits(heap, 2, 0, Note::Traditional) == Some(true)
-        && fits(heap, 1, 2, Note::Plain) == Some(true)
-}
-
 /// A global of three elements is the first object of region 0.
 fn makes_a_global<H: Heap>(heap: &mut H, layout: &Layout) -> bool
     requires { (H.store heap.old).regions ≡ Some no_view ∷ [] }
@@ -150,77 +116,112 @@ fn makes_a_global<H: Heap>(heap: &mut H, layout: &Layout) -> bool
     }
 }
 
-/// Two regions with two objects each.
-fn limits() -> Limits {
-    Limits {
-        turns: 0,
-        regions: 2,
-        blocks: 2,
-    }
+fn plain_makes_a_global(alloc: Global) -> Result<bool, NoMemory> {
+    let layout = handle(alloc)?;
+    let mut heap = ScanHeap::new(alloc)?;
+    Ok(makes_a_global(&mut heap, &layout))
 }
+
+fn counting_makes_a_global(alloc: Global) -> Result<bool, NoMemory> {
+    let layout = handle(alloc)?;
+    let mut heap = CountHeap::new(alloc)?;
+    Ok(makes_a_global(&mut heap, &layout))
+}
+
+/// Two regions with two objects each.
+const LIMITS: Limits = Limits {
+    turns: 0,
+    regions: 2,
+    blocks: 2,
+};
+
+/// Where nothing may be made, nothing is.
+const REFUSED: [Step; 2] = [
+    Step::Child(0, Some(Err(MakeFault::Full))),
+    Step::Name(0, 0, Some(Err(MakeFault::Full))),
+];
+
+/// A parent is above its child, and a child isn't above its parent.
+const PARENTS: [Step; 7] = [
+    Step::Child(0, Some(Ok(1))),
+    Step::Child(1, Some(Ok(2))),
+    Step::Fits(2, 1, Note::ParentPtr, Some(true)),
+    Step::Fits(1, 2, Note::ParentPtr, Some(false)),
+    Step::Fits(2, 1, Note::SameRegion, Some(false)),
+    Step::Fits(2, 0, Note::Traditional, Some(true)),
+    Step::Fits(1, 2, Note::Plain, Some(true)),
+];
+
+/// A reference from another region or a pin refuses a deletion, one from inside doesn't; and it goes
+/// with its region.
+const REFERENCES: [Step; 9] = [
+    Step::Child(0, Some(Ok(1))),
+    Step::Child(0, Some(Ok(2))),
+    Step::Name(1, 2, Some(Ok(Cell::Region(2)))),
+    Step::Name(1, 1, Some(Ok(Cell::Region(1)))),
+    Step::Name(1, 1, Some(Err(MakeFault::Full))),
+    Step::Delete(2, Some(Err(Denied::Reference))),
+    Step::DeletePinned(1, Some(Err(Denied::Reference))),
+    Step::Delete(1, Some(Ok(()))),
+    Step::Delete(2, Some(Ok(()))),
+];
 
 #[test]
 fn the_plain_heap_refuses_all(rt: HostRuntime) -> Result<(), Fail> {
-    let layout = handle(rt.alloc())?;
-    let mut heap = ScanHeap::new(rt.alloc())?;
-    assert!(rt; refuses_all(&mut heap, &layout));
+    assert_eq!(rt; first_wrong_of_plain(rt.alloc(), None, &REFUSED)?, None);
     Ok(())
 }
 
 #[test]
 fn the_plain_heap_knows_parents(rt: HostRuntime) -> Result<(), Fail> {
-    let mut heap = ScanHeap::new(rt.alloc())?;
-    heap.limit(&limits());
-    assert!(rt; knows_parents(&mut heap));
+    assert_eq!(rt;
+        first_wrong_of_plain(rt.alloc(), Some(&LIMITS), &PARENTS)?,
+        None
+    );
     Ok(())
 }
 
 #[test]
 fn the_plain_heap_makes_a_global(rt: HostRuntime) -> Result<(), Fail> {
-    let layout = handle(rt.alloc())?;
-    let mut heap = ScanHeap::new(rt.alloc())?;
-    assert!(rt; makes_a_global(&mut heap, &layout));
+    assert!(rt; plain_makes_a_global(rt.alloc())?);
     Ok(())
 }
 
 #[test]
 fn the_plain_heap_counts_from_outside(rt: HostRuntime) -> Result<(), Fail> {
-    let layout = handle(rt.alloc())?;
-    let mut heap = ScanHeap::new(rt.alloc())?;
-    heap.limit(&limits());
-    assert!(rt; counts_from_outside(&mut heap, &layout));
+    assert_eq!(rt;
+        first_wrong_of_plain(rt.alloc(), Some(&LIMITS), &REFERENCES)?,
+        None
+    );
     Ok(())
 }
 
 #[test]
 fn the_heap_that_counts_refuses_all(rt: HostRuntime) -> Result<(), Fail> {
-    let layout = handle(rt.alloc())?;
-    let mut heap = CountHeap::new(rt.alloc())?;
-    assert!(rt; refuses_all(&mut heap, &layout));
+    assert_eq!(rt; first_wrong_of_counting(rt.alloc(), None, &REFUSED)?, None);
     Ok(())
 }
 
 #[test]
 fn the_heap_that_counts_knows_parents(rt: HostRuntime) -> Result<(), Fail> {
-    let mut heap = CountHeap::new(rt.alloc())?;
-    heap.limit(&limits());
-    assert!(rt; knows_parents(&mut heap));
+    assert_eq!(rt;
+        first_wrong_of_counting(rt.alloc(), Some(&LIMITS), &PARENTS)?,
+        None
+    );
     Ok(())
 }
 
 #[test]
 fn the_heap_that_counts_makes_a_global(rt: HostRuntime) -> Result<(), Fail> {
-    let layout = handle(rt.alloc())?;
-    let mut heap = CountHeap::new(rt.alloc())?;
-    assert!(rt; makes_a_global(&mut heap, &layout));
+    assert!(rt; counting_makes_a_global(rt.alloc())?);
     Ok(())
 }
 
 #[test]
 fn the_heap_that_counts_counts_from_outside(rt: HostRuntime) -> Result<(), Fail> {
-    let layout = handle(rt.alloc())?;
-    let mut heap = CountHeap::new(rt.alloc())?;
-    heap.limit(&limits());
-    assert!(rt; counts_from_outside(&mut heap, &layout));
+    assert_eq!(rt;
+        first_wrong_of_counting(rt.alloc(), Some(&LIMITS), &REFERENCES)?,
+        None
+    );
     Ok(())
 }

@@ -1,16 +1,9 @@
 // Several regions deleted at once.
-ghost use Rattle.std.specs.Prelude.{◌≡◌, ◌<◌, ◌∷◌, [], map, IsTrue};
-ghost use Rattle.rc_core.specs.Laid.{kind_of};
-ghost use Rattle.rc_core.specs.Shapes.{kinds_in};
-ghost use Rattle.rc_core.specs.declared.layouts.Kind.TheVariants.{Region as RegionKind};
+ghost use Rattle.std.specs.Prelude.{◌≡◌, ◌<◌, IsTrue};
 ghost use Rattle.rc_store.specs.Sets.{IsSet};
 
-use crate::calls::child;
-use crate::references::{handle, name};
+use crate::steps::{Step, first_wrong_of_counting, first_wrong_of_plain};
 use rc_base::{Limits, Steps};
-use rc_core::layout::Layout;
-use rc_count::CountHeap;
-use rc_scan::ScanHeap;
 use rc_store::{Cell, Denied, Heap, SetHeap};
 use std::marker::Brand;
 use std::sync::ledger::{Blank, Ledger};
@@ -72,108 +65,104 @@ pub(crate) fn delete_set_pinned<H: SetHeap>(
     answer
 }
 
+/// Four regions with two objects each.
+const LIMITS: Limits = Limits {
+    turns: 0,
+    regions: 4,
+    blocks: 2,
+};
+
 /// Two regions that name each other go together, and neither goes alone.
-fn deletes_a_ring<H: SetHeap>(heap: &mut H, layout: &Layout) -> bool
-    requires { map kind_of (kinds_in layout.now) ≡ RegionKind ∷ [] }
-{
-    child(heap, 0) == Some(Ok(1))
-        && child(heap, 0) == Some(Ok(2))
-        && name(heap, 1, 2, layout) == Some(Ok(Cell::Region(2)))
-        && name(heap, 2, 1, layout) == Some(Ok(Cell::Region(1)))
-        && delete_set(heap, &[1]) == Some(Err(Denied::Reference))
-        && delete_set(heap, &[1, 1]).is_none()
-        && delete_set(heap, &[1, 2]) == Some(Ok(()))
-        && child(heap, 0) == Some(Ok(3))
-        && delete_set(heap, &[1]).is_none()
-}
+const RING: [Step; 9] = [
+    Step::Child(0, Some(Ok(1))),
+    Step::Child(0, Some(Ok(2))),
+    Step::Name(1, 2, Some(Ok(Cell::Region(2)))),
+    Step::Name(2, 1, Some(Ok(Cell::Region(1)))),
+    Step::DeleteSet(&[1], Some(Err(Denied::Reference))),
+    Step::DeleteSet(&[1, 1], None),
+    Step::DeleteSet(&[1, 2], Some(Ok(()))),
+    Step::Child(0, Some(Ok(3))),
+    Step::DeleteSet(&[1], None),
+];
 
 /// A parent goes with all its children, in any order, and not without one of them.
-fn deletes_a_family<H: SetHeap>(heap: &mut H) -> bool {
-    child(heap, 0) == Some(Ok(1))
-        && child(heap, 1) == Some(Ok(2))
-        && child(heap, 1) == Some(Ok(3))
-        && delete_set(heap, &[1, 2]) == Some(Err(Denied::Subregion))
-        && delete_set(heap, &[2, 0]) == Some(Err(Denied::Root))
-        && delete_set(heap, &[]) == Some(Ok(()))
-        && delete_set(heap, &[3, 1, 2]) == Some(Ok(()))
-        && delete_set(heap, &[3]).is_none()
-        && child(heap, 0) == Some(Ok(4))
-}
+const FAMILY: [Step; 9] = [
+    Step::Child(0, Some(Ok(1))),
+    Step::Child(1, Some(Ok(2))),
+    Step::Child(1, Some(Ok(3))),
+    Step::DeleteSet(&[1, 2], Some(Err(Denied::Subregion))),
+    Step::DeleteSet(&[2, 0], Some(Err(Denied::Root))),
+    Step::DeleteSet(&[], Some(Ok(()))),
+    Step::DeleteSet(&[3, 1, 2], Some(Ok(()))),
+    Step::DeleteSet(&[3], None),
+    Step::Child(0, Some(Ok(4))),
+];
 
 /// A pin of one region keeps all of a set, and so does a reference from beside it, which then stands
 /// as before.
-fn keeps_the_named<H: SetHeap>(heap: &mut H, layout: &Layout) -> bool
-    requires { map kind_of (kinds_in layout.now) ≡ RegionKind ∷ [] }
-{
-    child(heap, 0) == Some(Ok(1))
-        && child(heap, 1) == Some(Ok(2))
-        && name(heap, 0, 2, layout) == Some(Ok(Cell::Region(2)))
-        && name(heap, 1, 2, layout) == Some(Ok(Cell::Region(2)))
-        && delete_set(heap, &[2, 1]) == Some(Err(Denied::Reference))
-        && delete_set(heap, &[1, 2]) == Some(Err(Denied::Reference))
-        && delete_set_pinned(heap, 1, &[1]) == Some(Err(Denied::Subregion))
-        && delete_set_pinned(heap, 2, &[2]) == Some(Err(Denied::Reference))
-        && heap.is_live(1)
-        && heap.is_live(2)
-}
-
-/// Four regions with two objects each.
-fn limits() -> Limits {
-    Limits {
-        turns: 0,
-        regions: 4,
-        blocks: 2,
-    }
-}
+const NAMED: [Step; 10] = [
+    Step::Child(0, Some(Ok(1))),
+    Step::Child(1, Some(Ok(2))),
+    Step::Name(0, 2, Some(Ok(Cell::Region(2)))),
+    Step::Name(1, 2, Some(Ok(Cell::Region(2)))),
+    Step::DeleteSet(&[2, 1], Some(Err(Denied::Reference))),
+    Step::DeleteSet(&[1, 2], Some(Err(Denied::Reference))),
+    Step::DeleteSetPinned(1, &[1], Some(Err(Denied::Subregion))),
+    Step::DeleteSetPinned(2, &[2], Some(Err(Denied::Reference))),
+    Step::IsLive(1, true),
+    Step::IsLive(2, true),
+];
 
 #[test]
 fn a_ring_goes_together(rt: HostRuntime) -> Result<(), Fail> {
-    let layout = handle(rt.alloc())?;
-    let mut heap = CountHeap::new(rt.alloc())?;
-    heap.limit(&limits());
-    assert!(rt; deletes_a_ring(&mut heap, &layout));
+    assert_eq!(rt;
+        first_wrong_of_counting(rt.alloc(), Some(&LIMITS), &RING)?,
+        None
+    );
     Ok(())
 }
 
 #[test]
 fn a_ring_goes_together_on_the_plain_heap(rt: HostRuntime) -> Result<(), Fail> {
-    let layout = handle(rt.alloc())?;
-    let mut heap = ScanHeap::new(rt.alloc())?;
-    heap.limit(&limits());
-    assert!(rt; deletes_a_ring(&mut heap, &layout));
+    assert_eq!(rt;
+        first_wrong_of_plain(rt.alloc(), Some(&LIMITS), &RING)?,
+        None
+    );
     Ok(())
 }
 
 #[test]
 fn a_family_goes_together(rt: HostRuntime) -> Result<(), Fail> {
-    let mut heap = CountHeap::new(rt.alloc())?;
-    heap.limit(&limits());
-    assert!(rt; deletes_a_family(&mut heap));
+    assert_eq!(rt;
+        first_wrong_of_counting(rt.alloc(), Some(&LIMITS), &FAMILY)?,
+        None
+    );
     Ok(())
 }
 
 #[test]
 fn a_family_goes_together_on_the_plain_heap(rt: HostRuntime) -> Result<(), Fail> {
-    let mut heap = ScanHeap::new(rt.alloc())?;
-    heap.limit(&limits());
-    assert!(rt; deletes_a_family(&mut heap));
+    assert_eq!(rt;
+        first_wrong_of_plain(rt.alloc(), Some(&LIMITS), &FAMILY)?,
+        None
+    );
     Ok(())
 }
 
 #[test]
 fn a_named_set_stays(rt: HostRuntime) -> Result<(), Fail> {
-    let layout = handle(rt.alloc())?;
-    let mut heap = CountHeap::new(rt.alloc())?;
-    heap.limit(&limits());
-    assert!(rt; keeps_the_named(&mut heap, &layout));
+    assert_eq!(rt;
+        first_wrong_of_counting(rt.alloc(), Some(&LIMITS), &NAMED)?,
+        None
+    );
     Ok(())
 }
 
 #[test]
 fn a_named_set_stays_on_the_plain_heap(rt: HostRuntime) -> Result<(), Fail> {
-    let layout = handle(rt.alloc())?;
-    let mut heap = ScanHeap::new(rt.alloc())?;
-    heap.limit(&limits());
-    assert!(rt; keeps_the_named(&mut heap, &layout));
+    assert_eq!(rt;
+        first_wrong_of_plain(rt.alloc(), Some(&LIMITS), &NAMED)?,
+        None
+    );
     Ok(())
 }
