@@ -29,6 +29,46 @@ pub(crate) struct Row {
     pub(crate) wanted: Wanted,
 }
 
+fn take_bytes(alloc: Global, list: &mut Vec<u8>, value: &str) -> io::Result<()> {
+    *list = bytes(alloc, value)?;
+    Ok(())
+}
+
+fn take_numbers(alloc: Global, list: &mut Vec<u64>, value: &str) -> io::Result<()> {
+    *list = numbers(alloc, value)?;
+    Ok(())
+}
+
+fn take_number(place: &mut u32, value: &str) -> io::Result<()> {
+    *place = small_number(value)?;
+    Ok(())
+}
+
+fn take_answer(alloc: Global, answer: &mut String, value: &str) -> io::Result<()> {
+    *answer = String::from_str(alloc, value)?;
+    Ok(())
+}
+
+fn take_left(wanted: &mut Wanted, value: &str) -> io::Result<()> {
+    wanted.left = Some(number(value)?);
+    Ok(())
+}
+
+fn take_turns(limits: &mut Limits, value: &str) -> io::Result<()> {
+    limits.turns = number(value)?;
+    Ok(())
+}
+
+/// Takes what a key of the limits gives.
+fn take_limit(limits: &mut Limits, key: &str, value: &str) -> io::Result<()> {
+    match key {
+        "turns" => take_turns(limits, value),
+        "regions" => take_number(&mut limits.regions, value),
+        "blocks" => take_number(&mut limits.blocks, value),
+        _ => unread(),
+    }
+}
+
 impl rc_row_files::Row for Row {
     fn new(alloc: Global, name: &str) -> Result<Row, AllocError> {
         Ok(Row {
@@ -53,20 +93,16 @@ impl rc_row_files::Row for Row {
 
     fn take(&mut self, alloc: Global, key: &str, value: &str) -> io::Result<()> {
         match key {
-            "image" => self.image = bytes(alloc, value)?,
-            "input" => self.input = bytes(alloc, value)?,
-            "turns" => self.limits.turns = number(value)?,
-            "regions" => self.limits.regions = small_number(value)?,
-            "blocks" => self.limits.blocks = small_number(value)?,
-            "room" => self.room = small_number(value)?,
-            "reads" => self.reads = numbers(alloc, value)?,
-            "writes" => self.writes = numbers(alloc, value)?,
-            "out" => self.wanted.out = bytes(alloc, value)?,
-            "left" => self.wanted.left = Some(number(value)?),
-            "answer" => self.wanted.answer = String::from_str(alloc, value)?,
-            _ => return unread(),
+            "image" => take_bytes(alloc, &mut self.image, value),
+            "input" => take_bytes(alloc, &mut self.input, value),
+            "reads" => take_numbers(alloc, &mut self.reads, value),
+            "writes" => take_numbers(alloc, &mut self.writes, value),
+            "room" => take_number(&mut self.room, value),
+            "out" => take_bytes(alloc, &mut self.wanted.out, value),
+            "left" => take_left(&mut self.wanted, value),
+            "answer" => take_answer(alloc, &mut self.wanted.answer, value),
+            _ => take_limit(&mut self.limits, key, value),
         }
-        Ok(())
     }
 
     fn compare(&self, rt: &HostRuntime, file: &str) -> io::Result<Found> {

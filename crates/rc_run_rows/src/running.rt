@@ -3,7 +3,7 @@ ghost use Rattle.std.specs.Prelude.{◌≡◌, ◌<◌};
 ghost use Rattle.rc_store.specs.Stores.{IsNew};
 
 use crate::row::Row;
-use rc_base::{Buffer, Bytes, NoMemory, Source, Steps};
+use rc_base::{Buffer, Bytes, Limits, NoMemory, Source, Steps};
 use rc_code::Loaded;
 use rc_count::CountHeap;
 use rc_image::read;
@@ -52,40 +52,45 @@ fn count_left(input: &mut Bytes, calls: usize) -> u64 {
     left
 }
 
-/// Runs an image over a new heap.
+/// Runs an image over a new heap, and answers what that comes to, as `{:?}` prints it.
 fn run_in<H: Heap, L: Ledger>(
     alloc: Global,
-    row: &Row,
+    limits: &Limits,
     code: &Loaded,
     heap: &mut H,
+    input: &mut Bytes,
+    out: &mut Buffer,
     blank: Blank,
-) -> io::Result<Came>
+) -> io::Result<String>
     requires heap { IsNew (H.store heap.old) }
     requires name { blank.name ≡ L.name }
     requires parts { blank.parts ≡ L.parts }
     requires some { 0 < L.parts }
 {
-    let limits = row.limits;
-    heap.limit(&limits);
-    let mut input = Bytes::new(row.input.clone()?, row.reads.clone()?);
-    let Ok(mut out) = Buffer::new(alloc, row.room, row.writes.clone()?) else {
-        return no_memory();
-    };
+    heap.limit(limits);
     let mut steps = Steps::<L>::start(blank);
-    let answer = run(alloc, code, &limits, heap, &mut input, &mut out, &mut steps);
-    let calls = row.input.len().saturating_add(row.reads.len());
-    Ok(Came {
-        answer: format!(in alloc; "{answer:?}")?,
-        out: out.taken().to_vec(alloc)?,
-        left: count_left(&mut input, calls),
-    })
+    let answer = run(alloc, code, limits, heap, input, out, &mut steps);
+    Ok(format!(in alloc; "{answer:?}")?)
 }
 
 /// Runs an image over a new heap, and counts no steps.
 fn came_in<H: Heap>(alloc: Global, row: &Row, code: &Loaded, heap: &mut H) -> io::Result<Came>
     requires { IsNew (H.store heap.old) }
 {
-    run_in::<H, Brand>(alloc, row, code, heap, Blank::new(1))
+    let mut input = Bytes::new(row.input.clone()?, row.reads.clone()?);
+    let Ok(mut out) = Buffer::new(alloc, row.room, row.writes.clone()?) else {
+        return no_memory();
+    };
+    let blank = Blank::new(1);
+    let limits = row.limits;
+    let answer = run_in::<H, Brand>(alloc, &limits, code, heap, &mut input, &mut out, blank)?;
+    let calls = row.input.len().saturating_add(row.reads.len());
+    let left = count_left(&mut input, calls);
+    Ok(Came {
+        answer,
+        out: out.taken().to_vec(alloc)?,
+        left,
+    })
 }
 
 fn came_in_scan_heap(alloc: Global, row: &Row, code: &Loaded) -> io::Result<Came> {
@@ -120,12 +125,20 @@ fn is_other(rt: &HostRuntime, file: &str, row: &Row, heap: &str, came: &Came) ->
     Ok(true)
 }
 
+fn differs_looking(rt: &HostRuntime, file: &str, row: &Row, code: &Loaded) -> io::Result<bool> {
+    let came = came_in_scan_heap(rt.alloc(), row, code)?;
+    is_other(rt, file, row, "looking", &came)
+}
+
+fn differs_counting(rt: &HostRuntime, file: &str, row: &Row, code: &Loaded) -> io::Result<bool> {
+    let came = came_in_count_heap(rt.alloc(), row, code)?;
+    is_other(rt, file, row, "counting", &came)
+}
+
 /// Whether the run of a row comes to another thing over one of the heaps.
 pub(crate) fn differs(rt: &HostRuntime, file: &str, row: &Row) -> io::Result<bool> {
     let code = loaded(rt.alloc(), row.image.as_slice())?;
-    let scan = came_in_scan_heap(rt.alloc(), row, &code)?;
-    let count = came_in_count_heap(rt.alloc(), row, &code)?;
-    let first = is_other(rt, file, row, "looking", &scan)?;
-    let second = is_other(rt, file, row, "counting", &count)?;
+    let first = differs_looking(rt, file, row, &code)?;
+    let second = differs_counting(rt, file, row, &code)?;
     Ok(first || second)
 }
