@@ -11,14 +11,14 @@ const COPYING: &[u8] =
 
 /// Whether the program ends by its `return`, with two of the five bytes written.
 fn runs_to_its_end(alloc: Global) -> Result<bool, Fail> {
+    let mut input = Bytes::new(b"a b!c".to_vec(alloc)?, Vec::new(alloc));
+    let mut out = Buffer::new(alloc, 9, Vec::new(alloc))?;
     let program = program(alloc, COPYING)?;
     let limits = Limits {
         turns: 9,
         regions: 0,
         blocks: 0,
     };
-    let mut input = Bytes::new(b"a b!c".to_vec(alloc)?, Vec::new(alloc));
-    let mut out = Buffer::new(alloc, 9, Vec::new(alloc))?;
     let end = evaluate(alloc, &program, &limits, &mut input, &mut out);
     Ok(end == Ok(End::Exit(7)) && out.taken() == b"ab".as_slice())
 }
