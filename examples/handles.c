@@ -1,4 +1,4 @@
-#include "regions.h" /* In C: gcc -std=gnu11 -funsigned-char -fwrapv -ftrivial-auto-var-init=zero -o handles handles.c */
+#include "regions.h" /* In C: gcc -std=gnu11 -funsigned-char -fwrapv -fno-builtin -ftrivial-auto-var-init=zero -o handles handles.c */
 
 /* Handles that are kept in objects of another region. Each job has a region of its own, and its entry
    in the table holds the handle. The entry is a reference like any other, so it is cleared before the

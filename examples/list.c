@@ -1,4 +1,4 @@
-#include "regions.h" /* In C: gcc -std=gnu11 -funsigned-char -fwrapv -ftrivial-auto-var-init=zero -o list list.c */
+#include "regions.h" /* In C: gcc -std=gnu11 -funsigned-char -fwrapv -fno-builtin -ftrivial-auto-var-init=zero -o list list.c */
 
 /* The squares of 1 to 9 in a list that lies in one region. */
 struct cell {

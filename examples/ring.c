@@ -1,4 +1,4 @@
-#include "regions.h" /* In C: gcc -std=gnu11 -funsigned-char -fwrapv -ftrivial-auto-var-init=zero -o ring ring.c */
+#include "regions.h" /* In C: gcc -std=gnu11 -funsigned-char -fwrapv -fno-builtin -ftrivial-auto-var-init=zero -o ring ring.c */
 
 /* Two regions that name each other. The first can be deleted once the pointer into it is gone, and
    its own pointers go with it. */

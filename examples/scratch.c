@@ -1,4 +1,4 @@
-#include "regions.h" /* In C: gcc -std=gnu11 -funsigned-char -fwrapv -ftrivial-auto-var-init=zero -o scratch scratch.c */
+#include "regions.h" /* In C: gcc -std=gnu11 -funsigned-char -fwrapv -fno-builtin -ftrivial-auto-var-init=zero -o scratch scratch.c */
 
 /* A region for each round, with all that the round needs. Returns how many of the first hundred sums
    0, 0 + 1, 0 + 1 + 2, .. are divisible by 33, which are 13. */

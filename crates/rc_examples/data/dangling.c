@@ -1,4 +1,4 @@
-#include "regions.h" /* In C: gcc -std=gnu11 -funsigned-char -fwrapv -ftrivial-auto-var-init=zero -o dangling dangling.c */
+#include "regions.h" /* In C: gcc -std=gnu11 -funsigned-char -fwrapv -fno-builtin -ftrivial-auto-var-init=zero -o dangling dangling.c */
 
 /* A trap: the region is still named by a local that is read later. */
 int main(void) deletes {

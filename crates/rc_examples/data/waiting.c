@@ -1,4 +1,4 @@
-#include "regions.h" /* In C: gcc -std=gnu11 -funsigned-char -fwrapv -ftrivial-auto-var-init=zero -o waiting waiting.c */
+#include "regions.h" /* In C: gcc -std=gnu11 -funsigned-char -fwrapv -fno-builtin -ftrivial-auto-var-init=zero -o waiting waiting.c */
 
 /* A deletion inside a called function. The caller waits, and what it still uses counts: `first` is read
    after the call, so it must not lead into the region. Here it leads into another. */
