@@ -1,0 +1,162 @@
+"""What is told of each line of rc, with what the program's text shows of it."""
+import os
+
+from explaining.hints import ENDS, IMAGE_REFUSALS, REFUSALS, TRAPS
+from explaining.images import image_of
+from explaining.messages import noted
+from explaining.programs import Program
+from explaining.references import References
+from explaining.refusals import DETAILS, habits
+from explaining.running import Scratch
+from explaining.texts import data_of
+
+# What each command works on, which stands first behind it, and all its words.
+OPTIONS = "[--turns N] [--regions N] [--blocks N]"
+COMMANDS = {
+    "run": ("text", f"FILE {OPTIONS}"),
+    "slow": ("text", f"FILE {OPTIONS}"),
+    "compile": ("text", "FILE IMAGE"),
+    "checks": ("text", "FILE"),
+    "exec": ("image", f"IMAGE {OPTIONS}"),
+    "list": ("image", "IMAGE"),
+    "upgrade": ("image", "IMAGE IMAGE"),
+    "heap": ("script", "FILE [--regions N] [--blocks N]"),
+    "soak": ("number", "N"),
+}
+MOST_IMAGE_BYTES = 268435456
+# The limits of a run without options.
+LIMITS = {"--turns": 100000000, "--regions": 4294967295, "--blocks": 4294967295}
+
+
+def why_unreadable(name):
+    """Says why a file can't be read, or returns None where it can."""
+    if os.path.isdir(name):
+        return f"{name} is a folder"
+    try:
+        os.close(os.open(name, os.O_RDONLY | os.O_NONBLOCK))
+        return None
+    except OSError as why:
+        return f"{name}: {why.strerror}"
+
+
+def why_not_stored(name):
+    """Says why a file can't be stored, as far as that can be seen without trying."""
+    folder = os.path.dirname(name) or "."
+    if os.path.isdir(name):
+        return f"{name} is a folder"
+    if not os.path.isdir(folder):
+        return f"{name}: there is no folder {folder}"
+    if not os.access(name if os.path.exists(name) else folder, os.W_OK):
+        return f"{name} can't be written there"
+    return f"{name} couldn't be stored: is the disk full?"
+
+
+class Teller:
+    """Tells what rc said of a command."""
+
+    def __init__(self, rc, words, text):
+        self.rc, self.words, self.text = rc, words, text
+        self.name = words[1] if len(words) > 1 else "rc"
+        self.subject = COMMANDS[words[0]][0]
+
+    def place(self, line):
+        return f"{self.name}:{line}" if self.subject == "text" else f"{self.name}: line {line} of its text"
+
+    def told(self, message):
+        """Returns the lines that tell a message."""
+        if message.name == "usage":
+            return self.usage()
+        lines = [f"{self.name if message.line is None else self.place(message.line)}: {self.head(message)}"]
+        if message.line is not None and self.text:
+            lines += self.text.shown(message.line)
+        return lines + list(self.causes(message))
+
+    def head(self, message):
+        place = ""
+        if message.offset is not None:
+            place = f" at byte {message.offset}"
+        elif message.function is not None:
+            place = f" in function {message.function} at instruction {message.instruction}"
+        return f"{message.what}: {message.name}{place}" if message.what else message.name
+
+    def usage(self):
+        options = COMMANDS[self.words[0]][1]
+        lines = [f"usage: rc {self.words[0]} {options}"]
+        if "[" in options:
+            lines.append(noted("options stand behind the file, in this order, each at most once"))
+            lines.append(noted("N is 0, or decimal digits without a leading 0"))
+        return lines
+
+    def causes(self, message):
+        """Returns the lines that stand below: what it means, what the line shows of it, and what to do."""
+        if message.what == "trap":
+            return self.of_trap(message)
+        if message.what == "refused":
+            return map(noted, self.of_refusal(message))
+        return map(noted, self.of_end(message))
+
+    def of_trap(self, message):
+        yield noted(TRAPS[message.name])
+        if message.name == "full":
+            regions, blocks = self.limit("--regions"), self.limit("--blocks")
+            yield noted(f"the limits were {regions} regions in the run, and {blocks} objects in each of them")
+            yield noted("raise --regions or --blocks, or delete regions that are not needed")
+        if message.name == "reference":
+            yield from self.references(message.line)
+
+    def references(self, line):
+        program = self.program()
+        if program is None:
+            yield noted("what it is can't be told, since the text can't be read again")
+            return
+        yield from References(program, self.text, self.place).told(line)
+        if self.text is None:
+            yield noted("an image has no names: its text, run by rc run, is told with them")
+
+    def program(self):
+        """Returns the program that ran, by the text as it was before, or by the image."""
+        try:
+            if self.subject == "image":
+                return Program(image_of(data_of(self.name, MOST_IMAGE_BYTES) or b""))
+            with Scratch(self.rc) as scratch:
+                image = scratch.image(self.text.data) if self.text else None
+        except (OSError, IndexError):
+            return None
+        return Program(image, self.text) if image else None
+
+    def of_refusal(self, message):
+        if message.number in IMAGE_REFUSALS:
+            yield from self.of_image_refusal(message)
+            return
+        yield REFUSALS[message.number][1]
+        if self.text and message.line is not None:
+            yield from DETAILS.get(message.number, lambda text, line: [])(self.text, message.line)
+            yield from habits(message.number, self.text.words_on(message.line))
+
+    def of_image_refusal(self, message):
+        yield IMAGE_REFUSALS[message.number][1]
+        program = self.program() if message.function is not None else None
+        if program and message.instruction < len(program.code(message.function)):
+            it = program.code(message.function)[message.instruction]
+            numbers = it.operands + ([len(it.pins)] + it.pins if it.name in ("DELETE", "CALL") else [])
+            yield f"it is {' '.join([it.name, *map(str, numbers)])}, made of line {it.line} of its text"
+
+    def of_end(self, message):
+        yield ENDS[message.name]
+        if message.name == "spent":
+            yield f"it had {self.limit('--turns')}"
+        if message.name == "file fault":
+            yield from self.faults()
+
+    def faults(self):
+        """Says which file it may be that failed, and why."""
+        why = why_unreadable(self.name)
+        if why:
+            yield why
+        elif len(self.words) == 3:
+            yield why_not_stored(self.words[2])
+
+    def limit(self, option):
+        """Returns a limit of the run, as its words gave it or else as it is."""
+        given = dict(zip(self.words[2::2], self.words[3::2]))
+        return f"{int(given.get(option, LIMITS[option])):,}"
