@@ -2,10 +2,10 @@
 use Rattle.std.specs.Prelude.{◌≡◌, [], Result, Ok, Err}
 use Rattle.rc_answers.specs.Lines.{done_line}
 use Rattle.rc_answers.specs.declared.answer.Done.{Done}
-use Rattle.rc_answers.specs.declared.answer.Done.TheVariants.{Ended, StaleImage, Refused, ImageRefused, Wrote, Reported, Usage}
+use Rattle.rc_answers.specs.declared.answer.Done.TheVariants.{Ended, StaleImage, Refused, ImageRefused, UnitRefused, LinkRefused, Wrote, Reported, Usage}
 use Rattle.rc_answers.specs.declared.answer.Fault.{Fault}
 use Rattle.rc_answers.specs.declared.image_refusal.ImageRefusal.{ImageRefusal}
-use Rattle.rc_answers.specs.declared.image_refusal.ImageRefusal.TheVariants.{Magic, Version, Short, Extra, Field}
+use Rattle.rc_answers.specs.declared.image_refusal.ImageRefusal.TheVariants.{Magic, Version, Short, Extra, Field, Target, Height, Kind, Number}
 use Rattle.rc_answers.specs.declared.answer.Fault.TheVariants.{FileFault, ReadFault, WriteFault, Memory}
 
 -- bytes are refused as an image before anything is asked of its code
@@ -16,6 +16,14 @@ IsOfBytes Short = Unit {0}
 IsOfBytes Extra = Unit {0}
 IsOfBytes (Field offset) = Unit {0}
 IsOfBytes _ = ⊥
+
+-- an image is refused for a rule of its code
+abbrev pub IsOfCode : ImageRefusal → Type 0
+IsOfCode (Target function instruction) = Unit {0}
+IsOfCode (Height function instruction) = Unit {0}
+IsOfCode (Kind function instruction) = Unit {0}
+IsOfCode (Number function instruction) = Unit {0}
+IsOfCode _ = ⊥
 
 -- the answers behind which the output was flushed
 abbrev pub WritesOut : Done → Type 0
@@ -30,18 +38,34 @@ IsRun (Ended end) = Unit {0}
 IsRun (StaleImage line) = Unit {0}
 IsRun _ = ⊥
 
--- the answers that touch neither input nor output
+-- what was asked for is refused
+abbrev pub IsRefusal : Done → Type 0
+IsRefusal (Ended end) = ⊥
+IsRefusal (StaleImage line) = ⊥
+IsRefusal (Refused refusal) = Unit {0}
+IsRefusal (ImageRefused refusal) = Unit {0}
+IsRefusal (UnitRefused file refusal) = Unit {0}
+IsRefusal (LinkRefused refusal) = Unit {0}
+IsRefusal Wrote = ⊥
+IsRefusal Reported = ⊥
+IsRefusal Usage = ⊥
+
+-- the answers that touch neither input nor output, nor the heap
 abbrev pub IsQuiet : Done → Type 0
+IsQuiet (Ended end) = ⊥
+IsQuiet (StaleImage line) = ⊥
 IsQuiet (Refused refusal) = Unit {0}
 IsQuiet (ImageRefused refusal) = Unit {0}
+IsQuiet (UnitRefused file refusal) = Unit {0}
+IsQuiet (LinkRefused refusal) = Unit {0}
 IsQuiet Wrote = Unit {0}
+IsQuiet Reported = ⊥
 IsQuiet Usage = Unit {0}
-IsQuiet _ = ⊥
 
 abbrev pub HasLine : Done → Type 0
 HasLine done = ¬ (done_line done ≡ [])
 
--- the answers behind which a name may hold other bytes
+-- the answers behind which a name may hold other bytes: for want of memory a shelf may fail in the middle of storing them
 abbrev pub MayStore : Result Done Fault → Type 0
 MayStore (Ok Wrote) = Unit {0}
 MayStore (Err FileFault) = Unit {0}

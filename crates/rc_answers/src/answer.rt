@@ -2,7 +2,7 @@
 ghost use Rattle.std.specs.Prelude.{◌≡◌};
 ghost use Rattle.rc_answers.specs.Status.{status};
 
-use crate::ImageRefusal;
+use crate::{ImageRefusal, LinkRefusal};
 use rc_base::End;
 use rc_compile::Refusal;
 use thiserror::Error;
@@ -18,6 +18,10 @@ pub enum Done {
     Refused(Refusal),
     /// The image is refused.
     ImageRefused(ImageRefusal),
+    /// A file of several, counted from 1, is refused by itself.
+    UnitRefused(u32, Refusal),
+    /// Files are not linked.
+    LinkRefused(LinkRefusal),
     /// An image was stored.
     Wrote,
     /// A report, a listing or a summary was written.
@@ -54,7 +58,9 @@ pub fn status_of(answer: &Result<Done, Fault>) -> u8
         Ok(Done::Ended(End::Exit(value))) => value.rem_euclid(256) as u8,
         Ok(Done::Ended(End::Trapped(..))) => 120,
         Ok(Done::Ended(End::Spent)) => 121,
-        Ok(Done::Refused(_) | Done::ImageRefused(_)) => 122,
+        Ok(
+            Done::Refused(_) | Done::ImageRefused(_) | Done::UnitRefused(..) | Done::LinkRefused(_),
+        ) => 122,
         Ok(Done::Usage) => 123,
         Err(Fault::FileFault | Fault::ReadFault | Fault::WriteFault | Fault::ErrFault) => 124,
         Err(Fault::Memory) => 125,

@@ -32,4 +32,13 @@ pub enum ImageRefusal {
     /// An operand names what is not there, or `main` has a wrong shape.
     #[error("25 number in {0} at {1}")]
     Number(u32, u32),
+    /// The proofs that the image carries don't prove an instruction.
+    #[error("29 facts in {0} at {1}")]
+    Facts(u32, u32),
+    /// A call or a deletion doesn't pin what is used behind it.
+    #[error("30 pins in {0} at {1}")]
+    Pins(u32, u32),
+    /// A function has too many variables for proofs.
+    #[error("31 wide in {0}")]
+    Wide(u32),
 }

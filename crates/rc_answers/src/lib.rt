@@ -4,11 +4,13 @@
 mod answer;
 mod image_refusal;
 mod line;
+mod link_refusal;
 mod numbered;
 mod telling;
 mod texts;
 
 pub use answer::{Done, Fault, status_of};
 pub use image_refusal::ImageRefusal;
+pub use link_refusal::LinkRefusal;
 pub use telling::tell;
 pub use texts::trap_name;

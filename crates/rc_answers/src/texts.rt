@@ -2,11 +2,11 @@
 ghost use Rattle.std.specs.Prelude.{◌≡◌, ◌≢◌, ◌++◌, [], codes};
 ghost use Rattle.std.specs.Fmt.{decimal};
 ghost use Rattle.rc_answers.specs.LineBytes.{line_bytes};
-ghost use Rattle.rc_answers.specs.Lines.{answer_line, done_line, end_line, fault_line, image_refusal_line, on_line, refusal_line, trap_name};
+ghost use Rattle.rc_answers.specs.Lines.{answer_line, done_line, end_line, fault_line, image_refusal_line, in_file, in_file_on, link_refusal_line, on_line, refusal_line, refused_by, refused_on, trap_name, unit_refusal_line};
 
 use crate::line::Line;
 use crate::numbered::Numbered;
-use crate::{Done, Fault, ImageRefusal};
+use crate::{Done, Fault, ImageRefusal, LinkRefusal};
 use rc_base::{End, Trap};
 use rc_compile::Refusal;
 
@@ -71,26 +71,120 @@ fn end_line(end: End) -> Line
     }
 }
 
+/// The line of a refusal that is of no place in the text.
+fn refused(refusal: Refusal) -> &'static [u8]
+    ensures { result.now ≡ codes "rc" ++ refused_by refusal }
+{
+    match refusal {
+        Refusal::TooLong => b"rc: refused 1 too-long\n",
+        Refusal::Byte(_) => b"rc: refused 2 byte\n",
+        Refusal::Token(_) => b"rc: refused 3 token\n",
+        Refusal::Syntax(_) => b"rc: refused 4 syntax\n",
+        Refusal::Deep(_) => b"rc: refused 5 deep\n",
+        Refusal::Unknown(_) => b"rc: refused 6 unknown\n",
+        Refusal::Twice(_) => b"rc: refused 7 twice\n",
+        Refusal::Mistyped(_) => b"rc: refused 8 type\n",
+        Refusal::Arity(_) => b"rc: refused 9 arity\n",
+        Refusal::AnnotationPlace(_) => b"rc: refused 10 annotation-place\n",
+        Refusal::NotDeletes(_) => b"rc: refused 11 not-deletes\n",
+        Refusal::DeletesPlace(_) => b"rc: refused 12 deletes-place\n",
+        Refusal::Main(_) => b"rc: refused 13 main\n",
+        Refusal::TooBig(_) => b"rc: refused 14 too-big\n",
+        Refusal::Variables(_) => b"rc: refused 15 variables\n",
+        Refusal::Points => b"rc: refused 16 points\n",
+    }
+}
+
+/// What it says behind the place.
+fn refused_by(refusal: Refusal) -> &'static [u8]
+    ensures { result.now ≡ refused_by refusal }
+{
+    &refused(refusal)[2..]
+}
+
+/// The line of the text that a refusal names.
+fn refused_on(refusal: Refusal) -> Option<u32>
+    ensures { result ≡ refused_on refusal }
+{
+    match refusal {
+        Refusal::Byte(line)
+        | Refusal::Token(line)
+        | Refusal::Syntax(line)
+        | Refusal::Deep(line)
+        | Refusal::Unknown(line)
+        | Refusal::Twice(line)
+        | Refusal::Mistyped(line)
+        | Refusal::Arity(line)
+        | Refusal::AnnotationPlace(line)
+        | Refusal::NotDeletes(line)
+        | Refusal::DeletesPlace(line)
+        | Refusal::Main(line)
+        | Refusal::TooBig(line)
+        | Refusal::Variables(line) => Some(line),
+        Refusal::TooLong | Refusal::Points => None,
+    }
+}
+
 fn refusal_line(refusal: Refusal) -> Line
     ensures { line_bytes result ≡ refusal_line refusal }
 {
+    match refused_on(refusal) {
+        Some(line) => on_line(line, refused_by(refusal)),
+        None => text(refused(refusal)),
+    }
+}
+
+/// A line of a text in one of several files.
+fn in_file_on(file: u32, line: u32, text: &'static [u8]) -> Line
+    ensures { line_bytes result ≡ in_file_on file line text.entry.now }
+{
+    Line {
+        text: b"rc: file ",
+        first: Some(Numbered {
+            number: u64::from(file),
+            text: b": line ",
+        }),
+        second: Some(Numbered {
+            number: u64::from(line),
+            text,
+        }),
+    }
+}
+
+/// One of several files.
+fn in_file(file: u32, text: &'static [u8]) -> Line
+    ensures { line_bytes result ≡ in_file file text.entry.now }
+{
+    Line {
+        text: b"rc: file ",
+        first: Some(Numbered {
+            number: u64::from(file),
+            text,
+        }),
+        second: None,
+    }
+}
+
+fn unit_refusal_line(file: u32, refusal: Refusal) -> Line
+    ensures { line_bytes result ≡ unit_refusal_line file refusal }
+{
+    match refused_on(refusal) {
+        Some(line) => in_file_on(file, line, refused_by(refusal)),
+        None => in_file(file, refused_by(refusal)),
+    }
+}
+
+fn link_refusal_line(refusal: LinkRefusal) -> Line
+    ensures { line_bytes result ≡ link_refusal_line refusal }
+{
     match refusal {
-        Refusal::TooLong => text(b"rc: refused 1 too-long\n"),
-        Refusal::Byte(line) => on_line(line, b": refused 2 byte\n"),
-        Refusal::Token(line) => on_line(line, b": refused 3 token\n"),
-        Refusal::Syntax(line) => on_line(line, b": refused 4 syntax\n"),
-        Refusal::Deep(line) => on_line(line, b": refused 5 deep\n"),
-        Refusal::Unknown(line) => on_line(line, b": refused 6 unknown\n"),
-        Refusal::Twice(line) => on_line(line, b": refused 7 twice\n"),
-        Refusal::Mistyped(line) => on_line(line, b": refused 8 type\n"),
-        Refusal::Arity(line) => on_line(line, b": refused 9 arity\n"),
-        Refusal::AnnotationPlace(line) => on_line(line, b": refused 10 annotation-place\n"),
-        Refusal::NotDeletes(line) => on_line(line, b": refused 11 not-deletes\n"),
-        Refusal::DeletesPlace(line) => on_line(line, b": refused 12 deletes-place\n"),
-        Refusal::Main(line) => on_line(line, b": refused 13 main\n"),
-        Refusal::TooBig(line) => on_line(line, b": refused 14 too-big\n"),
-        Refusal::Variables(line) => on_line(line, b": refused 15 variables\n"),
-        Refusal::Points => text(b"rc: refused 16 points\n"),
+        LinkRefusal::Disagree(file, line) => {
+            in_file_on(file, line, b": link refused 32 disagree\n")
+        }
+        LinkRefusal::Double(file, line) => in_file_on(file, line, b": link refused 33 double\n"),
+        LinkRefusal::Missing(file, line) => in_file_on(file, line, b": link refused 34 missing\n"),
+        LinkRefusal::Entry => text(b"rc: link refused 35 entry\n"),
+        LinkRefusal::Large => text(b"rc: link refused 36 large\n"),
     }
 }
 
@@ -140,6 +234,20 @@ fn image_refusal_line(refusal: ImageRefusal) -> Line
         ImageRefusal::Number(function, instruction) => {
             at_instruction(b"rc: image refused 25 number in ", function, instruction)
         }
+        ImageRefusal::Facts(function, instruction) => {
+            at_instruction(b"rc: image refused 29 facts in ", function, instruction)
+        }
+        ImageRefusal::Pins(function, instruction) => {
+            at_instruction(b"rc: image refused 30 pins in ", function, instruction)
+        }
+        ImageRefusal::Wide(function) => Line {
+            text: b"rc: image refused 31 wide in ",
+            first: Some(Numbered {
+                number: u64::from(function),
+                text: b"\n",
+            }),
+            second: None,
+        },
     }
 }
 
@@ -155,6 +263,8 @@ fn done_line(done: Done) -> Line
         Done::StaleImage(line) => on_line(line, b": stale image\n"),
         Done::Refused(refusal) => refusal_line(refusal),
         Done::ImageRefused(refusal) => image_refusal_line(refusal),
+        Done::UnitRefused(file, refusal) => unit_refusal_line(file, refusal),
+        Done::LinkRefused(refusal) => link_refusal_line(refusal),
         Done::Wrote | Done::Reported => text(b""),
         Done::Usage => text(USAGE),
     }

@@ -16,9 +16,8 @@ use Rattle.rc_marks.proofs.MarksCounted.{has_its_marks}
 use Rattle.rc_joined.specs.Programs.{image_of_program}
 use Rattle.rc_unchecked.specs.Compiled.{IsCompiled}
 use Rattle.rc_unchecked.proofs.Faithful.{marks_are_right}
-use Rattle.rc_emit.specs.Compiled.{HasMeaningOf}
 use Rattle.rc_emit.proofs.Whole.{may_go}
-use Rattle.rc_build.specs.Built.{HasImage}
+use Rattle.rc_unchecked.specs.Images.{HasImage, HasMeaningOf}
 
 pub has_image : (program : Program) (image : Parts) → IsWellTyped program → IsWithinBounds program → IsSmall (image_of_program program) → IsCompiled program image → Sound image → HasMeaningOf program image → HasImage program image
 has_image program image well bounds small compiled sound means =
@@ -29,4 +28,5 @@ has_image program image well bounds small compiled sound means =
       faithful = subst Faithful (sym compiled.is) (marks_are_right program well bounds small compiled.marks (may_go program image compiled));
       stores = subst (λ (made : Parts). image_stores made ≡ with_bits mask 0 (stores (region_of_program program))) (sym compiled.is) (has_its_marks (region_of_program program) mask (program_is_numberable program well));
       means = means;
+      small = small;
     }

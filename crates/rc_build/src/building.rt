@@ -1,7 +1,8 @@
 // The image of a text: that of its program.
 ghost use Rattle.std.specs.Prelude.{IfOk};
 ghost use Rattle.rc_core.specs.Shapes.{program_of};
-ghost use Rattle.rc_build.specs.Built.{Builds, HasImage};
+ghost use Rattle.rc_build.specs.Built.{Builds};
+ghost use Rattle.rc_unchecked.specs.Images.{HasImage};
 
 use rc_base::NoMemory;
 use rc_code::{Image, Loaded};

@@ -16,7 +16,7 @@ use Rattle.rc_outcomes.specs.Performing.{Performs}
 use Rattle.rc_requests.specs.Request.{Request, Run, Slow, Compile, Exec, Listing, Upgrade, Script, Checks, Soak}
 use Rattle.rc_answers.specs.Telling.{Tells, ToldDone, ToldFault, Untold}
 use Rattle.rc_answers.specs.declared.answer.Done.{Done}
-use Rattle.rc_answers.specs.declared.answer.Done.TheVariants.{Ended, StaleImage, Refused, ImageRefused, Wrote, Reported, Usage}
+use Rattle.rc_answers.specs.declared.answer.Done.TheVariants.{Ended, StaleImage, Refused, ImageRefused, UnitRefused, LinkRefused, Wrote, Reported, Usage}
 use Rattle.rc_answers.specs.declared.answer.Fault.{Fault}
 use Rattle.rc_answers.specs.declared.answer.Fault.TheVariants.{FileFault, ReadFault, WriteFault, ErrFault, Memory}
 use Rattle.rc_outcomes.proofs.Ways.{the_only, there_is}
@@ -35,6 +35,7 @@ told_done request before files' input' out' err' heap' done p tells told = recor
   may_answer = p.may_answer;
   alone = record { others = p.alone.others; names = p.alone.names; files = p.alone.files; input = p.alone.input; out = p.alone.out; heap = p.alone.heap };
   stored = p.stored;
+  compiled = p.compiled;
   quiet = p.quiet;
   spared = p.spared;
   flushed = p.flushed;
@@ -77,6 +78,8 @@ unstored (Ended end) line may = may
 unstored (StaleImage n) line may = may
 unstored (Refused refusal) line may = may
 unstored (ImageRefused refusal) line may = may
+unstored (UnitRefused file refusal) line may = may
+unstored (LinkRefused refusal) line may = may
 unstored Wrote line may = line refl
 unstored Reported line may = may
 unstored Usage line may = may
@@ -85,12 +88,13 @@ unstored Usage line may = may
 replaced : (request : Option Request) (before : Outside) (files' : ShelfState) (input' : SourceState) (out' err' : SinkState) (heap' : KeptStore) (done : Done) → Performs request before (outside files' input' out' before.err heap') (Ok done) → err'.tells ≡ before.err.tells → Untold done before.err err' → Serves request before (outside files' input' out' err' heap') (Err ErrFault)
 replaced request before files' input' out' err' heap' done p tells untold = record {
   follows = λ outcome comes. all_acts outcome before.input input' before.out out' (p.follows outcome comes).1;
-  settled = λ told ok. cc;
+  settled = λ told. tt;
   complete = λ none outcome comes. absurd (none.err untold.rose);
   missing = λ none. absurd (not_missing (p.missing none).3);
   may_answer = tt;
   alone = record { others = p.alone.others; names = p.alone.names; files = p.alone.files; input = p.alone.input; out = p.alone.out; heap = p.alone.heap };
   stored = λ told may. p.stored told (unstored done untold.has_line);
+  compiled = λ told wrote. cc;
   quiet = tt;
   spared = tt;
   flushed = tt;
@@ -151,12 +155,13 @@ heard_fault request before files' input' out' err' heap' Memory other told = tol
 told_fault : (request : Option Request) (before : Outside) (files' : ShelfState) (input' : SourceState) (out' err' : SinkState) (heap' : KeptStore) (fault : Fault) → Performs request before (outside files' input' out' before.err heap') (Err fault) → err'.tells ≡ before.err.tells → ToldFault fault before.err err' → Serves request before (outside files' input' out' err' heap') (Err fault)
 told_fault request before files' input' out' err' heap' fault p tells told = record {
   follows = p.follows;
-  settled = λ told ok. cc;
+  settled = λ told. tt;
   complete = λ none outcome comes. inr (ap Err (complete_fault request before files' input' out' err' heap' fault p none outcome comes));
   missing = p.missing;
   may_answer = tt;
   alone = record { others = p.alone.others; names = p.alone.names; files = p.alone.files; input = p.alone.input; out = p.alone.out; heap = p.alone.heap };
   stored = p.stored;
+  compiled = λ told wrote. cc;
   quiet = tt;
   spared = tt;
   flushed = tt;

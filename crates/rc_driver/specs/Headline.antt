@@ -8,12 +8,13 @@ use Rattle.rc_outcomes.specs.MayAnswer.{MayAnswer}
 use Rattle.rc_outcomes.specs.FaultCauses.{CountsStay, ErrorCause, FileCause, ReadCause, WriteCause}
 use Rattle.rc_outcomes.specs.Footprint.{Alone, IsMissing, UsesFiles, footprint}
 use Rattle.rc_answers.specs.Lines.{done_line}
-use Rattle.rc_outcomes.specs.Outcome.{Comes, Follows, IsOutcome, Outcome, Untouched}
+use Rattle.rc_outcomes.specs.Outcome.{Comes, Follows, Outcome, Untouched, Settles}
 use Rattle.rc_outcomes.specs.Outside.{NoCountFalls, NoFault, NoneRose, Outside, TellsAsBefore}
+use Rattle.rc_outcomes.specs.StoredPrograms.{StoresProgram}
 use Rattle.rc_requests.specs.Request.{Request, request_of}
 use Rattle.rc_answers.specs.Telling.{ToldDone, ToldFault, Untold}
 use Rattle.rc_answers.specs.declared.answer.Done.{Done}
-use Rattle.rc_answers.specs.declared.answer.Done.TheVariants.{Usage}
+use Rattle.rc_answers.specs.declared.answer.Done.TheVariants.{Usage, Wrote}
 use Rattle.rc_answers.specs.declared.answer.Fault.{Fault}
 use Rattle.rc_answers.specs.declared.answer.Fault.TheVariants.{FileFault, ReadFault, WriteFault, ErrFault, Memory}
 
@@ -49,8 +50,8 @@ pub record NothingAsked (before after : Outside) (result : Result Done Fault) : 
 pub record Serves (request : Option Request) (before after : Outside) (result : Result Done Fault) : Type 0 where
   -- the answer and the acts are those of the outcome, or a front of its acts was done and a fault stands at its place
   pub follows : (outcome : Outcome) → Comes request before outcome → Follows outcome before after result
-  -- an answer that is no fault comes only where there is an outcome
-  pub settled : (UsesFiles (footprint request) → IsTrue before.files.tells) → IsOk result → (outcome : Outcome) × IsOutcome request before.files.names before.input.rest outcome
+  -- an answer that is no fault comes only where there is an outcome, and a refusal only where it is that of the outcome
+  pub settled : (UsesFiles (footprint request) → IsTrue before.files.tells) → IfOk result (Settles request before)
   -- where no count rose, the answer is that of the outcome, or want of memory
   pub complete : NoneRose before after → (outcome : Outcome) → Comes request before outcome → (result ≡ Ok outcome.done) ⊎ (result ≡ Err Memory)
   -- where a name that is read isn't there, nothing is done
@@ -61,6 +62,8 @@ pub record Serves (request : Option Request) (before after : Outside) (result : 
   pub alone : Alone (footprint request) before after
   -- no name holds other bytes behind a refusal, an error of the error stream, or an answer that says nothing of storing
   pub stored : IsTrue before.files.tells → ¬ MayStore result → after.files.names ≡ before.files.names
+  -- and what was compiled is, under the second name, the image of each program that the text is: of the one that it is
+  pub compiled : IsTrue before.files.tells → result ≡ Ok Wrote → StoresProgram request before.files.names after.files.names
   -- a refusal takes no byte and writes none
   pub quiet : IfOk result (λ done. IsQuiet done → Untouched before.input after.input before.out after.out)
   -- and leaves the heap as it was

@@ -17,7 +17,8 @@ use Rattle.rc_joined.specs.Programs.{image_of_program}
 use Rattle.rc_unchecked.specs.Unchecked.{MayGo}
 use Rattle.rc_unchecked.specs.Compiled.{IsCompiled}
 use Rattle.rc_unchecked.proofs.Unchecked.{means_the_same, leaves_the_same}
-use Rattle.rc_emit.specs.Compiled.{HasMeaningOf, IsWithoutNeedlessChecks}
+use Rattle.rc_emit.specs.Compiled.{IsWithoutNeedlessChecks}
+use Rattle.rc_unchecked.specs.Images.{HasMeaningOf}
 
 pub is_compiled : (program : Program) (image : Parts) → IsWithoutNeedlessChecks (region_of_program program) image → IsCompiled program image
 is_compiled program image made = record { marks = made.marks; removable = made.removable; is = made.is }

@@ -2,7 +2,7 @@
 ghost use Rattle.std.specs.Prelude.{◌≡◌, Option};
 ghost use Rattle.rc_base.specs.Sinks.{SinkState};
 ghost use Rattle.rc_core.specs.Shapes.{program_of};
-ghost use Rattle.rc_outcomes.specs.Outcome.{unsaid};
+ghost use Rattle.rc_outcomes.specs.Outcome.{as_they_are, unsaid};
 ghost use Rattle.rc_outcomes.specs.Outside.{outside};
 ghost use Rattle.rc_outcomes.specs.Performing.{Performs};
 ghost use Rattle.rc_requests.specs.Request.{Request};
@@ -70,7 +70,7 @@ pub fn evaluate_file<F: Shelf, S: Source, O: Sink>(
     input: &mut S,
     out: &mut O,
 ) -> Result<Done, Fault>
-    ensures { (request : Option Request) (err : SinkState) (heap : KeptStore) → RunsTextOf request name.now limits unsaid TellsInput → Performs request (outside (F.state files.old) (S.state input.old) (O.state out.old) err heap) (outside (F.state files.new) (S.state input.new) (O.state out.new) err heap) result }
+    ensures { (request : Option Request) (err : SinkState) (heap : KeptStore) → RunsTextOf request name.now as_they_are limits unsaid TellsInput → Performs request (outside (F.state files.old) (S.state input.old) (O.state out.old) err heap) (outside (F.state files.new) (S.state input.new) (O.state out.new) err heap) result }
 {
     match load_text(alloc, name, files) {
         Ok(text) => run_text(alloc, text.as_slice(), limits, input, out),

@@ -43,11 +43,11 @@ performed : (acts : List Act) (input input' : SourceState) (out out' : SinkState
 performed acts input input' out out' did = record { wrote = did.took; gave = did.gave }
 
 module _ (parts : Parts) (limits : Limits) (input input' : SourceState) (out out' : SinkState) (heap' : KeptStore) where
-  left_unsaid : (rest : List ℕ) (acts : List Act) (stop : Stop) → Means parts rest limits acts stop → ((n : ℤ) → stop ≢ Ends (ends.Exit n)) → IsLeft (unpinned (image_left parts rest limits)) heap'
-  left_unsaid rest acts stop means none = subst (λ (l : Option Left). IsLeft (unpinned l) heap') (sym (nothing_left rest (image_run parts rest limits) stop (ap (λ (m : Meaning). m.end) means.meaning) none)) tt
+  left_unsaid : (rest : List ℕ) (acts : List Act) (stop : Stop) → Means parts rest limits acts stop → ((n : ℤ) → stop ≢ Ends (ends.Exit n)) → IsLeft (unpinned limits (image_left parts rest limits)) heap'
+  left_unsaid rest acts stop means none = subst (λ (l : Option Left). IsLeft (unpinned limits l) heap') (sym (nothing_left rest (image_run parts rest limits) stop (ap (λ (m : Meaning). m.end) means.meaning) none)) tt
 
-  left_so : (rest : List ℕ) (acts : List Act) (e : ImageEnd) → Means parts rest limits acts (stop_of e) → IfExits e (LeavesUnpinned parts rest limits heap') → IsLeft (unpinned (image_left parts rest limits)) heap'
-  left_so rest acts (image.Ended (ends.Exit n)) means leaves = subst (λ (l : Option Left). IsLeft (unpinned l) heap') (sym leaves.leaves.left) (leaves.leaves.store, refl, leaves.leaves.kept, leaves.unpinned)
+  left_so : (rest : List ℕ) (acts : List Act) (e : ImageEnd) → Means parts rest limits acts (stop_of e) → IfExits e (LeavesUnpinned parts rest limits heap') → IsLeft (unpinned limits (image_left parts rest limits)) heap'
+  left_so rest acts (image.Ended (ends.Exit n)) means leaves = subst (λ (l : Option Left). IsLeft (unpinned limits l) heap') (sym leaves.leaves.left) (leaves.leaves.store, refl, leaves.leaves.kept, leaves.unpinned, leaves.region_limit, leaves.block_limit)
   left_so rest acts (image.Ended (ends.Trapped trap line)) means leaves = left_unsaid rest acts (Ends (ends.Trapped trap line)) means (λ n e. cc)
   left_so rest acts (image.Ended ends.Spent) means leaves = left_unsaid rest acts (Ends ends.Spent) means (λ n e. cc)
   left_so rest acts (image.Stale line) means leaves = left_unsaid rest acts (Stale line) means (λ n e. cc)

@@ -15,7 +15,7 @@ use Rattle.rc_loader.specs.declared.fault.Violation.{Violation}
 use Rattle.rc_machine.specs.declared.end.ImageEnd.{ImageEnd}
 use Rattle.rc_machine.specs.declared.end.ImageEnd.TheVariants as image
 use Rattle.rc_store.specs.Kept.{KeptStore}
-use Rattle.rc_answers.specs.Answers.{IsRun}
+use Rattle.rc_answers.specs.Answers.{IsOfCode, IsRun}
 use Rattle.rc_answers.specs.declared.answer.Done.{Done}
 use Rattle.rc_answers.specs.declared.answer.Done.TheVariants.{Ended, StaleImage, ImageRefused}
 use Rattle.rc_answers.specs.declared.answer.Fault.{Fault}
@@ -24,7 +24,7 @@ use Rattle.rc_answers.specs.declared.image_refusal.ImageRefusal.{ImageRefusal}
 use Rattle.rc_image_files.specs.Making.{MakesOf}
 use Rattle.rc_outcomes.specs.Footprint.{footprint}
 use Rattle.rc_outcomes.specs.MayAnswer.{MayAnswer}
-use Rattle.rc_outcomes.specs.Outcome.{Executes, Outcome, Untouched, came, refusal_of_code}
+use Rattle.rc_outcomes.specs.Outcome.{Executes, Outcome, Untouched, came, refusal_of_code, unpinned}
 use Rattle.rc_outcomes.specs.Runs.{Ran}
 use Rattle.rc_requests.specs.Request.{Request}
 
@@ -39,7 +39,7 @@ as_done (Err fault) = Err fault
 
 -- what the run of an image comes to on the rest of the input
 abbrev pub comes_of : Parts → Limits → List ℕ → Outcome
-comes_of parts limits rest = came (image_meaning parts rest limits) (image_left parts rest limits)
+comes_of parts limits rest = came (image_meaning parts rest limits) (unpinned limits (image_left parts rest limits))
 
 -- the input tells what it has, and that is bytes
 abbrev pub TellsBytes : SourceState → Type 0
@@ -63,4 +63,4 @@ pub record ExecutesOf (request : Option Request) (name : List ℕ) (limits : Lim
   pub writes : IsTrue (footprint request).writes_out
   pub heap : IsTrue (footprint request).uses_heap
   pub may_run : (done : Done) → IsRun done → MayAnswer request done
-  pub may_refuse : (refusal : ImageRefusal) → MayAnswer request (ImageRefused refusal)
+  pub may_refuse : (refusal : ImageRefusal) → IsOfCode refusal → MayAnswer request (ImageRefused refusal)

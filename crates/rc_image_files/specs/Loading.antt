@@ -8,14 +8,14 @@ use Rattle.rc_answers.specs.Answers.{IsOfBytes}
 use Rattle.rc_answers.specs.declared.answer.Fault.TheVariants.{Memory}
 use Rattle.rc_answers.specs.declared.image_refusal.ImageRefusal.{ImageRefusal}
 use Rattle.rc_answers.specs.declared.image_refusal.ImageRefusal.TheVariants.{Extra}
-use Rattle.rc_outcomes.specs.Images.{image_in, read_as}
+use Rattle.rc_outcomes.specs.Images.{Carried, alone, carried_by, read_as}
 use Rattle.rc_image.specs.Reading.{parts_of}
 use Rattle.rc_image_files.specs.declared.image_file.NoImage.{NoImage}
 use Rattle.rc_image_files.specs.declared.image_file.NoImage.TheVariants.{Refused, Failed}
 
 -- an image or a refusal, as the bytes say; or there is no memory to tell
-abbrev pub MaySay : Result Parts NoImage → Result Parts ImageRefusal → Type 0
-MaySay (Ok image) said = said ≡ Ok image
+abbrev pub MaySay : Result Parts NoImage → Result Carried ImageRefusal → Type 0
+MaySay (Ok image) said = said ≡ Ok (alone image)
 MaySay (Err (Refused refusal)) said = (said ≡ Err refusal) × IsOfBytes refusal
 MaySay (Err (Failed fault)) said = fault ≡ Memory
 
@@ -25,6 +25,6 @@ pub data ReadPiece (piece : Piece) : Result Parts NoImage → Type 0 where
   whole : (result : Result Parts NoImage) → piece.whole ≡ true → MaySay result (read_as (length piece.bytes) (parts_of piece.bytes)) → ReadPiece piece result
 
 abbrev pub LoadedImage : (name : List ℕ) → (files files' : ShelfState) → Result Parts NoImage → Type 0
-LoadedImage name files files' (Ok image) = Loaded name files files' (λ bytes. image_in bytes ≡ Ok image)
-LoadedImage name files files' (Err (Refused refusal)) = Loaded name files files' (λ bytes. image_in bytes ≡ Err refusal) × IsOfBytes refusal
+LoadedImage name files files' (Ok image) = Loaded name files files' (λ bytes. carried_by bytes ≡ Ok (alone image))
+LoadedImage name files files' (Err (Refused refusal)) = Loaded name files files' (λ bytes. carried_by bytes ≡ Err refusal) × IsOfBytes refusal
 LoadedImage name files files' (Err (Failed fault)) = NotLoaded name files files' fault

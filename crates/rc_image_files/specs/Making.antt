@@ -1,17 +1,18 @@
 -- Requests that make something of the image of a file.
 use Rattle.std.specs.Prelude.{◌≡◌, ℕ, List, Option, IsTrue}
 use Rattle.rc_base.specs.Shelves.{Names}
-use Rattle.rc_code.specs.declared.image.Parts.{Parts}
 use Rattle.rc_answers.specs.Answers.{IsOfBytes}
 use Rattle.rc_outcomes.specs.MayAnswer.{MayAnswer}
 use Rattle.rc_outcomes.specs.Footprint.{Reads, Stores, footprint}
+use Rattle.rc_outcomes.specs.Images.{Carried}
+use Rattle.rc_outcomes.specs.StoredPrograms.{StoresProgram}
 use Rattle.rc_outcomes.specs.Outcome.{IsOutcome, Lists, OfImage, Outcome, Upgrades}
 use Rattle.rc_requests.specs.Request.{Request}
 use Rattle.rc_answers.specs.declared.answer.Done.TheVariants.{ImageRefused, Reported, Wrote}
 use Rattle.rc_answers.specs.declared.image_refusal.ImageRefusal.{ImageRefusal}
 
 -- the rows of the tables say of a request that this comes of the image of this file
-pub record MakesOf (request : Option Request) (name : List ℕ) (Made : Parts → List ℕ → Outcome → Type 0) : Type 0 where
+pub record MakesOf (request : Option Request) (name : List ℕ) (Made : Carried → List ℕ → Outcome → Type 0) : Type 0 where
   pub reads : Reads (footprint request) name
   pub only : (other : List ℕ) → Reads (footprint request) other → name ≡ other
   pub may_refuse : (refusal : ImageRefusal) → IsOfBytes refusal → MayAnswer request (ImageRefused refusal)
@@ -29,3 +30,4 @@ pub record UpgradesOf (request : Option Request) (from to : List ℕ) : Type 0 w
   pub makes : MakesOf request from (Upgrades to)
   pub stores : Stores (footprint request) to
   pub may_write : MayAnswer request Wrote
+  pub stores_no_program : (files files' : Names) → StoresProgram request files files'

@@ -9,6 +9,7 @@ checks_row name = record {
   text = record {
     reads = (0, omega arith, refl);
     only = λ other read. the_only name other read;
+    no_shorter = λ bytes. omega arith;
     may_refuse = λ refusal. tt;
     is_outcome = λ files input outcome is. is;
     outcome_is = λ files input outcome is. is;

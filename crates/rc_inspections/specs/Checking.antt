@@ -12,7 +12,7 @@ use Rattle.rc_answers.specs.declared.answer.Fault.{Fault}
 use Rattle.rc_answers.specs.declared.answer.Fault.TheVariants.{Memory}
 use Rattle.rc_outcomes.specs.Footprint.{footprint}
 use Rattle.rc_outcomes.specs.MayAnswer.{MayAnswer}
-use Rattle.rc_outcomes.specs.Outcome.{ReportsOn}
+use Rattle.rc_outcomes.specs.Outcome.{ReportsOn, as_they_are}
 use Rattle.rc_outcomes.specs.Reporting.{MadeReport}
 use Rattle.rc_requests.specs.Request.{Request}
 use Rattle.rc_text_files.specs.Texts.{TextOf}
@@ -25,6 +25,6 @@ pub data CheckedText (text : List ℕ) (out out' : SinkState) : Result Done Faul
 
 -- the rows of the tables say of a request that it reports on the checks of this file's program
 pub record ChecksOf (request : Option Request) (name : List ℕ) : Type 0 where
-  pub text : TextOf request name ReportsOn
+  pub text : TextOf request name as_they_are ReportsOn
   pub writes_out : IsTrue (footprint request).writes_out
   pub may_report : MayAnswer request Reported

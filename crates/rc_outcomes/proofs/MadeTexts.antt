@@ -1,5 +1,5 @@
 -- The texts of made programs are of bytes.
-use Rattle.std.proofs.Common.{◌≡◌, ◌<◌, ◌≤◌, ◌+◌, ◌%◌, ◌/◌, ℕ, zero, suc, Bool, true, false, List, [], ◌∷◌, ◌++◌, cond, map, refl, arith}
+use Rattle.std.proofs.Common.{◌≡◌, ◌<◌, ◌≤◌, ◌+◌, ◌%◌, ℕ, zero, suc, Bool, true, false, List, [], ◌∷◌, ◌++◌, cond, map, refl, arith}
 use Rattle.std.specs.Prelude.{◌==◌, ◌&&◌, ◌^◌, decimal, nat_le, slice_index_or}
 use Rattle.std.specs.List.{AllByRecursion as Every, list_all, range_with_len}
 use Rattle.std.specs.Str.{byte}

@@ -10,7 +10,6 @@ use Rattle.rc_compile.proofs.EveryText.{decided}
 use Rattle.rc_compile.proofs.InPlace.{accepted_in_place}
 use Rattle.rc_compile.proofs.OneAnswer.{not_both, one_program, one_refusal}
 use Rattle.rc_core.specs.Meaning.{meaning}
-use Rattle.rc_core.specs.Meaning as meant
 use Rattle.rc_core.specs.Programs.{Program}
 use Rattle.rc_core.specs.Runs.{Ends}
 use Rattle.rc_code.specs.declared.image.Parts.{Parts}
@@ -25,10 +24,10 @@ use Rattle.rc_loader.specs.declared.fault.Violation.{Violation}
 use Rattle.rc_loader.proofs.Firsts.{none_where_sound, one_first}
 use Rattle.rc_loader.proofs.Totals.{sound_or_first}
 use Rattle.rc_answers.specs.declared.image_refusal.ImageRefusal.{ImageRefusal}
-use Rattle.rc_outcomes.specs.Images.{image_in}
+use Rattle.rc_outcomes.specs.Images.{Carried, carried_by}
 use Rattle.rc_outcomes.specs.Footprint.{AreThere, footprint}
 use Rattle.rc_outcomes.specs.Bytes.{AreBytes}
-use Rattle.rc_outcomes.specs.Outcome.{Executes, IsOutcome, Lists, OfImage, OfRead, OfScriptFile, OfText, OfTextFile, Leaving, ReportsOn, Runs, Compiles, Outcome, Soaks, Upgrades, unpinned, unsaid, accepts, answers, broken, came, refusal_of_code, refuses, reports, reports_leaving, runs, script_outcome, sound, stores}
+use Rattle.rc_outcomes.specs.Outcome.{Compiles, Executes, IsOutcome, Leaving, Lists, OfImage, OfRead, OfScriptFile, OfText, OfTextFile, Outcome, ReportsOn, Runs, Soaks, Upgrades, accepts, answers, as_left, as_they_are, broken, came, refusal_of_code, refuses, reports, reports_leaving, runs, script_outcome, sound, stores, unpinned, unsaid}
 use Rattle.rc_requests.specs.Request.{Request, Run, Slow, Compile, Exec, Listing, Upgrade, Script, Checks, Soak, usual_limits}
 use Rattle.rc_answers.specs.declared.answer.Done.TheVariants.{ImageRefused, Refused, Usage}
 use Rattle.rc_outcomes.proofs.MadeTexts.{generated_bytes}
@@ -56,11 +55,11 @@ text_outcome Made text some = by (decided text) where
   by (inl (program, accepted)) = let made = some program accepted in (made.0, accepts program accepted made.1)
   by (inr (refusal, refused)) = (answers (Refused refusal), refuses refusal refused refl)
 
-file_outcome : (file : List ℕ) (Made : List ℕ → Program → Outcome → Type 0) (files : Names) (input : List ℕ) → ((text : List ℕ) → files file ≡ Some text → (program : Program) → Accepted text program → (outcome : Outcome) × Made input program outcome) → ¬ (files file ≡ None) → (outcome : Outcome) × OfTextFile file Made files input outcome
-file_outcome file Made files input some there = by (files file) refl where
-  by : (o : Option (List ℕ)) → files file ≡ o → (outcome : Outcome) × OfTextFile file Made files input outcome
+file_outcome : (file : List ℕ) (text_of : List ℕ → List ℕ) (Made : List ℕ → Program → Outcome → Type 0) (files : Names) (input : List ℕ) → ((bytes : List ℕ) → files file ≡ Some bytes → (program : Program) → Accepted (text_of bytes) program → (outcome : Outcome) × Made input program outcome) → ¬ (files file ≡ None) → (outcome : Outcome) × OfTextFile file text_of Made files input outcome
+file_outcome file text_of Made files input some there = by (files file) refl where
+  by : (o : Option (List ℕ)) → files file ≡ o → (outcome : Outcome) × OfTextFile file text_of Made files input outcome
   by None is = absurd (there is)
-  by (Some text) is = let found = text_outcome (Made input) text (some text is) in (found.0, (text, is, found.1))
+  by (Some bytes) is = let found = text_outcome (Made input) (text_of bytes) (some bytes is) in (found.0, (bytes, is, found.1))
 
 -- a program that is accepted comes to an end
 pub run_outcome : (leaves : Leaving) (limits : Limits) (input text : List ℕ) (program : Program) → Accepted text program → (outcome : Outcome) × Runs leaves limits input program outcome
@@ -88,25 +87,25 @@ soaked_outcome : (n : ℕ) (text : List ℕ) → Every IsByte text → (program 
 soaked_outcome n text bytes program accepted =
     let found = report_of text bytes program accepted in
     let e = an_end (meaning program [] usual_limits).end (never_touches_deleted program [] usual_limits (accepted_in_place text program accepted)) in (
-      reports_leaving (summary_text (record { number = n; functions = length program.functions; checks = length found.0; removed = removed_count found.0; end = e.0 })) (unpinned (meant.left program [] usual_limits)),
+      reports_leaving (summary_text (record { number = n; functions = length program.functions; checks = length found.0; removed = removed_count found.0; end = e.0 })) (as_left program [] usual_limits),
       record { entries = found.0; report = found.1; end = e.0; ends = e.1; comes = refl },
     )
 
 -- what comes of an image, where something comes of each
-image_outcome : (file : List ℕ) (Made : Parts → List ℕ → Outcome → Type 0) (files : Names) (input : List ℕ) → ((image : Parts) → (outcome : Outcome) × Made image input outcome) → ¬ (files file ≡ None) → (outcome : Outcome) × OfImage file Made files input outcome
+image_outcome : (file : List ℕ) (Made : Carried → List ℕ → Outcome → Type 0) (files : Names) (input : List ℕ) → ((carried : Carried) → (outcome : Outcome) × Made carried input outcome) → ¬ (files file ≡ None) → (outcome : Outcome) × OfImage file Made files input outcome
 image_outcome file Made files input some there = by (files file) refl where
-  of : (said : Result Parts ImageRefusal) → (outcome : Outcome) × OfRead Made said input outcome
-  of (Ok image) = some image
+  of : (said : Result Carried ImageRefusal) → (outcome : Outcome) × OfRead Made said input outcome
+  of (Ok carried) = some carried
   of (Err refusal) = (answers (ImageRefused refusal), refl)
 
   by : (o : Option (List ℕ)) → files file ≡ o → (outcome : Outcome) × OfImage file Made files input outcome
   by None is = absurd (there is)
-  by (Some bytes) is = let found = of (image_in bytes) in (found.0, (bytes, is, found.1))
+  by (Some bytes) is = let found = of (carried_by bytes) in (found.0, (bytes, is, found.1))
 
-execution : (limits : Limits) (input : List ℕ) (image : Parts) → (outcome : Outcome) × Executes limits image input outcome
-execution limits input image = by (sound_or_first image) where
-  by : Sound image ⊎ ((v : Violation) × FirstViolation image v) → (outcome : Outcome) × Executes limits image input outcome
-  by (inl is) = (came (image_meaning (unmarked image) input limits) (image_left (unmarked image) input limits), sound is refl)
+execution : (limits : Limits) (input : List ℕ) (carried : Carried) → (outcome : Outcome) × Executes limits carried input outcome
+execution limits input carried = by (sound_or_first carried.image) where
+  by : Sound carried.image ⊎ ((v : Violation) × FirstViolation carried.image v) → (outcome : Outcome) × Executes limits carried input outcome
+  by (inl is) = (came (image_meaning (unmarked carried.image) input limits) (unpinned limits (image_left (unmarked carried.image) input limits)), sound is refl)
   by (inr (v, first)) = (answers (ImageRefused (refusal_of_code v)), broken v first refl)
 
 script_some : (file : List ℕ) (limits : Limits) (files : Names) → ¬ (files file ≡ None) → (outcome : Outcome) × OfScriptFile file limits files outcome
@@ -117,14 +116,14 @@ script_some file limits files there = by (files file) refl where
 
 pub some_outcome : (request : Option Request) (files : Names) (input : List ℕ) → AreThere (footprint request) files → AreBytes request files → (outcome : Outcome) × IsOutcome request files input outcome
 some_outcome None files input there bytes = (answers Usage, refl)
-some_outcome (Some (Run file limits)) files input there bytes = file_outcome file (Runs meant.left limits) files input (λ text is. run_outcome meant.left limits input text) (there file (0, omega arith, refl))
-some_outcome (Some (Slow file limits)) files input there bytes = file_outcome file (Runs unsaid limits) files input (λ text is. run_outcome unsaid limits input text) (there file (0, omega arith, refl))
-some_outcome (Some (Compile from to)) files input there bytes = file_outcome from (Compiles to) files input (λ text is. compiled_outcome to input text (bytes text is)) (there from (0, omega arith, refl))
+some_outcome (Some (Run file limits)) files input there bytes = file_outcome file as_they_are (Runs as_left limits) files input (λ text is. run_outcome as_left limits input text) (there file (0, omega arith, refl))
+some_outcome (Some (Slow file limits)) files input there bytes = file_outcome file as_they_are (Runs unsaid limits) files input (λ text is. run_outcome unsaid limits input text) (there file (0, omega arith, refl))
+some_outcome (Some (Compile from to)) files input there bytes = file_outcome from as_they_are (Compiles to) files input (λ text is. compiled_outcome to input text (bytes text is)) (there from (0, omega arith, refl))
 some_outcome (Some (Exec file limits)) files input there bytes = image_outcome file (Executes limits) files input (execution limits input) (there file (0, omega arith, refl))
-some_outcome (Some (Listing file)) files input there bytes = image_outcome file Lists files input (λ image. (reports (listing image), refl)) (there file (0, omega arith, refl))
-some_outcome (Some (Upgrade from to)) files input there bytes = image_outcome from (Upgrades to) files input (λ image. (stores to (spelling Two image), refl)) (there from (0, omega arith, refl))
+some_outcome (Some (Listing file)) files input there bytes = image_outcome file Lists files input (λ carried. (reports (listing carried.image), refl)) (there file (0, omega arith, refl))
+some_outcome (Some (Upgrade from to)) files input there bytes = image_outcome from (Upgrades to) files input (λ carried. (stores to (spelling Two carried.image), refl)) (there from (0, omega arith, refl))
 some_outcome (Some (Script file limits)) files input there bytes = script_some file limits files (there file (0, omega arith, refl))
-some_outcome (Some (Checks file)) files input there bytes = file_outcome file ReportsOn files input (λ text is. reported_outcome input text (bytes text is)) (there file (0, omega arith, refl))
+some_outcome (Some (Checks file)) files input there bytes = file_outcome file as_they_are ReportsOn files input (λ text is. reported_outcome input text (bytes text is)) (there file (0, omega arith, refl))
 some_outcome (Some (Soak n)) files input there bytes = text_outcome (Soaks n) (generated n) (soaked_outcome n (generated n) (generated_bytes n))
 
 -- two outcomes of one text are one
@@ -141,27 +140,27 @@ one_of_text Made text one other only (accepts p a m) (refuses k b d) = absurd (n
 one_of_text Made text one other only (refuses k a c) (accepts q b n) = absurd (not_both text q k b a)
 one_of_text Made text one other only (refuses k a c) (refuses l b d) = c ∙ ap (λ (r : Refusal). answers (Refused r)) (one_refusal text k l a b) ∙ sym d
 
-one_of_file : (file : List ℕ) (Made : List ℕ → Program → Outcome → Type 0) (files : Names) (input : List ℕ) (one other : Outcome) → ((program : Program) → Made input program one → Made input program other → one ≡ other) → OfTextFile file Made files input one → OfTextFile file Made files input other → one ≡ other
-one_of_file file Made files input one other only (text, is, so) (text', is', so') =
-    let e : Some text' ≡ Some text = sym is' ∙ is in
-    let same : text' ≡ text = cc in
-    one_of_text (Made input) text one other only so (subst (λ (t : List ℕ). OfText (Made input) t other) same so')
+one_of_file : (file : List ℕ) (text_of : List ℕ → List ℕ) (Made : List ℕ → Program → Outcome → Type 0) (files : Names) (input : List ℕ) (one other : Outcome) → ((program : Program) → Made input program one → Made input program other → one ≡ other) → OfTextFile file text_of Made files input one → OfTextFile file text_of Made files input other → one ≡ other
+one_of_file file text_of Made files input one other only (bytes, is, so) (bytes', is', so') =
+    let e : Some bytes' ≡ Some bytes = sym is' ∙ is in
+    let same : bytes' ≡ bytes = cc in
+    one_of_text (Made input) (text_of bytes) one other only so (subst (λ (b : List ℕ). OfText (Made input) (text_of b) other) same so')
 
-one_of_image : (file : List ℕ) (Made : Parts → List ℕ → Outcome → Type 0) (files : Names) (input : List ℕ) (one other : Outcome) → ((image : Parts) → Made image input one → Made image input other → one ≡ other) → OfImage file Made files input one → OfImage file Made files input other → one ≡ other
+one_of_image : (file : List ℕ) (Made : Carried → List ℕ → Outcome → Type 0) (files : Names) (input : List ℕ) (one other : Outcome) → ((carried : Carried) → Made carried input one → Made carried input other → one ≡ other) → OfImage file Made files input one → OfImage file Made files input other → one ≡ other
 one_of_image file Made files input one other only (bytes, is, so) (bytes', is', so') =
     let e : Some bytes' ≡ Some bytes = sym is' ∙ is in
     let same : bytes' ≡ bytes = cc in
-    by (image_in bytes) so (subst (λ (b : List ℕ). OfRead Made (image_in b) input other) same so')
+    by (carried_by bytes) so (subst (λ (b : List ℕ). OfRead Made (carried_by b) input other) same so')
   where
-    by : (said : Result Parts ImageRefusal) → OfRead Made said input one → OfRead Made said input other → one ≡ other
-    by (Ok image) so also = only image so also
+    by : (said : Result Carried ImageRefusal) → OfRead Made said input one → OfRead Made said input other → one ≡ other
+    by (Ok carried) so also = only carried so also
     by (Err refusal) so also = so ∙ sym also
 
-one_execution : (limits : Limits) (input : List ℕ) (one other : Outcome) (image : Parts) → Executes limits image input one → Executes limits image input other → one ≡ other
-one_execution limits input one other image (sound a c) (sound b d) = c ∙ sym d
-one_execution limits input one other image (sound a c) (broken v b d) = absurd (none_where_sound image v a b)
-one_execution limits input one other image (broken v a c) (sound b d) = absurd (none_where_sound image v b a)
-one_execution limits input one other image (broken v a c) (broken w b d) = c ∙ ap (λ (u : Violation). answers (ImageRefused (refusal_of_code u))) (one_first image v w a b) ∙ sym d
+one_execution : (limits : Limits) (input : List ℕ) (one other : Outcome) (carried : Carried) → Executes limits carried input one → Executes limits carried input other → one ≡ other
+one_execution limits input one other carried (sound a c) (sound b d) = c ∙ sym d
+one_execution limits input one other carried (sound a c) (broken v b d) = absurd (none_where_sound carried.image v a b)
+one_execution limits input one other carried (broken v a c) (sound b d) = absurd (none_where_sound carried.image v b a)
+one_execution limits input one other carried (broken v a c) (broken w b d) = c ∙ ap (λ (u : Violation). answers (ImageRefused (refusal_of_code u))) (one_first carried.image v w a b) ∙ sym d
 
 one_script : (file : List ℕ) (limits : Limits) (files : Names) (one other : Outcome) → OfScriptFile file limits files one → OfScriptFile file limits files other → one ≡ other
 one_script file limits files one other (text, is, so) (text', is', so') = so ∙ ap (script_outcome limits) (same_text files file text text' is is') ∙ sym so'
@@ -176,7 +175,7 @@ one_reported input one other program is also =
 
 one_soaked : (n : ℕ) (one other : Outcome) (program : Program) → Soaks n program one → Soaks n program other → one ≡ other
 one_soaked n one other program is also =
-    let sums = λ (all : List Entry) (end : End). reports_leaving (summary_text (record { number = n; functions = length program.functions; checks = length all; removed = removed_count all; end = end })) (unpinned (meant.left program [] usual_limits)) in
+    let sums = λ (all : List Entry) (end : End). reports_leaving (summary_text (record { number = n; functions = length program.functions; checks = length all; removed = removed_count all; end = end })) (as_left program [] usual_limits) in
     is.comes
     ∙ ap (λ (all : List Entry). sums all is.end) (one_report (region_of_program program) is.entries also.entries is.report also.report)
     ∙ ap (λ (end : End). sums also.entries end) (same_end program [] usual_limits is.end also.end is.ends also.ends)
@@ -184,14 +183,14 @@ one_soaked n one other program is also =
 
 pub one_outcome : (request : Option Request) (files : Names) (input : List ℕ) (one other : Outcome) → IsOutcome request files input one → IsOutcome request files input other → one ≡ other
 one_outcome None files input one other is also = is ∙ sym also
-one_outcome (Some (Run file limits)) files input one other is also = one_of_file file (Runs meant.left limits) files input one other (one_run meant.left limits input one other) is also
-one_outcome (Some (Slow file limits)) files input one other is also = one_of_file file (Runs unsaid limits) files input one other (one_run unsaid limits input one other) is also
-one_outcome (Some (Compile from to)) files input one other is also = one_of_file from (Compiles to) files input one other (one_compiled to input one other) is also
+one_outcome (Some (Run file limits)) files input one other is also = one_of_file file as_they_are (Runs as_left limits) files input one other (one_run as_left limits input one other) is also
+one_outcome (Some (Slow file limits)) files input one other is also = one_of_file file as_they_are (Runs unsaid limits) files input one other (one_run unsaid limits input one other) is also
+one_outcome (Some (Compile from to)) files input one other is also = one_of_file from as_they_are (Compiles to) files input one other (one_compiled to input one other) is also
 one_outcome (Some (Exec file limits)) files input one other is also = one_of_image file (Executes limits) files input one other (one_execution limits input one other) is also
-one_outcome (Some (Listing file)) files input one other is also = one_of_image file Lists files input one other (λ image a b. a ∙ sym b) is also
-one_outcome (Some (Upgrade from to)) files input one other is also = one_of_image from (Upgrades to) files input one other (λ image a b. a ∙ sym b) is also
+one_outcome (Some (Listing file)) files input one other is also = one_of_image file Lists files input one other (λ carried a b. a ∙ sym b) is also
+one_outcome (Some (Upgrade from to)) files input one other is also = one_of_image from (Upgrades to) files input one other (λ carried a b. a ∙ sym b) is also
 one_outcome (Some (Script file limits)) files input one other is also = one_script file limits files one other is also
-one_outcome (Some (Checks file)) files input one other is also = one_of_file file ReportsOn files input one other (one_reported input one other) is also
+one_outcome (Some (Checks file)) files input one other is also = one_of_file file as_they_are ReportsOn files input one other (one_reported input one other) is also
 one_outcome (Some (Soak n)) files input one other is also = one_of_text (Soaks n) (generated n) one other (one_soaked n one other) is also
 
 pub accepted_never : (text : List ℕ) (program : Program) (input : List ℕ) (limits : Limits) → Accepted text program → NeverTouchesDeleted program input limits

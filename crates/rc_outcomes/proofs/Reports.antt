@@ -120,11 +120,12 @@ module _ (request : Option Request) (before : Outside) (files' : ShelfState) (ou
   pub writes_report : (result : Result (Unit {0}) Fault) → WroteReport report before.out out' result → OnOk result (IsLeft left heap') → Performs request before behind (reported result)
   writes_report (Ok value) wrote leaves = record {
     follows = λ outcome comes. subst (λ (o : Outcome). Follows o before behind (reported (Ok value))) (sym (is.only outcome comes)) (refl, performed_writes report before.input before.out out' wrote.wrote, tt, leaves);
-    settled = λ told ok. (reports_leaving report left, is.outcome told);
+    settled = λ told. record { outcome = reports_leaving report left; is = is.outcome told; quiet = λ q. absurd q };
     missing = λ none. absurd (has.there none);
     may_answer = is.may_report;
     alone = alone;
     stored = λ told other. has.only_reads.names told;
+    compiled = λ told wrote. cc;
     quiet = λ q. absurd q;
     spared = λ q. absurd q;
     flushed = λ w. wrote.flushed;
@@ -139,11 +140,12 @@ module _ (request : Option Request) (before : Outside) (files' : ShelfState) (ou
   }
   writes_report (Err fault) wrote leaves = record {
     follows = λ outcome comes. subst (λ (o : Outcome). Follows o before behind (reported (Err fault))) (sym (is.only outcome comes)) (cut_short report before.input before.out out' fault wrote.cut);
-    settled = λ told ok. cc;
+    settled = λ told. tt;
     missing = λ none. absurd (has.there none);
     may_answer = tt;
     alone = alone;
     stored = λ told other. has.only_reads.names told;
+    compiled = λ told wrote. cc;
     quiet = tt;
     spared = tt;
     flushed = tt;

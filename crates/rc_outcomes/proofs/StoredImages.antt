@@ -27,8 +27,8 @@ use Rattle.rc_rlang.specs.RegionCode.{Rlang}
 use Rattle.rc_translation.specs.Translation.{region_of_program}
 use Rattle.rc_well_typed.proofs.Texts.{well_typed}
 use Rattle.rc_outcomes.specs.Compiled.{HasCompiled, RunsTheSame}
-use Rattle.rc_outcomes.specs.Images.{image_in}
-use Rattle.rc_outcomes.specs.Outcome.{Executes, IsOutcome, OfRead, Outcome, Runs, accepts, came, end_as, sound, unpinned}
+use Rattle.rc_outcomes.specs.Images.{alone, carried_by}
+use Rattle.rc_outcomes.specs.Outcome.{Executes, IsOutcome, OfRead, Outcome, Runs, accepts, as_left, came, end_as, sound, unpinned}
 use Rattle.rc_outcomes.proofs.OneOutcome.{one_outcome, run_outcome}
 use Rattle.rc_outcomes.proofs.SpelledImages.{spelled_image}
 use Rattle.rc_requests.specs.Request.{Exec, Run}
@@ -43,40 +43,40 @@ module _ (files : Names) (from to : List ℕ) (has : HasCompiled files from to) 
   well : IsWellTyped has.program
   well = well_typed has.text has.program has.bytes has.accepted
 
-  fields_fit : FieldsFit has.image
-  fields_fit = subst FieldsFit (sym has.compiled.is) (marked_fields_fit r (mask_of has.compiled.marks r) (fits_together program well has.accepted.bounds) (program_is_numberable program well) has.small)
+  fields_fit : FieldsFit has.stored.image
+  fields_fit = subst FieldsFit (sym has.stored.has.compiled.is) (marked_fields_fit r (mask_of has.stored.has.compiled.marks r) (fits_together program well has.accepted.bounds) (program_is_numberable program well) has.stored.has.small)
 
-  is_sound : Sound has.image
-  is_sound = subst Sound (sym has.compiled.is) (marked_sound r (mask_of has.compiled.marks r) (program_is_numberable program well))
+  is_sound : Sound has.stored.image
+  is_sound = subst Sound (sym has.stored.has.compiled.is) (marked_sound r (mask_of has.stored.has.compiled.marks r) (program_is_numberable program well))
 
-  without_marks : unmarked has.image ≡ image_of_program program
-  without_marks = ap unmarked has.compiled.is ∙ bare_image r (mask_of has.compiled.marks r)
+  without_marks : unmarked has.stored.image ≡ image_of_program program
+  without_marks = ap unmarked has.stored.has.compiled.is ∙ bare_image r (mask_of has.stored.has.compiled.marks r)
 
-  is_read : image_in (spelling Two has.image) ≡ Ok has.image
-  is_read = spelled_image (spelling Two has.image) has.image has.short (record { fits = fields_fit; version = Two; spelled = refl })
+  is_read : carried_by (spelling Two has.stored.image) ≡ Ok (alone has.stored.image)
+  is_read = spelled_image (spelling Two has.stored.image) has.stored.image has.short (record { fits = fields_fit; version = Two; spelled = refl })
 
   module _ (input : List ℕ) (limits : Limits) (bytes : Every IsByte input) where
-    means : image_meaning (unmarked has.image) input limits ≡ meaning program input limits
-    means = ap (λ (image : Parts). image_meaning image input limits) without_marks ∙ image_means program well has.accepted.bounds has.small input limits bytes
+    means : image_meaning (unmarked has.stored.image) input limits ≡ meaning program input limits
+    means = ap (λ (image : Parts). image_meaning image input limits) without_marks ∙ image_means program well has.accepted.bounds has.stored.has.small input limits bytes
 
-    leaves : image_left (unmarked has.image) input limits ≡ left program input limits
-    leaves = ap (λ (image : Parts). image_left image input limits) without_marks ∙ image_leaves program well has.accepted.bounds has.small input limits bytes
+    leaves : image_left (unmarked has.stored.image) input limits ≡ left program input limits
+    leaves = ap (λ (image : Parts). image_left image input limits) without_marks ∙ image_leaves program well has.accepted.bounds has.stored.has.small input limits bytes
 
-    run : (outcome : Outcome) × Runs left limits input program outcome
-    run = run_outcome left limits input has.text program has.accepted
+    run : (outcome : Outcome) × Runs as_left limits input program outcome
+    run = run_outcome as_left limits input has.text program has.accepted
 
     runs : IsOutcome (Some (Run from limits)) files input run.0
     runs = (has.text, has.from_has, accepts program has.accepted run.1)
 
-    comes : run.0 ≡ came (image_meaning (unmarked has.image) input limits) (image_left (unmarked has.image) input limits)
+    comes : run.0 ≡ came (image_meaning (unmarked has.stored.image) input limits) (unpinned limits (image_left (unmarked has.stored.image) input limits))
     comes =
         run.1.comes
-        ∙ ap (λ (stop : Stop). record { done = end_as stop; acts = (meaning program input limits).acts; stored = None; left = unpinned (left program input limits) }) (sym run.1.ends)
-        ∙ ap (λ (m : Meaning). came m (left program input limits)) (sym means)
-        ∙ ap (λ (l : Option Left). came (image_meaning (unmarked has.image) input limits) l) (sym leaves)
+        ∙ ap (λ (stop : Stop). record { done = end_as stop; acts = (meaning program input limits).acts; stored = None; left = as_left program input limits }) (sym run.1.ends)
+        ∙ ap (λ (m : Meaning). came m (as_left program input limits)) (sym means)
+        ∙ ap (λ (l : Option Left). came (image_meaning (unmarked has.stored.image) input limits) (unpinned limits l)) (sym leaves)
 
     executes : IsOutcome (Some (Exec to limits)) files input run.0
-    executes = (spelling Two has.image, has.to_has, subst (λ read. OfRead (Executes limits) read input run.0) (sym is_read) (sound is_sound comes))
+    executes = (spelling Two has.stored.image, has.stored.there, subst (λ read. OfRead (Executes limits) read input run.0) (sym is_read) (sound is_sound comes))
 
   pub runs_the_same : RunsTheSame files from to
   runs_the_same input limits bytes outcome = (

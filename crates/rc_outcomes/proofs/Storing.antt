@@ -47,11 +47,12 @@ module _ (request : Option Request) (before : Outside) (files1 files' : ShelfSta
   was_stored value s = record {
     follows = λ outcome comes. subst (λ (o : Outcome). Follows o before now (Ok Wrote)) (sym (row.only outcome comes))
         (refl, performed_nothing before.input before.input before.out before.out (untouched before.input before.out), s.stored (tells_still (comes.told.files uses)), tt);
-    settled = λ told ok. (stores to bytes, row.outcome told);
+    settled = λ told. record { outcome = stores to bytes; is = row.outcome told; quiet = λ q. refl };
     missing = λ none. absurd (has.there none);
     may_answer = row.may_write;
     alone = alone (Ok value) s;
     stored = λ told may. absurd (may tt);
+    compiled = λ told wrote. row.compiled told files'.names (s.stored (tells_still told));
     quiet = λ q. untouched before.input before.out;
     spared = λ q. refl;
     flushed = λ w. absurd w;
@@ -69,11 +70,12 @@ module _ (request : Option Request) (before : Outside) (files1 files' : ShelfSta
   pub was_not_stored : {T : Type 0} (error : ShelfFault) (fault : Fault) → StoresUnder {T = T} to bytes files1 files' (Err error) → (which : (fault ≡ FileFault) ⊎ (fault ≡ Memory)) → (fault ≡ FileFault → Rose before.files.faults files'.faults) → (fault ≡ Memory → files'.faults ≡ before.files.faults) → Performs request before now (Err fault)
   was_not_stored error fault s which rose kept = record {
     follows = λ outcome comes. stopped_before outcome.acts fault before.input before.input before.out before.out (untouched before.input before.out) which;
-    settled = λ told ok. cc;
+    settled = λ told. tt;
     missing = λ none. absurd (has.there none);
     may_answer = tt;
     alone = alone (Err error) s;
     stored = λ told may. absurd (may (may_store fault which));
+    compiled = λ told wrote. cc;
     quiet = tt;
     spared = tt;
     flushed = tt;

@@ -11,7 +11,7 @@ use Rattle.rc_base.specs.declared.ends.RunFault.{RunFault}
 use Rattle.rc_base.proofs.ActLaws.{took_nothing}
 use Rattle.rc_core.specs.Runs.{Stop, Ends, Stale}
 use Rattle.rc_store.specs.Kept.{KeptStore}
-use Rattle.rc_answers.specs.Answers.{IsQuiet, IsRun, MayFailOut, WritesOut}
+use Rattle.rc_answers.specs.Answers.{IsQuiet, IsRefusal, IsRun, MayFailOut, WritesOut}
 use Rattle.rc_outcomes.specs.MayAnswer.{MayAnswer}
 use Rattle.rc_outcomes.specs.Footprint.{Alone, IsMissing, UsesFiles, footprint, nothing}
 use Rattle.rc_outcomes.specs.Outcome.{Comes, Follows, IsOutcome, IsStored, Outcome, Performed, StoppedShort, Untouched, answers}
@@ -20,7 +20,7 @@ use Rattle.rc_outcomes.specs.Performing.{Performs}
 use Rattle.rc_requests.specs.Request.{Request}
 use Rattle.rc_outcomes.specs.Runs.{IsRunFault, Ran}
 use Rattle.rc_answers.specs.declared.answer.Done.{Done}
-use Rattle.rc_answers.specs.declared.answer.Done.TheVariants.{Ended, StaleImage, Refused, ImageRefused, Wrote, Reported, Usage}
+use Rattle.rc_answers.specs.declared.answer.Done.TheVariants.{Ended, StaleImage, Refused, ImageRefused, UnitRefused, LinkRefused, Wrote, Reported, Usage}
 use Rattle.rc_answers.specs.declared.answer.Fault.{Fault}
 use Rattle.rc_answers.specs.declared.answer.Fault.TheVariants.{FileFault, ReadFault, WriteFault, ErrFault, Memory}
 
@@ -153,11 +153,12 @@ told_so fault (inr e) = inr (ap Err e)
 pub fails_before : (request : Option Request) (before : Outside) (files' : ShelfState) (input' : SourceState) (out' : SinkState) (fault : Fault) → OnlyReads request before files' → Untouched before.input input' before.out out' → FailsFirst request before files' fault → Performs request before (outside files' input' out' before.err before.heap) (Err fault)
 fails_before request before files' input' out' fault reads same first = record {
   follows = λ outcome comes. stopped_before outcome.acts fault before.input input' before.out out' same which;
-  settled = λ told ok. cc;
+  settled = λ told. tt;
   missing = λ none. (same, reads.names none.2.tells, refl, told_so fault which);
   may_answer = tt;
   alone = alone_of request before files' input' out' reads (λ e. same.input_same) (λ e. same.out_same);
   stored = λ told may. reads.names told;
+  compiled = λ told wrote. cc;
   quiet = tt;
   spared = tt;
   flushed = tt;
@@ -178,31 +179,40 @@ fails_before request before files' input' out' fault reads same first = record {
   which : (fault ≡ FileFault) ⊎ (fault ≡ Memory)
   which = one_of_two request before files' fault first
 
--- an answer that touches nothing is none behind which the output is flushed
-quiet_unwritten : (done : Done) → IsQuiet done → WritesOut done → ⊥
-quiet_unwritten (Ended end) quiet writes = quiet
-quiet_unwritten (StaleImage line) quiet writes = quiet
-quiet_unwritten (Refused refusal) quiet writes = writes
-quiet_unwritten (ImageRefused refusal) quiet writes = writes
-quiet_unwritten Wrote quiet writes = writes
-quiet_unwritten Reported quiet writes = quiet
-quiet_unwritten Usage quiet writes = writes
+-- a refusal is no answer behind which the output is flushed, and says nothing of storing
+refusal_unwritten : (done : Done) → IsRefusal done → WritesOut done → ⊥
+refusal_unwritten (Ended end) refuses writes = refuses
+refusal_unwritten (StaleImage line) refuses writes = refuses
+refusal_unwritten (Refused refusal) refuses writes = writes
+refusal_unwritten (ImageRefused refusal) refuses writes = writes
+refusal_unwritten (UnitRefused file refusal) refuses writes = writes
+refusal_unwritten (LinkRefused refusal) refuses writes = writes
+refusal_unwritten Wrote refuses writes = writes
+refusal_unwritten Reported refuses writes = refuses
+refusal_unwritten Usage refuses writes = writes
+
+is_wrote : (done : Done) → ◌≡◌ {A = Result Done Fault} (Ok done) (Ok Wrote) → done ≡ Wrote
+is_wrote done is = cc
+
+refusal_unstored : (done : Done) → IsRefusal done → ◌≡◌ {A = Result Done Fault} (Ok done) (Ok Wrote) → ⊥
+refusal_unstored done refuses is = subst IsRefusal (is_wrote done is) refuses
 
 -- the second way: it is refused
-pub is_refused : (request : Option Request) (before : Outside) (files' : ShelfState) (input' : SourceState) (out' : SinkState) (done : Done) → HasRead request before files' → Untouched before.input input' before.out out' → IsQuiet done → MayAnswer request done
+pub is_refused : (request : Option Request) (before : Outside) (files' : ShelfState) (input' : SourceState) (out' : SinkState) (done : Done) → HasRead request before files' → Untouched before.input input' before.out out' → IsRefusal done → MayAnswer request done
     → ((UsesFiles (footprint request) → IsTrue before.files.tells) → IsOutcome request before.files.names before.input.rest (answers done))
     → ((outcome : Outcome) → Comes request before outcome → outcome ≡ answers done)
     → Performs request before (outside files' input' out' before.err before.heap) (Ok done)
-is_refused request before files' input' out' done has same quiet may outcome only = record {
+is_refused request before files' input' out' done has same refuses may outcome only = record {
   follows = λ o comes. subst (λ (x : Outcome). Follows x before (outside files' input' out' before.err before.heap) (Ok done)) (sym (only o comes)) (refl, performed_nothing before.input input' before.out out' same, tt, tt);
-  settled = λ told ok. (answers done, outcome told);
+  settled = λ told. record { outcome = answers done; is = outcome told; quiet = λ q. refl };
   missing = λ none. absurd (has.there none);
   may_answer = may;
   alone = alone_of request before files' input' out' has.only_reads (λ e. same.input_same) (λ e. same.out_same);
   stored = λ told other. has.only_reads.names told;
+  compiled = λ told wrote. absurd (refusal_unstored done refuses wrote);
   quiet = λ q. same;
   spared = λ q. refl;
-  flushed = λ writes. absurd (quiet_unwritten done quiet writes);
+  flushed = λ writes. absurd (refusal_unwritten done refuses writes);
   tells = tells_untouched request before files' input' out' has.only_reads same;
   no_count_falls = counts_untouched request before files' input' out' has.only_reads same;
   counts_stay = record {
@@ -237,11 +247,13 @@ pub is_not : (b : Bool) → IsTrue b → b ≡ false → ⊥
 is_not true is none = cc
 is_not false is none = cc
 
-not_quiet : (done : Done) → IsRun done → IsQuiet done → ⊥
+pub not_quiet : (done : Done) → IsRun done → IsQuiet done → ⊥
 not_quiet (Ended end) run quiet = quiet
 not_quiet (StaleImage line) run quiet = quiet
 not_quiet (Refused refusal) run quiet = run
 not_quiet (ImageRefused refusal) run quiet = run
+not_quiet (UnitRefused file refusal) run quiet = run
+not_quiet (LinkRefused refusal) run quiet = run
 not_quiet Wrote run quiet = run
 not_quiet Reported run quiet = run
 not_quiet Usage run quiet = run
@@ -251,9 +263,14 @@ writes_out (Ended end) run = tt
 writes_out (StaleImage line) run = tt
 writes_out (Refused refusal) run = run
 writes_out (ImageRefused refusal) run = run
+writes_out (UnitRefused file refusal) run = run
+writes_out (LinkRefused refusal) run = run
 writes_out Wrote run = run
 writes_out Reported run = tt
 writes_out Usage run = run
+
+run_unstored : (done : Done) → IsRun done → ◌≡◌ {A = Result Done Fault} (Ok done) (Ok Wrote) → ⊥
+run_unstored done run is = subst IsRun (is_wrote done is) run
 
 not_in_run : (fault other : Fault) → IsRunFault fault → ¬ IsRunFault other → fault ≡ other → ⊥
 not_in_run fault other is none same = none (subst IsRunFault same is)
@@ -291,11 +308,12 @@ module _ (request : Option Request) (before : Outside) (files' : ShelfState) (in
   runs_to_the_end done may ran = record {
     follows = λ outcome c. (let tells = is.told outcome c in subst (λ (o : Outcome). Follows o before behind (Ok done)) (sym (is.only outcome c))
         (ran.done tells, ran.performed tells, subst (λ s. IsStored s files'.names) (sym (is.stores_none before.input.rest)) tt, ran.left tells));
-    settled = λ told ok. (comes before.input.rest, is.outcome told);
+    settled = λ told. record { outcome = comes before.input.rest; is = is.outcome told; quiet = λ q. absurd (not_quiet done ran.is_run q) };
     missing = λ none. absurd (has.there none);
     may_answer = may;
     alone = alone_in_run;
     stored = λ told other. has.only_reads.names told;
+    compiled = λ told wrote. absurd (run_unstored done ran.is_run wrote);
     quiet = λ q. absurd (not_quiet done ran.is_run q);
     spared = λ q. absurd (not_quiet done ran.is_run q);
     flushed = λ writes. ran.flushed;
@@ -318,11 +336,12 @@ module _ (request : Option Request) (before : Outside) (files' : ShelfState) (in
   pub runs_and_is_cut_short : (fault : Fault) → Ran Told comes before.input input' before.out out' heap' (Err fault) → Performs request before behind (Err fault)
   runs_and_is_cut_short fault ran = record {
     follows = λ outcome c. subst (λ (o : Outcome). StoppedShort o.acts fault before.input input' before.out out') (sym (is.only outcome c)) (ran.stopped (is.told outcome c));
-    settled = λ told ok. cc;
+    settled = λ told. tt;
     missing = λ none. absurd (has.there none);
     may_answer = tt;
     alone = alone_in_run;
     stored = λ told other. has.only_reads.names told;
+    compiled = λ told wrote. cc;
     quiet = tt;
     spared = tt;
     flushed = tt;
@@ -345,11 +364,12 @@ module _ (request : Option Request) (before : Outside) (files' : ShelfState) (in
 pub asks_usage : (before : Outside) → Performs None before before (Ok Usage)
 asks_usage before = record {
   follows = λ outcome comes. let is : outcome ≡ answers Usage = comes.comes in subst (λ (o : Outcome). Follows o before before (Ok Usage)) (sym is) (refl, performed_nothing before.input before.input before.out before.out (untouched before.input before.out), tt, tt);
-  settled = λ told ok. (answers Usage, refl);
+  settled = λ told. record { outcome = answers Usage; is = refl; quiet = λ q. refl };
   missing = λ none. absurd (no_use (none.0, inl none.1));
   may_answer = refl;
   alone = record { others = λ told name other. refl; names = λ none told. refl; files = λ none. refl; input = λ none. refl; out = λ none. refl; heap = λ none. refl };
   stored = λ told other. refl;
+  compiled = λ told wrote. tt;
   quiet = λ q. untouched before.input before.out;
   spared = λ q. refl;
   flushed = λ writes. absurd writes;

@@ -1,20 +1,16 @@
--- A file that has the image to which the program of another file's text is compiled. The image's counts and lines are below 2 to the power
--- 32, and it is no longer than an image may be.
+-- A file that has the image to which the program of another file's text is compiled, and is no longer than an image may be.
 use Rattle.std.specs.Prelude.{◌≡◌, ◌≤◌, ◌↔◌, ℕ, List, length, Some}
 use Rattle.std.specs.List.{AllByRecursion as Every}
 use Rattle.rc_base.specs.Limits.{most_image_bytes}
 use Rattle.rc_base.specs.Shelves.{Names}
 use Rattle.rc_base.specs.declared.ends.Limits.{Limits}
-use Rattle.rc_code.specs.declared.image.Parts.{Parts}
 use Rattle.rc_compile.specs.Acceptance.{Accepted}
 use Rattle.rc_core.specs.Numbers.{IsByte}
 use Rattle.rc_core.specs.Programs.{Program}
 use Rattle.rc_image.specs.Spelling.{spelling}
 use Rattle.rc_image.specs.declared.version.Version.TheVariants.{Two}
-use Rattle.rc_image_rules.specs.Small.{IsSmall}
-use Rattle.rc_joined.specs.Programs.{image_of_program}
-use Rattle.rc_unchecked.specs.Compiled.{IsCompiled}
 use Rattle.rc_outcomes.specs.Outcome.{IsOutcome, Outcome}
+use Rattle.rc_outcomes.specs.StoredPrograms.{IsUnder}
 use Rattle.rc_requests.specs.Request.{Run, Exec}
 
 pub record HasCompiled (files : Names) (from to : List ℕ) : Type 0 where
@@ -23,11 +19,8 @@ pub record HasCompiled (files : Names) (from to : List ℕ) : Type 0 where
   pub bytes : Every IsByte text
   pub program : Program
   pub accepted : Accepted text program
-  pub image : Parts
-  pub compiled : IsCompiled program image
-  pub to_has : files to ≡ Some (spelling Two image)
-  pub small : IsSmall (image_of_program program)
-  pub short : length (spelling Two image) ≤ most_image_bytes
+  pub stored : IsUnder to files program
+  pub short : length (spelling Two stored.image) ≤ most_image_bytes
 
 -- executing the one comes to just what running the other comes to
 abbrev pub RunsTheSame : (files : Names) → (from to : List ℕ) → Type 0

@@ -32,8 +32,9 @@ pub record ErrorCause (request : Option Request) (before after : Outside) : Type
   pub rose : Rose before.err.faults after.err.faults
   pub has_line : (outcome : Outcome) → Comes request before outcome → HasLine outcome.done
 
--- a count is another after the call only with a fault: that of the files with theirs, that of the input with its own, that of
--- the output with its own or one behind which the flush failed, and that of the error stream with any
+-- a count is another after the call only with a fault: that of the files with theirs, that of the input with its own, that of the error
+-- stream with any. That of the output is another with its own, and may be with a read fault or want of memory too: by a flush that failed
+-- behind these, or, before want of memory, by a byte
 pub record CountsStay (before after : Outside) (result : Result Done Fault) : Type 0 where
   pub files : ¬ IsErrOf result FileFault → after.files.faults ≡ before.files.faults
   pub input : ¬ IsErrOf result ReadFault → after.input.faults ≡ before.input.faults

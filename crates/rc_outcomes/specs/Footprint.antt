@@ -3,6 +3,8 @@ use Rattle.std.specs.Prelude.{◌≡◌, ◌⊎◌, ℕ, Bool, true, false, List
 use Rattle.std.specs.List.{AllByRecursion as Every}
 use Rattle.rc_base.specs.Shelves.{Lacks, Names}
 use Rattle.rc_core.specs.Numbers.{IsByte}
+use Rattle.rc_answers.specs.Answers.{IsQuiet}
+use Rattle.rc_answers.specs.declared.answer.Done.{Done}
 use Rattle.rc_outcomes.specs.Outside.{Outside}
 use Rattle.rc_requests.specs.Request.{Request, Run, Slow, Compile, Exec, Listing, Upgrade, Script, Checks, Soak}
 
@@ -38,19 +40,19 @@ reports_in_heap file = record { reads = file ∷ []; stores = None; takes_input 
 abbrev pub made_in_heap : Footprint
 made_in_heap = record { reads = []; stores = None; takes_input = false; writes_out = true; uses_heap = true }
 
--- what is made of one file is stored under another name
-abbrev pub stores_from : (from to : List ℕ) → Footprint
-stores_from from to = record { reads = from ∷ []; stores = Some to; takes_input = false; writes_out = false; uses_heap = false }
+-- what is made of files is stored under a name
+abbrev pub stores_from : (from : List (List ℕ)) → (to : List ℕ) → Footprint
+stores_from from to = record { reads = from; stores = Some to; takes_input = false; writes_out = false; uses_heap = false }
 
 -- the row of each request
 abbrev pub footprint : Option Request → Footprint
 footprint None = nothing
 footprint (Some (Run file limits)) = runs_in_heap file
 footprint (Some (Slow file limits)) = runs_file file
-footprint (Some (Compile from to)) = stores_from from to
+footprint (Some (Compile from to)) = stores_from (from ∷ []) to
 footprint (Some (Exec file limits)) = runs_in_heap file
 footprint (Some (Listing file)) = reports_on file
-footprint (Some (Upgrade from to)) = stores_from from to
+footprint (Some (Upgrade from to)) = stores_from (from ∷ []) to
 footprint (Some (Script file limits)) = reports_in_heap file
 footprint (Some (Checks file)) = reports_on file
 footprint (Some (Soak n)) = made_in_heap
@@ -73,11 +75,12 @@ pub record Alone (f : Footprint) (before after : Outside) : Type 0 where
   pub out : f.writes_out ≡ false → after.out ≡ before.out
   pub heap : f.uses_heap ≡ false → after.heap ≡ before.heap
 
--- what it uses tells what it has, and what a run over the heap may read are bytes
-pub record TellsWhatIsUsed (f : Footprint) (before : Outside) : Type 0 where
+-- what it uses on the way to this answer tells what it has, and what a run over the heap may read are bytes; an answer that touches no input
+-- doesn't ask that this tells
+pub record TellsWhatIsUsed (f : Footprint) (done : Done) (before : Outside) : Type 0 where
   pub files : UsesFiles f → IsTrue before.files.tells
-  pub input : IsTrue f.takes_input → IsTrue before.input.tells
-  pub bytes : IsTrue f.takes_input → IsTrue f.uses_heap → Every IsByte before.input.rest
+  pub input : ¬ IsQuiet done → IsTrue f.takes_input → IsTrue before.input.tells
+  pub bytes : ¬ IsQuiet done → IsTrue f.takes_input → IsTrue f.uses_heap → Every IsByte before.input.rest
 
 -- a name that it reads is not there
 abbrev pub IsMissing : Footprint → Outside → Type 0

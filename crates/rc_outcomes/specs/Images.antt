@@ -1,4 +1,4 @@
--- What a file is an image of, or why it is none.
+-- What the bytes of a file carry: an image; or why they carry none.
 use Rattle.std.specs.Prelude.{◌≡◌, ◌-◌, ℕ, nat_le, List, length, Result, Ok, Err, if◌then◌else◌}
 use Rattle.rc_base.specs.Limits.{most_image_bytes}
 use Rattle.rc_code.specs.Image.{FieldsFit}
@@ -19,13 +19,21 @@ refusal_of total short = Short
 refusal_of total extra = Extra
 refusal_of total (field left) = Field (total - left)
 
-abbrev pub read_as : (total : ℕ) → Result Parts reading.Fault → Result Parts ImageRefusal
-read_as total (Ok image) = Ok image
+-- what is read of bytes
+pub record Carried : Type 0 where
+  pub image : Parts
+
+-- an image, and nothing beside it
+abbrev pub alone : Parts → Carried
+alone image = record { image = image }
+
+abbrev pub read_as : (total : ℕ) → Result Parts reading.Fault → Result Carried ImageRefusal
+read_as total (Ok image) = Ok (alone image)
 read_as total (Err fault) = Err (refusal_of total fault)
 
 -- bytes of which there are more than an image may have go on behind it
-abbrev pub image_in : List ℕ → Result Parts ImageRefusal
-image_in bytes = if nat_le (length bytes) most_image_bytes then read_as (length bytes) (parts_of bytes) else Err Extra
+abbrev pub carried_by : List ℕ → Result Carried ImageRefusal
+carried_by bytes = if nat_le (length bytes) most_image_bytes then read_as (length bytes) (parts_of bytes) else Err Extra
 
 -- they are all of the image's spelling, in one of the two versions of the format
 pub record IsSpelled (bytes : List ℕ) (image : Parts) : Type 0 where

@@ -10,4 +10,5 @@ pub mod Outside
 pub mod Performing
 pub mod Reporting
 pub mod Storing
+pub mod StoredPrograms
 pub mod Runs

@@ -1,7 +1,7 @@
--- Loading a file.
-use Rattle.std.specs.Prelude.{◌≡◌, ◌⊎◌, ◌≤◌, ℕ, List, Some, IsTrue}
+-- Loading a file, and several files one behind the other.
+use Rattle.std.specs.Prelude.{◌≡◌, ◌⊎◌, ◌≤◌, ℕ, List, [], ◌∷◌, Some, Contains, IsTrue}
 use Rattle.rc_base.specs.Causes.{Rose}
-use Rattle.rc_base.specs.Shelves.{Lacks, ShelfState}
+use Rattle.rc_base.specs.Shelves.{Lacks, Names, ShelfState}
 use Rattle.rc_answers.specs.declared.answer.Fault.TheVariants.{FileFault, Memory}
 use Rattle.rc_answers.specs.declared.answer.Fault.{Fault}
 
@@ -22,3 +22,30 @@ pub record NotLoaded (name : List ℕ) (files files' : ShelfState) (fault : Faul
   pub names : IsTrue files.tells → files'.names ≡ files.names
   pub never_falls : files.faults ≤ files'.faults
   pub cause : LoadCause name files files' fault
+
+-- ---- several files
+
+-- each of them is there, and what was made of it, in their order, holds of its bytes
+abbrev pub HoldInOrder : {T : Type 0} → (Holds : T → List ℕ → Type 0) → Names → (wanted : List (List ℕ)) → List T → Type 0
+HoldInOrder Holds files [] [] = Unit {0}
+HoldInOrder Holds files (name ∷ wanted) (made ∷ all) = ((bytes : List ℕ) × (files name ≡ Some bytes) × Holds made bytes) × HoldInOrder Holds files wanted all
+HoldInOrder Holds files [] (made ∷ all) = ⊥
+HoldInOrder Holds files (name ∷ wanted) [] = ⊥
+
+-- all were read
+pub record LoadedAll {T : Type 0} (Holds : T → List ℕ → Type 0) (wanted : List (List ℕ)) (files files' : ShelfState) (all : List T) : Type 0 where
+  pub tells : files'.tells ≡ files.tells
+  pub names : IsTrue files.tells → files'.names ≡ files.names
+  pub kept : files'.faults ≡ files.faults
+  pub holds : IsTrue files.tells → HoldInOrder Holds files.names wanted all
+
+-- one isn't there, or the shelf failed, or there was no memory
+pub data LoadAllCause (wanted : List (List ℕ)) (files files' : ShelfState) : Fault → Type 0 where
+  no_file_of_all : ((name : List ℕ) × Contains wanted name × Lacks files name) ⊎ Rose files.faults files'.faults → LoadAllCause wanted files files' FileFault
+  no_memory_for_all : files'.faults ≡ files.faults → LoadAllCause wanted files files' Memory
+
+pub record NotLoadedAll (wanted : List (List ℕ)) (files files' : ShelfState) (fault : Fault) : Type 0 where
+  pub tells : files'.tells ≡ files.tells
+  pub names : IsTrue files.tells → files'.names ≡ files.names
+  pub never_falls : files.faults ≤ files'.faults
+  pub cause : LoadAllCause wanted files files' fault

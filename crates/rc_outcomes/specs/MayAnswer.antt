@@ -1,6 +1,6 @@
 -- Which answers a request may have.
-use Rattle.std.specs.Prelude.{◌≡◌, Option, Some, None}
-use Rattle.rc_answers.specs.Answers.{IsOfBytes}
+use Rattle.std.specs.Prelude.{◌≡◌, ◌⊎◌, Option, Some, None}
+use Rattle.rc_answers.specs.Answers.{IsOfBytes, IsOfCode}
 use Rattle.rc_answers.specs.declared.answer.Done.{Done}
 use Rattle.rc_answers.specs.declared.answer.Done.TheVariants.{Ended, StaleImage, Refused, ImageRefused, Wrote, Reported, Usage}
 use Rattle.rc_compile.specs.declared.refusal.Refusal.TheVariants.{TooLong}
@@ -16,7 +16,7 @@ EndsOrIsRefused _ = ⊥
 abbrev pub RunsOrIsRefused : Done → Type 0
 RunsOrIsRefused (Ended end) = Unit {0}
 RunsOrIsRefused (StaleImage line) = Unit {0}
-RunsOrIsRefused (ImageRefused refusal) = Unit {0}
+RunsOrIsRefused (ImageRefused refusal) = IsOfBytes refusal ⊎ IsOfCode refusal
 RunsOrIsRefused _ = ⊥
 
 -- an image is reported on, or the bytes are refused

@@ -25,14 +25,15 @@ use Rattle.rc_loader.specs.Violations.{FirstViolation}
 use Rattle.rc_loader.specs.declared.fault.Rule.{Rule}
 use Rattle.rc_loader.specs.declared.fault.Rule.TheVariants as rule
 use Rattle.rc_loader.specs.declared.fault.Violation.{Violation}
-use Rattle.rc_steps.specs.Stands.{IsKept}
+use Rattle.rc_stored.specs.Keeping.{IsKept}
 use Rattle.rc_replies.specs.Replies.{heap_store, heap_text}
 use Rattle.rc_replies.specs.Stores.{IsSame}
 use Rattle.rc_store.specs.Kept.{KeptStore}
 use Rattle.rc_outcomes.specs.Footprint.{TellsWhatIsUsed, footprint}
-use Rattle.rc_outcomes.specs.Images.{image_in}
+use Rattle.rc_outcomes.specs.Images.{Carried, carried_by}
 use Rattle.rc_outcomes.specs.Outside.{Outside}
 use Rattle.rc_requests.specs.Request.{Request, Run, Slow, Compile, Exec, Listing, Upgrade, Script, Checks, Soak, usual_limits}
+use Rattle.rc_answers.specs.Answers.{IsQuiet}
 use Rattle.rc_answers.specs.declared.answer.Done.{Done}
 use Rattle.rc_answers.specs.declared.answer.Done.TheVariants.{Ended, StaleImage, Refused, ImageRefused, Wrote, Reported, Usage}
 use Rattle.rc_answers.specs.declared.answer.Fault.{Fault}
@@ -58,14 +59,15 @@ pub record Stored : Type 0 where
 pub data HeapLeft : Type 0 where
   -- nothing
   AnyHeap : HeapLeft
-  -- these are its regions, and nothing is pinned
-  Unpinned : Left → HeapLeft
+  -- these are its regions, nothing is pinned, and its limits are those of the run
+  Unpinned : Left → Limits → HeapLeft
   -- it is this store, but for the order of its pins and the room for more
   SameAs : KeptStore → HeapLeft
 
-abbrev pub unpinned : Option Left → HeapLeft
-unpinned None = AnyHeap
-unpinned (Some regions) = Unpinned regions
+-- what is said of the heap behind a run within limits
+abbrev pub unpinned : Limits → Option Left → HeapLeft
+unpinned limits None = AnyHeap
+unpinned limits (Some regions) = Unpinned regions limits
 
 -- the answer of a request, its acts on the input and the output, what it stores, and what it leaves of the heap, where that is said
 pub record Outcome : Type 0 where
@@ -77,8 +79,8 @@ pub record Outcome : Type 0 where
 abbrev pub answers : Done → Outcome
 answers done = record { done = done; acts = []; stored = None; left = AnyHeap }
 
-abbrev pub runs : List Act → End → Option Left → Outcome
-runs acts end left = record { done = Ended end; acts = acts; stored = None; left = unpinned left }
+abbrev pub runs : List Act → End → HeapLeft → Outcome
+runs acts end left = record { done = Ended end; acts = acts; stored = None; left = left }
 
 -- a run ends, or an image from elsewhere touched a deleted region
 abbrev pub end_as : Stop → Done
@@ -86,8 +88,8 @@ end_as (Ends end) = Ended end
 end_as (Stale line) = StaleImage line
 
 -- what a run comes to that means this
-abbrev pub came : Meaning → Option Left → Outcome
-came means left = record { done = end_as means.end; acts = means.acts; stored = None; left = unpinned left }
+abbrev pub came : Meaning → HeapLeft → Outcome
+came means left = record { done = end_as means.end; acts = means.acts; stored = None; left = left }
 
 -- the acts that write these bytes
 abbrev pub writes : List ℕ → List Act
@@ -111,16 +113,25 @@ pub data OfText (Made : Program → Outcome → Type 0) (text : List ℕ) (outco
   accepts : (program : Program) → Accepted text program → Made program outcome → OfText Made text outcome
   refuses : (refusal : Refusal) → acceptance.Refused text refusal → outcome ≡ answers (Refused refusal) → OfText Made text outcome
 
-abbrev pub OfTextFile : (file : List ℕ) → (Made : List ℕ → Program → Outcome → Type 0) → Names → (input : List ℕ) → Outcome → Type 0
-OfTextFile file Made files input outcome = (text : List ℕ) × (files file ≡ Some text) × OfText (Made input) text outcome
+-- and of that which is made of a file's bytes
+abbrev pub OfTextFile : (file : List ℕ) → (text_of : List ℕ → List ℕ) → (Made : List ℕ → Program → Outcome → Type 0) → Names → (input : List ℕ) → Outcome → Type 0
+OfTextFile file text_of Made files input outcome = (bytes : List ℕ) × (files file ≡ Some bytes) × OfText (Made input) (text_of bytes) outcome
+
+-- the bytes themselves
+abbrev pub as_they_are : List ℕ → List ℕ
+as_they_are bytes = bytes
 
 -- what is said of the heap behind the run of a program
 abbrev pub Leaving : Type 0
-Leaving = Program → List ℕ → Limits → Option Left
+Leaving = Program → List ℕ → Limits → HeapLeft
 
 -- nothing
 abbrev pub unsaid : Leaving
-unsaid program input limits = None
+unsaid program input limits = AnyHeap
+
+-- what the program leaves, where it exits
+abbrev pub as_left : Leaving
+as_left program input limits = unpinned limits (meant.left program input limits)
 
 -- a program does what it means
 pub record Runs (leaves : Leaving) (limits : Limits) (input : List ℕ) (program : Program) (outcome : Outcome) : Type 0 where
@@ -147,17 +158,17 @@ pub record Soaks (n : ℕ) (program : Program) (outcome : Outcome) : Type 0 wher
   pub report : IsReportOf program entries
   pub end : End
   pub ends : (meaning program [] usual_limits).end ≡ Ends end
-  pub comes : outcome ≡ reports_leaving (summary_text (record { number = n; functions = length program.functions; checks = length entries; removed = removed_count entries; end = end })) (unpinned (meant.left program [] usual_limits))
+  pub comes : outcome ≡ reports_leaving (summary_text (record { number = n; functions = length program.functions; checks = length entries; removed = removed_count entries; end = end })) (as_left program [] usual_limits)
 
 -- ---- images
 
--- what comes of a file that is an image; bytes that are none are refused
-abbrev pub OfRead : (Made : Parts → List ℕ → Outcome → Type 0) → Result Parts ImageRefusal → (input : List ℕ) → Outcome → Type 0
-OfRead Made (Ok image) input outcome = Made image input outcome
+-- what comes of a file that carries an image; bytes that carry none are refused
+abbrev pub OfRead : (Made : Carried → List ℕ → Outcome → Type 0) → Result Carried ImageRefusal → (input : List ℕ) → Outcome → Type 0
+OfRead Made (Ok carried) input outcome = Made carried input outcome
 OfRead Made (Err refusal) input outcome = outcome ≡ answers (ImageRefused refusal)
 
-abbrev pub OfImage : (file : List ℕ) → (Made : Parts → List ℕ → Outcome → Type 0) → Names → (input : List ℕ) → Outcome → Type 0
-OfImage file Made files input outcome = (bytes : List ℕ) × (files file ≡ Some bytes) × OfRead Made (image_in bytes) input outcome
+abbrev pub OfImage : (file : List ℕ) → (Made : Carried → List ℕ → Outcome → Type 0) → Names → (input : List ℕ) → Outcome → Type 0
+OfImage file Made files input outcome = (bytes : List ℕ) × (files file ≡ Some bytes) × OfRead Made (carried_by bytes) input outcome
 
 -- the refusal of a broken rule of code
 abbrev pub refusal_by : Rule → (function instruction : ℕ) → ImageRefusal
@@ -171,15 +182,15 @@ refusal_of_code v = refusal_by v.rule v.function v.instruction
 
 -- an image whose code keeps the rules does what it means with the mark of every store taken away, and leaves the heap so; every
 -- other one is refused by its first violation
-pub data Executes (limits : Limits) (image : Parts) (input : List ℕ) (outcome : Outcome) : Type 0 where
-  sound : Sound image → outcome ≡ came (image_meaning (unmarked image) input limits) (image_left (unmarked image) input limits) → Executes limits image input outcome
-  broken : (v : Violation) → FirstViolation image v → outcome ≡ answers (ImageRefused (refusal_of_code v)) → Executes limits image input outcome
+pub data Executes (limits : Limits) (carried : Carried) (input : List ℕ) (outcome : Outcome) : Type 0 where
+  sound : Sound carried.image → outcome ≡ came (image_meaning (unmarked carried.image) input limits) (unpinned limits (image_left (unmarked carried.image) input limits)) → Executes limits carried input outcome
+  broken : (v : Violation) → FirstViolation carried.image v → outcome ≡ answers (ImageRefused (refusal_of_code v)) → Executes limits carried input outcome
 
-abbrev pub Lists : Parts → (input : List ℕ) → Outcome → Type 0
-Lists image input outcome = outcome ≡ reports (listing image)
+abbrev pub Lists : Carried → (input : List ℕ) → Outcome → Type 0
+Lists carried input outcome = outcome ≡ reports (listing carried.image)
 
-abbrev pub Upgrades : (to : List ℕ) → Parts → (input : List ℕ) → Outcome → Type 0
-Upgrades to image input outcome = outcome ≡ stores to (spelling Two image)
+abbrev pub Upgrades : (to : List ℕ) → Carried → (input : List ℕ) → Outcome → Type 0
+Upgrades to carried input outcome = outcome ≡ stores to (spelling Two carried.image)
 
 -- ---- scripts
 
@@ -194,20 +205,26 @@ OfScriptFile file limits files outcome = (text : List ℕ) × (files file ≡ So
 -- what each request comes to over these files, with these bytes of input; it has no outcome where a name that it reads is not there
 abbrev pub IsOutcome : Option Request → Names → List ℕ → Outcome → Type 0
 IsOutcome None files input outcome = outcome ≡ answers Usage
-IsOutcome (Some (Run file limits)) files input outcome = OfTextFile file (Runs meant.left limits) files input outcome
-IsOutcome (Some (Slow file limits)) files input outcome = OfTextFile file (Runs unsaid limits) files input outcome
-IsOutcome (Some (Compile from to)) files input outcome = OfTextFile from (Compiles to) files input outcome
+IsOutcome (Some (Run file limits)) files input outcome = OfTextFile file as_they_are (Runs as_left limits) files input outcome
+IsOutcome (Some (Slow file limits)) files input outcome = OfTextFile file as_they_are (Runs unsaid limits) files input outcome
+IsOutcome (Some (Compile from to)) files input outcome = OfTextFile from as_they_are (Compiles to) files input outcome
 IsOutcome (Some (Exec file limits)) files input outcome = OfImage file (Executes limits) files input outcome
 IsOutcome (Some (Listing file)) files input outcome = OfImage file Lists files input outcome
 IsOutcome (Some (Upgrade from to)) files input outcome = OfImage from (Upgrades to) files input outcome
 IsOutcome (Some (Script file limits)) files input outcome = OfScriptFile file limits files outcome
-IsOutcome (Some (Checks file)) files input outcome = OfTextFile file ReportsOn files input outcome
+IsOutcome (Some (Checks file)) files input outcome = OfTextFile file as_they_are ReportsOn files input outcome
 IsOutcome (Some (Soak n)) files input outcome = OfText (Soaks n) (generated n) outcome
 
--- the outcome, where what the request uses tells what it has
+-- the outcome, where what comes to it tells what it has
 pub record Comes (request : Option Request) (before : Outside) (outcome : Outcome) : Type 0 where
-  pub told : TellsWhatIsUsed (footprint request) before
+  pub told : TellsWhatIsUsed (footprint request) outcome.done before
   pub comes : IsOutcome request before.files.names before.input.rest outcome
+
+-- there is an outcome, and an answer that touches no input is that of the outcome, whether or not the input tells
+pub record Settles (request : Option Request) (before : Outside) (done : Done) : Type 0 where
+  pub outcome : Outcome
+  pub is : IsOutcome request before.files.names before.input.rest outcome
+  pub quiet : IsQuiet done → done ≡ outcome.done
 
 -- what is to be stored stands there
 abbrev pub IsStored : Option Stored → Names → Type 0
@@ -217,7 +234,7 @@ IsStored (Some s) names = names s.name ≡ Some s.bytes
 -- the heap is as is said
 abbrev pub IsLeft : HeapLeft → KeptStore → Type 0
 IsLeft AnyHeap heap = Unit {0}
-IsLeft (Unpinned regions) heap = (store : Store) × (regions ≡ map view_left store.regions) × IsKept heap store × (heap.pins ≡ [])
+IsLeft (Unpinned regions limits) heap = (store : Store) × (regions ≡ map view_left store.regions) × IsKept heap store × (heap.pins ≡ []) × (heap.region_limit ≡ limits.regions) × (heap.block_limit ≡ limits.blocks)
 IsLeft (SameAs store) heap = IsSame store heap
 
 -- neither was called

@@ -1,6 +1,6 @@
 -- Bytes that a request stores under a name.
-use Rattle.std.specs.Prelude.{◌≡◌, ℕ, List, Option, Result, Ok, Err, IsTrue}
-use Rattle.rc_base.specs.Shelves.{ShelfState, Stores as StoresUnder}
+use Rattle.std.specs.Prelude.{◌≡◌, ℕ, List, Option, Some, Result, Ok, Err, IsTrue}
+use Rattle.rc_base.specs.Shelves.{Names, ShelfState, Stores as StoresUnder}
 use Rattle.rc_base.specs.declared.outside.ShelfFault.TheVariants as shelf_fault
 use Rattle.rc_answers.specs.declared.answer.Done.{Done}
 use Rattle.rc_answers.specs.declared.answer.Done.TheVariants.{Wrote}
@@ -10,6 +10,7 @@ use Rattle.rc_outcomes.specs.Footprint.{Stores, UsesFiles, footprint}
 use Rattle.rc_outcomes.specs.MayAnswer.{MayAnswer}
 use Rattle.rc_outcomes.specs.Outcome.{Comes, IsOutcome, Outcome, stores}
 use Rattle.rc_outcomes.specs.Outside.{Outside}
+use Rattle.rc_outcomes.specs.StoredPrograms.{StoresProgram}
 use Rattle.rc_requests.specs.Request.{Request}
 
 -- bytes are stored; or there is no memory to make them
@@ -25,3 +26,4 @@ pub record StoresBytes (request : Option Request) (before : Outside) (to bytes :
   pub may_write : MayAnswer request Wrote
   pub outcome : (UsesFiles (footprint request) → IsTrue before.files.tells) → IsOutcome request before.files.names before.input.rest (stores to bytes)
   pub only : (outcome : Outcome) → Comes request before outcome → outcome ≡ stores to bytes
+  pub compiled : IsTrue before.files.tells → (files' : Names) → files' to ≡ Some bytes → StoresProgram request before.files.names files'

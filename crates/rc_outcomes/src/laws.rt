@@ -11,7 +11,7 @@ ghost use Rattle.rc_core.specs.Programs.{Program};
 ghost use Rattle.rc_outcomes.specs.Bytes.{AreBytes};
 ghost use Rattle.rc_outcomes.specs.Compiled.{HasCompiled, RunsTheSame};
 ghost use Rattle.rc_outcomes.specs.Footprint.{AreThere, footprint};
-ghost use Rattle.rc_outcomes.specs.Images.{IsSpelled, image_in};
+ghost use Rattle.rc_outcomes.specs.Images.{IsSpelled, alone, carried_by};
 ghost use Rattle.rc_outcomes.specs.Outcome.{IsOutcome, Outcome};
 ghost use Rattle.rc_requests.specs.Request.{Request};
 ghost use Rattle.rc_safety.specs.Safety.{NeverTouchesDeleted};
@@ -32,13 +32,13 @@ pub fn an_accepted_text_never_touches_deleted()
 /// Bytes are those of an image exactly where they are its spelling in one of the two versions of the
 /// format, and the image keeps the rules of its fields.
 pub fn an_image_is_what_its_bytes_spell()
-    ensures read { (bytes : List ℕ) (image : Parts) → Every IsByte bytes → image_in bytes ≡ Ok image → IsSpelled bytes image }
-    ensures spelled { (bytes : List ℕ) (image : Parts) → length bytes ≤ most_image_bytes → IsSpelled bytes image → image_in bytes ≡ Ok image }
+    ensures read { (bytes : List ℕ) (image : Parts) → Every IsByte bytes → carried_by bytes ≡ Ok (alone image) → IsSpelled bytes image }
+    ensures spelled { (bytes : List ℕ) (image : Parts) → length bytes ≤ most_image_bytes → IsSpelled bytes image → carried_by bytes ≡ Ok (alone image) }
 {}
 
 /// What was stored of a text runs as the text does: on every input of bytes and within all limits
-/// executing the image comes to just what running the text comes to. It is asked that the image's
-/// counts and lines are below 2 to the power 32, and that it is no longer than an image may be.
+/// executing the image comes to just what running the text comes to. It is asked that it is no longer
+/// than an image may be.
 pub fn a_stored_image_runs_as_its_text()
     ensures { (files : Names) (from to : List ℕ) → HasCompiled files from to → RunsTheSame files from to }
 {}

@@ -2,9 +2,9 @@
 use Rattle.std.proofs.Common.{ℕ, List, Some, refl, arith}
 use Rattle.rc_base.specs.declared.ends.Limits.{Limits}
 use Rattle.rc_answers.specs.declared.answer.Done.{Done}
-use Rattle.rc_answers.specs.declared.answer.Done.TheVariants.{Ended, StaleImage, Refused, ImageRefused, Wrote, Reported, Usage}
+use Rattle.rc_answers.specs.declared.answer.Done.TheVariants.{Ended, StaleImage, Refused, ImageRefused, UnitRefused, LinkRefused, Wrote, Reported, Usage}
 use Rattle.rc_outcomes.specs.MayAnswer.{MayAnswer}
-use Rattle.rc_outcomes.proofs.Ways.{the_only}
+use Rattle.rc_outcomes.proofs.Ways.{not_quiet, the_only}
 use Rattle.rc_requests.specs.Request.{Run, Compile}
 use Rattle.rc_text_files.specs.Programs.{IsEnd}
 use Rattle.rc_programs.specs.Running.{RunsInHeap}
@@ -16,13 +16,14 @@ run_row name limits = record {
     text = record {
       reads = (0, omega arith, refl);
       only = λ other read. the_only name other read;
+      no_shorter = λ bytes. omega arith;
       may_refuse = λ refusal. tt;
       is_outcome = λ files input outcome is. is;
       outcome_is = λ files input outcome is. is;
     };
     takes = refl;
     writes = refl;
-    told = λ before tells. (tells.input refl, tells.bytes refl refl);
+    told = λ before done run tells. (tells.input (not_quiet done run) refl, tells.bytes (not_quiet done run) refl refl);
     may_end = may_end;
   };
   heap = refl;
@@ -32,6 +33,8 @@ run_row name limits = record {
   may_end (StaleImage line) is = is
   may_end (Refused refusal) is = tt
   may_end (ImageRefused refusal) is = is
+  may_end (UnitRefused file refusal) is = is
+  may_end (LinkRefused refusal) is = is
   may_end Wrote is = is
   may_end Reported is = is
   may_end Usage is = is
@@ -41,10 +44,12 @@ compile_row from to = record {
   text = record {
     reads = (0, omega arith, refl);
     only = λ other read. the_only from other read;
+    no_shorter = λ bytes. omega arith;
     may_refuse = λ refusal. tt;
     is_outcome = λ files input outcome is. is;
     outcome_is = λ files input outcome is. is;
   };
   stores = refl;
   may_write = tt;
+  stores_program = λ files files' all. all;
 }

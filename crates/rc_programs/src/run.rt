@@ -1,8 +1,8 @@
 // Runs the image of a file's program.
 ghost use Rattle.std.specs.Prelude.{Option};
 ghost use Rattle.rc_base.specs.Sinks.{SinkState};
-ghost use Rattle.rc_core.specs.Meaning.{left};
 ghost use Rattle.rc_exec.specs.Executing.{TellsBytes};
+ghost use Rattle.rc_outcomes.specs.Outcome.{as_left};
 ghost use Rattle.rc_outcomes.specs.Outside.{outside};
 ghost use Rattle.rc_outcomes.specs.Performing.{Performs};
 ghost use Rattle.rc_requests.specs.Request.{Request};
@@ -43,7 +43,7 @@ fn run_text<S: Source, O: Sink, H: Heap>(
     heap: &mut H,
 ) -> Result<Done, Fault>
     requires { IsNew (H.store heap.old) }
-    ensures { RanText left (TellsBytes (S.state input.old)) text.now limits.now (S.state input.old) (S.state input.new) (O.state out.old) (O.state out.new) (H.store heap.old) (H.store heap.new) result }
+    ensures { RanText as_left (TellsBytes (S.state input.old)) text.now limits.now (S.state input.old) (S.state input.new) (O.state out.old) (O.state out.new) (H.store heap.old) (H.store heap.new) result }
 {
     match ready(alloc, text) {
         Ok(code) => as_end(run_loaded(alloc, &code, limits, heap, input, out)),

@@ -5,10 +5,10 @@ use Rattle.rc_base.specs.Sources.{SourceState}
 use Rattle.rc_base.specs.declared.ends.End.{End}
 use Rattle.rc_base.specs.declared.ends.Limits.{Limits}
 use Rattle.rc_base.specs.declared.outside.NoMemory.{NoMemory}
-use Rattle.rc_build.specs.Built.{HasImage}
+use Rattle.rc_unchecked.specs.Images.{HasImage}
 use Rattle.rc_code.specs.declared.image.Parts.{Parts}
 use Rattle.rc_code.specs.ImageMeaning.{image_left, image_meaning}
-use Rattle.rc_core.specs.Meaning.{Left, Meaning, left, meaning}
+use Rattle.rc_core.specs.Meaning.{Left, Meaning, meaning}
 use Rattle.rc_core.specs.Programs.{Program}
 use Rattle.rc_core.specs.Runs.{Ends, Stale, Stop}
 use Rattle.rc_exec.specs.Executing.{TellsBytes, comes_of}
@@ -16,7 +16,7 @@ use Rattle.rc_store.specs.Kept.{KeptStore}
 use Rattle.rc_answers.specs.declared.answer.Done.{Done}
 use Rattle.rc_answers.specs.declared.answer.Done.TheVariants.{Ended}
 use Rattle.rc_answers.specs.declared.answer.Fault.{Fault}
-use Rattle.rc_outcomes.specs.Outcome.{IsLeft, end_as, unpinned}
+use Rattle.rc_outcomes.specs.Outcome.{IsLeft, as_left, end_as, unpinned}
 use Rattle.rc_outcomes.specs.Runs.{Ran}
 use Rattle.rc_reports.specs.Reports.{removed_count}
 use Rattle.rc_summaries.specs.declared.summary.Summary.{Summary}
@@ -35,7 +35,7 @@ ran_alone image limits input input' out out' heap' ran (Ok end) told none r is =
     let s = subst (Ran (TellsBytes input) (comes_of image limits) input input' out out' heap') is r in
     record {
       ends = subst (λ rest. (image_meaning image rest limits).end ≡ Ends end) none (ends_so (image_meaning image input.rest limits).end end (s.done told));
-      left = subst (λ rest. IsLeft (unpinned (image_left image rest limits)) heap') none (s.left told);
+      left = subst (λ rest. IsLeft (unpinned limits (image_left image rest limits)) heap') none (s.left told);
     }
 
 -- a program's image ends as the program does, and leaves what it leaves
@@ -43,8 +43,8 @@ module _ (program : Program) (image : Parts) (has : HasImage program image) (lim
   pub ends_as_program : EndsSo program limits end
   ends_as_program = record { ends = subst (λ (m : Meaning). m.end ≡ Ends end) (has.means [] limits tt).0 ran.ends }
 
-  pub left_as_program : IsLeft (unpinned (left program [] limits)) heap'
-  left_as_program = subst (λ (l : Option Left). IsLeft (unpinned l) heap') (has.means [] limits tt).1 ran.left
+  pub left_as_program : IsLeft (as_left program [] limits) heap'
+  left_as_program = subst (λ (l : Option Left). IsLeft (unpinned limits l) heap') (has.means [] limits tt).1 ran.left
 
 -- a run has one end
 pub one_end : (program : Program) (limits : Limits) (one other : End) → EndsSo program limits one → EndsSo program limits other → one ≡ other

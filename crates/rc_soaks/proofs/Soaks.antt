@@ -4,7 +4,6 @@ use Rattle.rc_base.specs.Sinks.{SinkState}
 use Rattle.rc_base.specs.declared.ends.End.{End}
 use Rattle.rc_compile.specs.Answers.{IsOnlyProgram, IsOnlyRefusal}
 use Rattle.rc_compile.specs.declared.refusal.Refusal.{Refusal}
-use Rattle.rc_core.specs.Meaning.{left}
 use Rattle.rc_core.specs.Programs.{Program}
 use Rattle.rc_gen.specs.Program.{generated}
 use Rattle.rc_inspect.specs.Inspected.{IsReportOf}
@@ -18,7 +17,7 @@ use Rattle.rc_answers.specs.declared.answer.Done.TheVariants.{Refused}
 use Rattle.rc_answers.specs.declared.answer.Fault.{Fault}
 use Rattle.rc_answers.specs.declared.answer.Fault.TheVariants.{Memory}
 use Rattle.rc_outcomes.specs.Footprint.{footprint}
-use Rattle.rc_outcomes.specs.Outcome.{Outcome, Soaks, accepts, answers, refuses, reports_leaving, unpinned}
+use Rattle.rc_outcomes.specs.Outcome.{Outcome, Soaks, accepts, answers, refuses, reports_leaving, as_left}
 use Rattle.rc_outcomes.specs.Outside.{Outside, outside}
 use Rattle.rc_outcomes.specs.Performing.{Performs}
 use Rattle.rc_outcomes.specs.Reporting.{WritesReport}
@@ -45,7 +44,7 @@ module _ (request : Option Request) (number : ℕ) (row : SoaksOf request number
   -- what the program of the text comes to
   module _ (program : Program) (entries : List Entry) (end : End) (only : IsOnlyProgram (generated number) program) (report : IsReportOf program entries) (ends : EndsSo program usual_limits end) where
     abbrev outcome_of : List Entry → End → Outcome
-    outcome_of all stop = reports_leaving (summary_text (summary_of number program all stop)) (unpinned (left program [] usual_limits))
+    outcome_of all stop = reports_leaving (summary_text (summary_of number program all stop)) (as_left program [] usual_limits)
 
     only_outcome : (outcome : Outcome) → Soaks number program outcome → outcome ≡ outcome_of entries end
     only_outcome outcome is =
@@ -53,7 +52,7 @@ module _ (request : Option Request) (number : ℕ) (row : SoaksOf request number
         ∙ ap (λ (all : List Entry). outcome_of all is.end) (one_report (region_of_program program) is.entries entries is.report report)
         ∙ ap (outcome_of entries) (one_end program usual_limits is.end end (record { ends = is.ends }) ends)
 
-    writes_summary : WritesReport request before (summary_text (summary_of number program entries end)) (unpinned (left program [] usual_limits))
+    writes_summary : WritesReport request before (summary_text (summary_of number program entries end)) (as_left program [] usual_limits)
     writes_summary = record {
       writes_out = row.writes_out;
       may_report = row.may_report;
@@ -63,7 +62,7 @@ module _ (request : Option Request) (number : ℕ) (row : SoaksOf request number
 
     is_summed : (out' : SinkState) (heap' : KeptStore) (result : Result Done Fault) → Soaked number program usual_limits entries end before.out out' heap' result → Performs request before (outside before.files before.input out' before.err heap') result
     is_summed out' heap' result s =
-        made_report request before before.files out' heap' (summary_text (summary_of number program entries end)) (unpinned (left program [] usual_limits)) has writes_summary
+        made_report request before before.files out' heap' (summary_text (summary_of number program entries end)) (as_left program [] usual_limits) has writes_summary
         (λ e. absurd (is_not (footprint request).uses_heap row.uses_heap e)) result s.summed s.left
 
   as_before : (out' : SinkState) (heap' : KeptStore) (result : Result Done Fault) → out' ≡ before.out → heap' ≡ before.heap → Performs request before (outside before.files before.input before.out before.err before.heap) result → Performs request before (outside before.files before.input out' before.err heap') result

@@ -4,12 +4,12 @@ use Rattle.rc_base.specs.Shelves.{Names}
 use Rattle.rc_base.specs.Sinks.{SinkState}
 use Rattle.rc_base.specs.declared.ends.End.{End}
 use Rattle.rc_base.specs.declared.ends.Limits.{Limits}
-use Rattle.rc_build.specs.Built.{HasImage}
+use Rattle.rc_unchecked.specs.Images.{HasImage}
 use Rattle.rc_code.specs.declared.image.Parts.{Parts}
 use Rattle.rc_code.specs.ImageMeaning.{image_left, image_meaning}
 use Rattle.rc_compile.specs.Answers.{IsOnlyProgram, IsOnlyRefusal}
 use Rattle.rc_compile.specs.declared.refusal.Refusal.{Refusal}
-use Rattle.rc_core.specs.Meaning.{left, meaning}
+use Rattle.rc_core.specs.Meaning.{meaning}
 use Rattle.rc_core.specs.Programs.{Program}
 use Rattle.rc_core.specs.Runs.{Ends}
 use Rattle.rc_gen.specs.Program.{generated}
@@ -25,7 +25,7 @@ use Rattle.rc_answers.specs.declared.answer.Fault.{Fault}
 use Rattle.rc_answers.specs.declared.answer.Fault.TheVariants.{Memory}
 use Rattle.rc_outcomes.specs.Footprint.{UsesFiles, footprint}
 use Rattle.rc_outcomes.specs.MayAnswer.{MayAnswer}
-use Rattle.rc_outcomes.specs.Outcome.{IsLeft, IsOutcome, OfText, Outcome, Soaks, unpinned}
+use Rattle.rc_outcomes.specs.Outcome.{IsLeft, IsOutcome, OfText, Outcome, Soaks, as_left, unpinned}
 use Rattle.rc_outcomes.specs.Reporting.{MadeReport}
 use Rattle.rc_requests.specs.Request.{Request}
 use Rattle.rc_soaks.specs.declared.made.Made.{Made}
@@ -39,7 +39,7 @@ pub record IsMadeOf (program : Program) (made : Made) : Type 0 where
 -- within these limits and without input the image runs to this end, and the heap is left as its meaning leaves it
 pub record RanAlone (image : Parts) (limits : Limits) (end : End) (heap' : KeptStore) : Type 0 where
   pub ends : (image_meaning image [] limits).end ≡ Ends end
-  pub left : IsLeft (unpinned (image_left image [] limits)) heap'
+  pub left : IsLeft (unpinned limits (image_left image [] limits)) heap'
 
 -- within these limits and without input the program runs to this end
 pub record EndsSo (program : Program) (limits : Limits) (end : End) : Type 0 where
@@ -52,7 +52,7 @@ summary_of number program entries end = record { number = number; functions = le
 -- a program with this report and this end was run within the limits, and its summary written
 pub record Soaked (number : ℕ) (program : Program) (limits : Limits) (entries : List Entry) (end : End) (out out' : SinkState) (heap' : KeptStore) (result : Result Done Fault) : Type 0 where
   pub summed : MadeReport (summary_text (summary_of number program entries end)) out out' result
-  pub left : OnOk result (IsLeft (unpinned (left program [] limits)) heap')
+  pub left : OnOk result (IsLeft (as_left program [] limits) heap')
 
 -- a text is a program that was soaked, or is refused; or there was no memory to make its image and its report
 pub data SoakedText (number : ℕ) (text : List ℕ) (limits : Limits) (out out' : SinkState) (heap heap' : KeptStore) : Result Done Fault → Type 0 where

@@ -1,2 +1,3 @@
 pub mod TextFiles
 pub mod RunTexts
+pub mod SeveralTexts

@@ -56,7 +56,7 @@ refused_so Made text outcome k only (refuses other is comes) = comes ∙ ap (λ 
 
 -- ---- what is made
 
-module _ (request : Option Request) (name : List ℕ) (Made : List ℕ → Program → Outcome → Type 0) (row : TextOf request name Made) (before : Outside) (files' : ShelfState) where
+module _ (request : Option Request) (name : List ℕ) (text_of : List ℕ → List ℕ) (Made : List ℕ → Program → Outcome → Type 0) (row : TextOf request name text_of Made) (before : Outside) (files' : ShelfState) where
   pub uses : UsesFiles (footprint request)
   uses = (name, inl row.reads)
 
@@ -67,27 +67,27 @@ module _ (request : Option Request) (name : List ℕ) (Made : List ℕ → Progr
     pub has_read : HasRead request before files'
     has_read = one_file.has_read request name row.reads before files' Holds l row.only
 
-    pub some_made : (outcome : Outcome) → ((bytes : List ℕ) → Holds bytes → OfText (Made before.input.rest) bytes outcome) → (UsesFiles (footprint request) → IsTrue before.files.tells) → IsOutcome request before.files.names before.input.rest outcome
+    pub some_made : (outcome : Outcome) → ((bytes : List ℕ) → Holds bytes → OfText (Made before.input.rest) (text_of bytes) outcome) → (UsesFiles (footprint request) → IsTrue before.files.tells) → IsOutcome request before.files.names before.input.rest outcome
     some_made outcome is told = let file = l.holds (told uses) in row.is_outcome before.files.names before.input.rest outcome (file.0, file.1, is file.0 file.2)
 
-    pub only_made : (outcome : Outcome) → Comes request before outcome → (bytes : List ℕ) × Holds bytes × OfText (Made before.input.rest) bytes outcome
+    pub only_made : (outcome : Outcome) → Comes request before outcome → (bytes : List ℕ) × Holds bytes × OfText (Made before.input.rest) (text_of bytes) outcome
     only_made outcome comes =
         let file = l.holds (comes.told.files uses) in
         let found = row.outcome_is before.files.names before.input.rest outcome comes.comes in
-        (file.0, file.2, subst (λ (t : List ℕ). OfText (Made before.input.rest) t outcome) (same_text before.files.names name found.0 file.0 found.1 file.1) found.2)
+        (file.0, file.2, subst (λ (b : List ℕ). OfText (Made before.input.rest) (text_of b) outcome) (same_text before.files.names name found.0 file.0 found.1 file.1) found.2)
 
-    pub refused_text : (input' : SourceState) (out' : SinkState) (k : Refusal) → ((bytes : List ℕ) → Holds bytes → IsOnlyRefusal bytes k) → Untouched before.input input' before.out out' → Performs request before (outside files' input' out' before.err before.heap) (Ok (Refused k))
+    pub refused_text : (input' : SourceState) (out' : SinkState) (k : Refusal) → ((bytes : List ℕ) → Holds bytes → IsOnlyRefusal (text_of bytes) k) → Untouched before.input input' before.out out' → Performs request before (outside files' input' out' before.err before.heap) (Ok (Refused k))
     refused_text input' out' k only same =
         is_refused request before files' input' out' (Refused k) has_read same tt (row.may_refuse k)
         (λ told. some_made (answers (Refused k)) (λ bytes h. refuses k (only bytes h).refused refl) told)
-        (λ outcome comes. (let m = only_made outcome comes in refused_so (Made before.input.rest) m.0 outcome k (only m.0 m.1) m.2))
+        (λ outcome comes. (let m = only_made outcome comes in refused_so (Made before.input.rest) (text_of m.0) outcome k (only m.0 m.1) m.2))
 
     pub no_memory_then : (input' : SourceState) (out' : SinkState) → Untouched before.input input' before.out out' → Performs request before (outside files' input' out' before.err before.heap) (Err Memory)
     no_memory_then input' out' same = fails_before request before files' input' out' Memory only_reads same (fails_by_memory l.kept)
 
   -- the file is longer than a text
   pub too_long : LoadedText name before.files files' (Err TooLong) → Performs request before (outside files' before.input before.out before.err before.heap) (Ok (Refused refusal.TooLong))
-  too_long l = refused_text IsTooLong l before.input before.out refusal.TooLong (λ bytes long. too_long_only bytes long) (untouched before.input before.out)
+  too_long l = refused_text IsTooLong l before.input before.out refusal.TooLong (λ bytes long. too_long_only (text_of bytes) (let more = row.no_shorter bytes in omega (arith, long, more))) (untouched before.input before.out)
 
   pub failed : (fault : Fault) → LoadedText name before.files files' (Err (Failed fault)) → Performs request before (outside files' before.input before.out before.err before.heap) (Err fault)
   failed fault l = one_file.fails_to_load request name row.reads before files' fault l

@@ -7,6 +7,7 @@ use Rattle.rc_compile.specs.Answers.{IsOnlyProgram, IsOnlyRefusal}
 use Rattle.rc_compile.specs.declared.refusal.Refusal.{Refusal}
 use Rattle.rc_core.specs.Meaning.{meaning}
 use Rattle.rc_core.specs.Programs.{Program}
+use Rattle.rc_answers.specs.Answers.{IsRun}
 use Rattle.rc_answers.specs.declared.answer.Done.{Done}
 use Rattle.rc_answers.specs.declared.answer.Done.TheVariants.{Ended, Refused}
 use Rattle.rc_answers.specs.declared.answer.Fault.{Fault}
@@ -40,10 +41,10 @@ pub data RanText (leaves : Leaving) (Told : Type 0) (text : List ℕ) (limits : 
   refused : (refusal : Refusal) → IsOnlyRefusal text refusal → Untouched input input' out out' → heap' ≡ heap → RanText leaves Told text limits input input' out out' heap heap' (Ok (Refused refusal))
   no_memory : Untouched input input' out out' → heap' ≡ heap → RanText leaves Told text limits input input' out out' heap heap' (Err Memory)
 
--- the rows of the tables say of a request that it runs the program of this file
-pub record RunsTextOf (request : Option Request) (name : List ℕ) (limits : Limits) (leaves : Leaving) (Told : SourceState → Type 0) : Type 0 where
-  pub text : TextOf request name (Runs leaves limits)
+-- the rows of the tables say of a request that it runs the program of the text that is made of this file's bytes
+pub record RunsTextOf (request : Option Request) (name : List ℕ) (text_of : List ℕ → List ℕ) (limits : Limits) (leaves : Leaving) (Told : SourceState → Type 0) : Type 0 where
+  pub text : TextOf request name text_of (Runs leaves limits)
   pub takes : IsTrue (footprint request).takes_input
   pub writes : IsTrue (footprint request).writes_out
-  pub told : (before : Outside) → TellsWhatIsUsed (footprint request) before → Told before.input
+  pub told : (before : Outside) (done : Done) → IsRun done → TellsWhatIsUsed (footprint request) done before → Told before.input
   pub may_end : (done : Done) → IsEnd done → MayAnswer request done

@@ -4,5 +4,7 @@
 #![tactic(auto)]
 
 mod text_file;
+mod text_files;
 
 pub use text_file::{NoText, load_text};
+pub use text_files::{FileText, load_texts};

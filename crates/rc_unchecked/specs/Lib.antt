@@ -1,3 +1,4 @@
 pub mod Unchecked
 pub mod Right
 pub mod Compiled
+pub mod Images

@@ -1,6 +1,6 @@
 use Rattle.std.proofs.Common.{◌≡◌, ℕ, List, Ok, Err, length, ap, subst}
 use Rattle.rc_image_files.specs.Loading.{MaySay, beyond, whole}
-use Rattle.rc_outcomes.specs.Images.{read_as}
+use Rattle.rc_outcomes.specs.Images.{alone, read_as}
 use Rattle.rc_image_files.proofs.image_file.image_in_piece.Goals as goal
 use Rattle.rc_image.specs.Reading.{parts_of}
 
@@ -10,7 +10,7 @@ returns-then-not-piece c = beyond c.if-not-piece.true
 pub returns-in-Ok : goal.returns-in-Ok
 returns-in-Ok c =
     whole (Ok c.in-Ok.image) c.if-not-piece.false
-    (subst (λ (b : List ℕ). read_as (length b) (parts_of b) ≡ Ok c.in-Ok.image) c.as_slice.ensures (ap (read_as (length c.as_slice.result.now)) c.in-Ok.ensures.exact))
+    (subst (λ (b : List ℕ). read_as (length b) (parts_of b) ≡ Ok (alone c.in-Ok.image)) c.as_slice.ensures (ap (read_as (length c.as_slice.result.now)) c.in-Ok.ensures.exact))
 
 pub returns-in-Err : goal.returns-in-Err
 returns-in-Err c =

@@ -1,6 +1,6 @@
 use Rattle.std.proofs.Common.{◌∙◌, ℕ, List, Err, ap, subst, sym}
 use Rattle.rc_answers.specs.declared.answer.Fault.{Fault}
-use Rattle.rc_outcomes.specs.Outcome.{ReportsOn}
+use Rattle.rc_outcomes.specs.Outcome.{ReportsOn, as_they_are}
 use Rattle.rc_outcomes.specs.Outside.{outside}
 use Rattle.rc_outcomes.specs.Performing.{Performs}
 use Rattle.rc_text_files.specs.Texts.{LoadedText}
@@ -16,11 +16,11 @@ returns-in-Ok g c = λ request input err heap row.
 
 pub returns-in-Err-TooLong : goal.returns-in-Err-TooLong
 returns-in-Err-TooLong g c = λ request input err heap row.
-    too_long request c.args.name.now ReportsOn row.text (outside (g.F.Shelf.state c.args.files.now) input (g.O.Sink.state c.args.out.now) err heap) (g.F.Shelf.state c.load_text.new.files)
+    too_long request c.args.name.now as_they_are ReportsOn row.text (outside (g.F.Shelf.state c.args.files.now) input (g.O.Sink.state c.args.out.now) err heap) (g.F.Shelf.state c.load_text.new.files)
     (subst (LoadedText c.args.name.now (g.F.Shelf.state c.args.files.now) (g.F.Shelf.state c.load_text.new.files)) (c.in-Err-TooLong.is ∙ ap Err c.in-Err-TooLong.field-0-is) c.load_text.ensures)
 
 pub returns-in-Err-Failed : goal.returns-in-Err-Failed
 returns-in-Err-Failed g c = λ request input err heap row.
     subst (λ (fault : Fault). Performs request (outside (g.F.Shelf.state c.args.files.now) input (g.O.Sink.state c.args.out.now) err heap) (outside (g.F.Shelf.state c.load_text.new.files) input (g.O.Sink.state c.args.out.now) err heap) (Err fault)) (sym c.in-Err-Failed.fault-is)
-    (failed request c.args.name.now ReportsOn row.text (outside (g.F.Shelf.state c.args.files.now) input (g.O.Sink.state c.args.out.now) err heap) (g.F.Shelf.state c.load_text.new.files) c.in-Err-Failed.fault
+    (failed request c.args.name.now as_they_are ReportsOn row.text (outside (g.F.Shelf.state c.args.files.now) input (g.O.Sink.state c.args.out.now) err heap) (g.F.Shelf.state c.load_text.new.files) c.in-Err-Failed.fault
     (subst (LoadedText c.args.name.now (g.F.Shelf.state c.args.files.now) (g.F.Shelf.state c.load_text.new.files)) (c.in-Err-Failed.is ∙ ap Err c.in-Err-Failed.field-0-is) c.load_text.ensures))

@@ -9,7 +9,7 @@ use Rattle.rc_programs.proofs.compile.compile_text.Goals as goal
 pub returns-in-Ok : goal.returns-in-Ok
 returns-in-Ok g c =
     let built = c.in-Ok.ensures in
-    made built.program c.in-Ok.image c.store_image.result built.compiles built.has.compiled c.store_image.ensures
+    made built.program c.in-Ok.image c.store_image.result built.compiles built.has c.store_image.ensures
 
 pub returns-in-Err-Refused : goal.returns-in-Err-Refused
 returns-in-Err-Refused g c = subst (λ (refusal : Refusal). CompiledText c.args.text.now c.args.to.now (g.F.Shelf.state c.args.files.now) (g.F.Shelf.state c.args.files.now) (Ok (Refused refusal))) (sym c.in-Err-Refused.refusal-is)

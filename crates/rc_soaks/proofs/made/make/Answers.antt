@@ -1,6 +1,6 @@
 use Rattle.std.proofs.Common.{arith, length, subst, sym, ap}
 use Rattle.std.proofs.lemmas.List.{length-map}
-use Rattle.rc_build.specs.Built.{HasImage}
+use Rattle.rc_unchecked.specs.Images.{HasImage}
 use Rattle.rc_core.specs.Shapes.{function_of, program_of}
 use Rattle.rc_core.specs.declared.parts.Parts.{Parts}
 use Rattle.rc_soaks.proofs.made.make.Goals as goal
