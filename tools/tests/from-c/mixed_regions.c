@@ -1,6 +1,7 @@
 /* from-c: --region scratch */
 /* A program that has regions already: what it allocates by malloc goes into the parameter, or the global, scratch. */
 #include "regions.h"
+#undef malloc
 #include <stdlib.h>
 
 typedef struct item { int value; struct item *next; } item;
