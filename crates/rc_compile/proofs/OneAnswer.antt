@@ -103,7 +103,7 @@ unread_or_words : (text : List ℕ) (k : Refusal) (tokens : List Token) → Unre
 unread_or_words text k tokens (byte m x) has = read_or_stopped text tokens x.0 m has.words x.1
 unread_or_words text k tokens (token m x) has = read_or_stopped text tokens x.0 m has.words x.1
 
-same_words : (text : List ℕ) (a b : List Token) → HasWords text a → HasWords text b → a ≡ b
+pub same_words : (text : List ℕ) (a b : List Token) → HasWords text a → HasWords text b → a ≡ b
 same_words text a b x y = one_list text a b x.words y.words
 
 no_tree_or_has : (text : List ℕ) (tokens : List Token) (k : Refusal) (tree : Tree) → HasWords text tokens → NoTree tokens k → HasTree text tree → ⊥

@@ -49,8 +49,13 @@ fn tree_behind(alloc: Global, _text: &[u8], tokens: &[Token]) -> Result<Tree, Co
     }
 }
 
-/// The tree of a text.
-fn tree(alloc: Global, text: &[u8]) -> Result<Tree, CompileFault>
+/// The tree of a text, with the line of its last word, by its length, its words and its syntax alone.
+///
+/// # Errors
+///
+/// `Refused` with the text's one refusal, where it is one of the first five: `TooLong`, `Byte`,
+/// `Token`, `Syntax` or `Deep`. `Memory` when out of memory.
+pub fn tree(alloc: Global, text: &[u8]) -> Result<Tree, CompileFault>
     ensures { FindsTree text.now result }
 {
     let tokens = words(alloc, text)?;

@@ -8,7 +8,7 @@ pub mod fault;
 mod laws;
 pub mod refusal;
 
-pub use compiling::program;
+pub use compiling::{program, tree};
 pub use decided::{a_program_deletes_in_place, a_text_is_a_program_or_refused};
 pub use fault::CompileFault;
 pub use laws::a_text_has_one_answer;

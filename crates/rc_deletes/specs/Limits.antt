@@ -1,5 +1,5 @@
--- What a tree keeps so that its program fits together: numbers as words have them, some field in every struct, and the limits of
--- strings.
+-- What a tree keeps so that its program fits together, beside numbers as words have them: some field in every struct, and the limits
+-- of strings.
 use Rattle.std.specs.Prelude.{◌≡◌, ℕ, ◌≤◌, List, [], ◌∷◌, Some, length, slice_get}
 use Rattle.rc_base.specs.Limits.{most_program_words, most_string_bytes}
 use Rattle.rc_syntax.specs.Tokens as w
@@ -7,7 +7,6 @@ use Rattle.rc_syntax.specs.Tokens.{Word}
 use Rattle.rc_syntax.specs.Tree as t
 use Rattle.rc_syntax.specs.Grammar.{Placed}
 use Rattle.rc_deletes.specs.Items.{context_of, at_the_start, behind_items}
-use Rattle.rc_deletes.specs.Ranges.{ItemsInRange}
 
 abbrev pub HasFields : List t.Item → Type 0
 HasFields [] = Unit {0}
@@ -19,8 +18,7 @@ HasFields (t.function at deletes result name params body ∷ is) = HasFields is
 abbrev pub strings_of : t.Tree → List (List ℕ)
 strings_of tree = (behind_items (context_of tree.items) at_the_start tree.items).strings
 
-pub record KeepsLimits (tree : t.Tree) : Type 0 where
-  pub numbers : ItemsInRange tree.items
+pub record IsLimited (tree : t.Tree) : Type 0 where
   pub fields : HasFields tree.items
   pub number_of_strings : length (strings_of tree) ≤ most_program_words
   pub strings : (k : ℕ) (bytes : List ℕ) → slice_get (strings_of tree) k ≡ Some bytes → length bytes ≤ most_string_bytes

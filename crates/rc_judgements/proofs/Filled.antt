@@ -7,8 +7,7 @@ use Rattle.rc_syntax.specs.declared.tree.Base.{Base}
 use Rattle.rc_syntax.specs.Tree as t
 use Rattle.rc_syntax.specs.Grammar as g
 use Rattle.rc_syntax.specs.Grammar.{Symbol, TreeOf, Placed, Part, word, node, Rule, BeginAt, Derives, GlobalDeclarator, global}
-use Rattle.rc_deletes.specs.Ranges.{ItemsInRange}
-use Rattle.rc_deletes.specs.Limits.{HasFields, KeepsLimits, AreShort}
+use Rattle.rc_deletes.specs.Limits.{HasFields, IsLimited, AreShort}
 use Rattle.rc_judgements.proofs.Derived.{KnownAll, k_done, k_word, k_node, derived}
 use Rattle.rc_judgements.proofs.Strings.{strings_of_text, strings_are, few_strings, short_strings}
 
@@ -60,11 +59,10 @@ filled_step g.FieldDecs e rule all = decs_filled rule all
 filled_step s e rule all = tt
 
 -- a text of so many words with short enough string literals keeps the limits
-pub keeps_limits : (is : List t.Item) (ws : List Placed) → Derives ws (node g.Text is) → length ws ≤ 16777216 → AreShort ws → ItemsInRange is → KeepsLimits (record { items = is })
-keeps_limits is ws d few short numbers =
+pub keeps_limits : (is : List t.Item) (ws : List Placed) → Derives ws (node g.Text is) → length ws ≤ 16777216 → AreShort ws → IsLimited (record { items = is })
+keeps_limits is ws d few short =
     let same = strings_are (record { items = is }) ∙ strings_of_text is ws d in
     record {
-      numbers = numbers;
       fields = derived Filled (λ s at a ps ws e rule all. filled_step s e rule all) d;
       number_of_strings = subst (λ l. length l ≤ 16777216) (sym same) (omega (arith, few_strings ws, few));
       strings = subst (λ l. (k : ℕ) (bytes : List ℕ) → slice_get l k ≡ Some bytes → length bytes ≤ 1048576) (sym same) (short_strings ws short);

@@ -16,7 +16,8 @@ use Rattle.rc_deletes.specs.Scopes.{Context, fields_in, struct_names, Scope, Mea
 use Rattle.rc_deletes.specs.Items.{is_among, Definition, names_of, with_structs, struct_definitions, types_in, function_names, field_of, shape_of, context_of, at_the_start, behind_items, Made, items, main_name, program_of}
 use Rattle.rc_deletes.specs.Places.{deletes_faults}
 use Rattle.rc_deletes.specs.Answer.{main_fault, main_or, first_place, first_of, IsProgramOf}
-use Rattle.rc_deletes.specs.Limits.{HasFields, KeepsLimits}
+use Rattle.rc_deletes.specs.Limits.{HasFields, IsLimited}
+use Rattle.rc_deletes.specs.Ranges.{ItemsInRange}
 use Rattle.rc_judgements.proofs.Held.{Held, Given}
 use Rattle.rc_deletes.proofs.Naming.{own_name, name_at}
 use Rattle.rc_judgements.proofs.WellTypedCalls.{IsThere}
@@ -156,9 +157,9 @@ module _ (is : List t.Item) (made : Made) (e : items (context_of is) at_the_star
         (subst (λ x. IfSome x (IsVariable program.structs)) q r).0;
   }
 
-  fits : KeepsLimits (record { items = is }) → Every (Every IsByte) program.strings → deletes_faults (record { items = is }) program ≡ [] → IsWellTyped program
-  fits limits bytes none =
-      let bodies : AllFunctionsFit program (context_of is) refl defined last there made.functions = of_held _ (items (context_of is) at_the_start is) made (functions_fit program (context_of is) refl defined last there is at_the_start (λ n m h. h) (omega arith) limits.numbers) e in
+  fits : ItemsInRange is → IsLimited (record { items = is }) → Every (Every IsByte) program.strings → deletes_faults (record { items = is }) program ≡ [] → IsWellTyped program
+  fits numbers limits bytes none =
+      let bodies : AllFunctionsFit program (context_of is) refl defined last there made.functions = of_held _ (items (context_of is) at_the_start is) made (functions_fit program (context_of is) refl defined last there is at_the_start (λ n m h. h) (omega arith) numbers) e in
       let placed = of_held (AreInPlace program (context_of is) is) (items (context_of is) at_the_start is) made (functions_in_place program (context_of is) is at_the_start) e [] refl none in
       let main = all_functions.3 tt in
       let at_main : slice_get all_functions.0 main.0 ≡ Some main_name = subst (λ x. slice_get x main.0 ≡ Some main_name) all_functions.1 (name_at (function_names is) main_name main.0 main.1) in
@@ -179,9 +180,9 @@ module _ (is : List t.Item) (made : Made) (e : items (context_of is) at_the_star
         main = (g.0, (rw main.1 g.1, shape.0, shape.1));
       }
 
-pub fits_together : (tree : t.Tree) (program : p.Program) → KeepsLimits tree → Every (Every IsByte) program.strings → IsProgramOf tree program → IsWellTyped program
-fits_together tree program limits bytes h =
+pub fits_together : (tree : t.Tree) (program : p.Program) → ItemsInRange tree.items → IsLimited tree → Every (Every IsByte) program.strings → IsProgramOf tree program → IsWellTyped program
+fits_together tree program numbers limits bytes h =
     let by = held_by (items (context_of tree.items) at_the_start tree.items) tree.items program h.0 in
     let answered : first_of tree (Holds program) ≡ None = subst (λ x. first_of tree x ≡ None) h.0 h.1 in
     let none = no_fault (main_fault tree.items) (deletes_faults tree program) answered in
-    subst IsWellTyped by.2 (fits tree.items by.0 by.1 none.0 limits (subst (λ (x : p.Program). Every (Every IsByte) x.strings) (sym by.2) bytes) (subst (λ x. deletes_faults tree x ≡ []) (sym by.2) none.1))
+    subst IsWellTyped by.2 (fits tree.items by.0 by.1 none.0 numbers limits (subst (λ (x : p.Program). Every (Every IsByte) x.strings) (sym by.2) bytes) (subst (λ x. deletes_faults tree x ≡ []) (sym by.2) none.1))

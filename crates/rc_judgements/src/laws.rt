@@ -12,7 +12,7 @@ ghost use Rattle.rc_deletes.specs.Answer.{IsProgramOf};
 ghost use Rattle.rc_deletes.specs.Builtins.{row};
 ghost use Rattle.rc_deletes.specs.Scopes.{Meaning, a_builtin, meaning_in};
 ghost use Rattle.rc_deletes.specs.declared.builtin.Builtin.{Builtin};
-ghost use Rattle.rc_deletes.specs.Limits.{AreShort, KeepsLimits};
+ghost use Rattle.rc_deletes.specs.Limits.{AreShort, IsLimited};
 ghost use Rattle.rc_deletes.specs.Ranges.{ItemsInRange};
 ghost use Rattle.rc_base.specs.Limits.{most_program_words};
 ghost use Rattle.rc_syntax.specs.Grammar.{Derives, Placed, node, placed, Text};
@@ -49,18 +49,18 @@ pub fn has_program_or_violation(_tree: &Tree)
     ensures { ((a : Program) × Typed (written.tree_of _tree.now) a) ↔ ((at : Spot) (refusal : Refusal) → ¬ Violation (written.tree_of _tree.now) at refusal) }
 {}
 
-/// The program of a tree that nothing refuses fits together, where the tree keeps its limits: its
-/// numbers are those of words, each of its structs has a field, and its strings are few and short
-/// enough, and where the strings are of bytes.
+/// The program of a tree that nothing refuses fits together, where the tree's numbers are those of
+/// words, it keeps the limits (each of its structs has a field, and its strings are few and short
+/// enough), and its strings are of bytes.
 pub fn fits_together(_tree: &Tree)
-    ensures { (program : Program) → KeepsLimits (written.tree_of _tree.now) → Every (Every IsByte) program.strings → IsProgramOf (written.tree_of _tree.now) program → IsWellTyped program }
+    ensures { (program : Program) → ItemsInRange (written.tree_of _tree.now).items → IsLimited (written.tree_of _tree.now) → Every (Every IsByte) program.strings → IsProgramOf (written.tree_of _tree.now) program → IsWellTyped program }
 {}
 
-/// The tree of a text keeps its limits, where its words are at most 16,777,216, each string literal
-/// among them has at most 1,048,576 bytes, and its numbers are those of words.
+/// The tree of a text keeps the limits, where its words are at most 16,777,216 and each string literal
+/// among them has at most 1,048,576 bytes.
 #[tactic(auto, using(crate::proofs::Filled::keeps_limits))]
 pub fn keeps_limits(_tree: &Tree)
-    ensures { (words : List Placed) → Derives words (node Text (written.tree_of _tree.now).items) → length words ≤ most_program_words → AreShort words → ItemsInRange (written.tree_of _tree.now).items → KeepsLimits (written.tree_of _tree.now) }
+    ensures { (words : List Placed) → Derives words (node Text (written.tree_of _tree.now).items) → length words ≤ most_program_words → AreShort words → IsLimited (written.tree_of _tree.now) }
 {}
 
 /// In the tree of a text the first violation that a walk of the rules meets is the least of all: no

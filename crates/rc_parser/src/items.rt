@@ -4,7 +4,7 @@ ghost use Rattle.rc_base.specs.Limits.{most_words};
 ghost use Rattle.rc_syntax.specs.declared.word.Key.TheVariants.{Deletes, Struct, Void};
 ghost use Rattle.rc_syntax.specs.Tokens.{key};
 ghost use Rattle.rc_syntax.specs.WordShapes.{tokens_of};
-ghost use Rattle.rc_syntax.specs.Place.{AnswersAll};
+ghost use Rattle.rc_syntax.specs.Place.{AnswersAll, last_line};
 ghost use Rattle.rc_syntax.specs.Grammar as g;
 ghost use Rattle.rc_syntax.specs.reader.Reading as r;
 ghost use Rattle.rc_syntax.specs.Shape as shape;
@@ -20,11 +20,11 @@ use rc_stmt::{base, expect_mark, name, stars};
 use rc_syntax::fault::ParseFault;
 use rc_syntax::tree::{Base, Item, Name, Tree, TypeName};
 use rc_syntax::word::{Key, Mark, Token};
-use rc_words::{is_key, is_mark, key_at, refused_at, spot_at};
+use rc_words::{is_key, is_mark, key_at, line_at, refused_at, spot_at};
 use std::alloc::Global;
 
 // unit = { item } .
-/// The tree of a whole text.
+/// The tree of a whole text, with the line of its last word.
 ///
 /// # Errors
 /// `Syntax` with the line of the first word that can't follow those before it, or of the last word
@@ -33,6 +33,7 @@ use std::alloc::Global;
 pub fn parse(alloc: Global, tokens: &[Token]) -> Result<Tree, ParseFault>
     requires { length tokens.now ≤ most_words }
     ensures answers { AnswersAll (tokens_of tokens.now) result }
+    ensures last { IfOk result (λ tree. tree.last ≡ last_line (tokens_of tokens.now)) }
 {
     let mut items = Vec::new(alloc);
     let mut place = 0;
@@ -44,7 +45,8 @@ pub fn parse(alloc: Global, tokens: &[Token]) -> Result<Tree, ParseFault>
     if (place as usize) < tokens.len() {
         return Err(refused_at(tokens, place));
     }
-    Ok(Tree { items })
+    let last = line_at(tokens, place);
+    Ok(Tree { items, last })
 }
 
 /// Whether an item begins at a place.

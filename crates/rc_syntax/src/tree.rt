@@ -210,8 +210,10 @@ pub enum Item {
     Function(Spot, bool, Option<TypeName>, Name, Vec<Param>, Option<Vec<Stmt>>),
 }
 
-/// The items of a text, in their order.
+/// The items of a text, in their order, and the line of the text's last word: 1 where it has none.
+/// A last brace or semicolon is no part of any node, so the line can't be read off the items.
 #[derive(Debug, Drop)]
 pub struct Tree {
     pub items: Vec<Item>,
+    pub last: u32,
 }

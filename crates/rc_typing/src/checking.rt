@@ -6,6 +6,7 @@ ghost use Rattle.rc_deletes.specs.Answer as answer;
 ghost use Rattle.rc_deletes.specs.Answer.{refusal, main_fault, main_shape_of, is_definition_of_main};
 ghost use Rattle.rc_deletes.specs.Items.{main_name, judged};
 ghost use Rattle.rc_deletes.specs.Judged.{Holds};
+ghost use Rattle.rc_deletes.specs.Limits.{IsLimited};
 ghost use Rattle.rc_deletes.specs.Kinds.{place_of, number_or};
 ghost use Rattle.rc_deletes.specs.Scopes.{structs_in};
 ghost use Rattle.rc_typed_values.specs.Stops.{StopsAt};
@@ -182,7 +183,7 @@ fn fault_of(stop: Stop) -> TypeFault
 
 /// The program with the parts that a tree is judged to have.
 fn program_with(tree: &Tree, parts: Parts) -> Result<Program, TypeFault>
-    requires written { IsWritten (tree_of tree.now) }
+    requires limited { IsLimited (tree_of tree.now) }
     requires judged { judged (tree_of tree.now) ≡ Holds (program_of parts) }
     ensures { Checks (tree_of tree.now) result }
 {
@@ -191,7 +192,6 @@ fn program_with(tree: &Tree, parts: Parts) -> Result<Program, TypeFault>
     }
     numbers(&tree.items);
     strings(&parts.strings);
-    keeps_limits(tree);
     fits_together(tree);
     match check_deletes(tree, &parts) {
         Ok(()) => Ok(Program::new(parts)),
@@ -199,18 +199,33 @@ fn program_with(tree: &Tree, parts: Parts) -> Result<Program, TypeFault>
     }
 }
 
-/// The program of a tree by the typing rules, where nothing refuses the tree.
+/// The program of a tree by the typing rules, where nothing refuses the tree. The tree may be of one
+/// text or of several.
 ///
 /// # Errors
 ///
 /// The first refusal: of a node where a rule on names, types, arities and sizes fails; where none
 /// does, of `main`; and then of the places of deletions and annotations. Or out of memory.
-pub fn check(alloc: Global, tree: &Tree) -> Result<Program, TypeFault>
-    requires { IsWritten (tree_of tree.now) }
+pub fn check_limited(alloc: Global, tree: &Tree) -> Result<Program, TypeFault>
+    requires { IsLimited (tree_of tree.now) }
     ensures { Checks (tree_of tree.now) result }
 {
     match parts_of(alloc, tree) {
         Ok(parts) => program_with(tree, parts),
         Err(stop) => Err(fault_of(stop)),
     }
+}
+
+/// The program of the tree of a text's words, by the same rules and with the same errors as
+/// `check_limited`: such a tree keeps the limits.
+///
+/// # Errors
+///
+/// As `check_limited`.
+pub fn check(alloc: Global, tree: &Tree) -> Result<Program, TypeFault>
+    requires { IsWritten (tree_of tree.now) }
+    ensures { Checks (tree_of tree.now) result }
+{
+    keeps_limits(tree);
+    check_limited(alloc, tree)
 }

@@ -5,5 +5,5 @@ mod bounds;
 mod checking;
 mod fault;
 
-pub use checking::check;
+pub use checking::{check, check_limited};
 pub use fault::TypeFault;

@@ -49,6 +49,7 @@ well_typed text program bytes accepted =
     let placed_words = placed 0 has.tokens in
     let words = words_in_range text has.tokens bytes has.has_words.words in
     fits_together tree program
-    (keeps_limits tree.items written.words written.derived written.few written.short (items_in_range tree.items placed_words has.derived words))
+    (items_in_range tree.items placed_words has.derived words)
+    (keeps_limits tree.items written.words written.derived written.few written.short)
     (subst (Every (Every IsByte)) (sym (program_strings tree program accepted.has_program.typed ∙ strings_are tree ∙ strings_of_text tree.items placed_words has.derived)) (strings_in_range placed_words words))
     accepted.has_program.typed

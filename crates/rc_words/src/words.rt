@@ -82,7 +82,7 @@ pub fn spot_at(tokens: &[Token], at: u32) -> Spot
 /// The line of the word at a place, of the last word where none stands there, 1 where there is no
 /// word.
 #[tactic(auto, using(crate::proofs::Standing::line_here, crate::proofs::Standing::line_past, crate::proofs::Standing::last_is))]
-fn line_at(tokens: &[Token], at: u32) -> u32
+pub fn line_at(tokens: &[Token], at: u32) -> u32
     ensures { result ≡ line_of tokens.now at }
 {
     if (at as usize) < tokens.len() {

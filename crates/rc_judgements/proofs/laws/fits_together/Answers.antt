@@ -3,4 +3,4 @@ use Rattle.rc_judgements.proofs.WellTyped.{fits_together}
 use Rattle.rc_judgements.proofs.laws.fits_together.Goals as goal
 
 pub returns : goal.returns
-returns c = λ program limits bytes typed. fits_together (written.tree_of c.args._tree.now) program limits bytes typed
+returns c = λ program numbers limits bytes typed. fits_together (written.tree_of c.args._tree.now) program numbers limits bytes typed

@@ -1,5 +1,4 @@
-use Rattle.rc_syntax.specs.Shape.{tree_of}
 use Rattle.rc_typing.proofs.checking.check.Goals as goal
 
-pub returns-in-Err : goal.returns-in-Err
-returns-in-Err c = c.fault_of.ensures (tree_of c.args.tree.now) c.in-Err.ensures.err
+pub check_limited-requires : goal.check_limited-requires
+check_limited-requires c = let w = c.requires in c.keeps_limits.ensures w.words w.derived w.few w.short

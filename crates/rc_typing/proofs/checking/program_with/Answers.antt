@@ -13,8 +13,8 @@ new-requires c =
     let none : None ≡ main_fault (map item_of c.args.tree.now.items.items) = cc (ap (λ xs. main_fault (map item_of xs)) c.deref.ensures.value) in
     let numbers : ItemsInRange (map item_of c.args.tree.now.items.items) = subst (λ xs. ItemsInRange (map item_of xs)) c.deref-2.ensures.value c.numbers.ensures in
     let bytes : Every (Every IsByte) (program_of c.args.parts).strings = subst (λ xs. Every (Every IsByte) (map bytes_of xs)) c.deref-3.ensures.value c.strings.ensures in
-    let w = c.requires.written in
     c.fits_together.ensures (program_of c.args.parts)
-    (c.keeps_limits.ensures w.words w.derived w.few w.short numbers)
+    numbers
+    c.requires.limited
     bytes
     (its_program (tree_of c.args.tree.now) (program_of c.args.parts) c.requires.judged none c.in-Ok.ensures.ok)
