@@ -14,7 +14,7 @@ use Rattle.rc_annotations.specs.Annotations.{Annotation, Consistent}
 use Rattle.rc_annotations.specs.Holding.{region_in, AllHold}
 use Rattle.rc_annotations.specs.Variables.{past, values_of}
 use Rattle.rc_annotations.specs.Worlds.{Made, Sane, Stays}
-use Rattle.rc_along.specs.Along.{given_to, Good, Called, Keeps, written_by_all, Agree, RightRoutine, RoutineMeets, OptionRoutineMeets, CallsMeet, nowhere, CallDemand}
+use Rattle.rc_along.specs.Along.{given_to, Good, Called, Keeps, RightRoutine, RoutineMeets, OptionRoutineMeets, CallsMeet, CallDemand}
 use Rattle.rc_annotations.specs.Annotations.{asked_of, AllProven}
 use Rattle.rc_along.specs.MarkedRuns.{Put, routine_marked, calls_marked}
 use Rattle.rc_along.specs.MarkedLaws.{Trusting}
@@ -98,8 +98,8 @@ module _ (r : Rlang) (temporaries : ℕ → ℕ) (a : Annotation) (c : Consisten
   around_call g f there copied whole first deleting calls inside keeps = record { deleting = deleting; calls = calls; inside = inside; keeps_calls = keeps }
 
   steps_keep_facts_given : (g : ℕ) (f : Routine) → slice_get r.functions g ≡ Some f → (copied : List Value) → length copied ≡ copies f → (first : Heap) (deleting : ℕ → Bool) (calls : Calls World) (inside : CallDemand) → Keeps r a calls inside → StepsKeepFacts r temporaries a g f copied first deleting calls inside
-  steps_keep_facts_given g f there copied whole first deleting calls inside keeps x here next live env written s t w st right meets good agree =
-      (steps_good (at_call g f there copied whole first) (around_call g f there copied whole first deleting calls inside keeps) x here next live env written s t w st right meets good agree).holds
+  steps_keep_facts_given g f there copied whole first deleting calls inside keeps x here next live env t w st right meets good =
+      (steps_good (at_call g f there copied whole first) (around_call g f there copied whole first deleting calls inside keeps) x here next live env t w st right meets good).holds
 
   code_keeps_facts_given : (g : ℕ) (f : Routine) → slice_get r.functions g ≡ Some f → (copied : List Value) → length copied ≡ copies f → (first : Heap) (deleting : ℕ → Bool) (calls : Calls World) (inside : CallDemand) → Keeps r a calls inside → CodeKeepsFacts r temporaries a g f copied first deleting calls inside
   code_keeps_facts_given g f there copied whole first deleting calls inside keeps x here k st right ways env t w meets i =
@@ -114,10 +114,10 @@ module _ (r : Rlang) (temporaries : ℕ → ℕ) (a : Annotation) (c : Consisten
 
   removed_fits_given : (g : ℕ) (f : Routine) → slice_get r.functions g ≡ Some f → (copied : List Value) → length copied ≡ copies f → (first : Heap) (deleting : ℕ → Bool) (calls : Calls World) (inside : CallDemand) → Keeps r a calls inside → RemovedFits r temporaries a g f copied first deleting calls inside
   removed_fits_given g f there copied whole first deleting calls inside keeps steps line acc here k st right ways env t w meets i fact asks has =
-      (goes_more (λ t1 w1. (s1 : Temporaries) × Good a g f copied first at env s1 w1 × Agree (written_by_all steps nowhere) s1 t1) Fits (steps_run source deleting f.locals steps calls (before_act (Code.store line acc) ways.next) env t w) (λ t1 w1 q. fit t1 w1 q.0 q.1 q.2)
-      (steps_good (at_call g f there copied whole first) (around_call g f there copied whole first deleting calls inside keeps) steps here at (before_act (Code.store line acc) ways.next) env nowhere i.0 t w
+      (goes_more (λ t1 w1. Good a g f copied first at env t1 w1) Fits (steps_run source deleting f.locals steps calls (before_act (Code.store line acc) ways.next) env t w) fit
+      (steps_good (at_call g f there copied whole first) (around_call g f there copied whole first deleting calls inside keeps) steps here at (before_act (Code.store line acc) ways.next) env t w
       (stand_left (routine_nodes f) here (steps_nodes f steps here at) (act_nodes f (Code.store line acc) at k.next) st) right.0 meets.0
-      (subst (λ p. Good a g f copied first p env i.0 w) (sum (steps_points steps) here) i.1) (λ j e. cc))).holds
+      (subst (λ p. Good a g f copied first p env t w) (sum (steps_points steps) here) i))).holds
     where
       at : ℕ
       at = here + steps_points steps
@@ -135,13 +135,13 @@ module _ (r : Rlang) (temporaries : ℕ → ℕ) (a : Annotation) (c : Consisten
           by true e = refl
           by false e = cc
 
-      fit : (t1 : Temporaries) (w1 : World) (s1 : Temporaries) → Good a g f copied first at env s1 w1 → Agree (written_by_all steps nowhere) s1 t1 → Fits t1 w1
-      fit t1 w1 s1 good agree =
-          let v : kept acc.cell (temporary acc.cell t1 (width acc)) ≡ values_of f copied env s1.regions (temporary_variable f (width acc)) =
-          kept_whole (at_call g f there copied whole first) acc.cell (temporary acc.cell t1 (width acc)) is ∙ regional_temp (at_call g f there copied whole first) acc.cell t1 (width acc) (kind_regional (at_call g f there copied whole first) acc.cell right.1.0 is) ∙ sym (agree (width acc) (right.1.4 is)) ∙ sym (V.temp_value f copied whole env s1.regions (width acc)) in
-          let p : (target_at acc t1 0).pointer ≡ values_of f copied env s1.regions (temporary_variable f 0) = target_pointer (at_call g f there copied whole first) acc t1 0 ∙ sym (agree 0 right.1.3) ∙ sym (V.temp_value f copied whole env s1.regions 0) in
+      fit : (t1 : Temporaries) (w1 : World) → Good a g f copied first at env t1 w1 → Fits t1 w1
+      fit t1 w1 good =
+          let v : kept acc.cell (temporary acc.cell t1 (width acc)) ≡ values_of f copied env t1.regions (temporary_variable f (width acc)) =
+          kept_whole (at_call g f there copied whole first) acc.cell (temporary acc.cell t1 (width acc)) is ∙ regional_temp (at_call g f there copied whole first) acc.cell t1 (width acc) (kind_regional (at_call g f there copied whole first) acc.cell right.1.0 is) ∙ sym (V.temp_value f copied whole env t1.regions (width acc)) in
+          let p : (target_at acc t1 0).pointer ≡ values_of f copied env t1.regions (temporary_variable f 0) = target_pointer (at_call g f there copied whole first) acc t1 0 ∙ sym (V.temp_value f copied whole env t1.regions 0) in
           let q : asked_of (one_of (is_regional acc.cell) (stored (temporary_variable f (width acc)) (temporary_variable f 0) (note_in acc.cell)) (looked_at (temporary_variable f 0))) ≡ Some fact = asks in
-          rw (v, p) (asked_fits (note_in acc.cell) (temporary_variable f (width acc)) (temporary_variable f 0) fact (values_of f copied env s1.regions) w1.heap (subst (λ b. asked_of (one_of b (stored (temporary_variable f (width acc)) (temporary_variable f 0) (note_in acc.cell)) (looked_at (temporary_variable f 0))) ≡ Some fact) is q) (good.facts fact has))
+          rw (v, p) (asked_fits (note_in acc.cell) (temporary_variable f (width acc)) (temporary_variable f 0) fact (values_of f copied env t1.regions) w1.heap (subst (λ b. asked_of (one_of b (stored (temporary_variable f (width acc)) (temporary_variable f 0) (note_in acc.cell)) (looked_at (temporary_variable f 0))) ≡ Some fact) is q) (good.facts fact has))
 
   pub steps_keep_facts : InEachCall r temporaries a (StepsKeepFacts r temporaries a)
   steps_keep_facts rights g f there copied whole first m = steps_keep_facts_given g f there copied whole first (deletes r) (calls_within source r m) (CallsMeet r m) (calls_keep r temporaries a c rights m)

@@ -17,13 +17,13 @@ use Rattle.rc_annotations.specs.Holding.{Holds, AllHold}
 use Rattle.rc_annotations.specs.Effects.{Says}
 use Rattle.rc_annotations.specs.Variables.{picked, past}
 use Rattle.rc_annotations.specs.Worlds.{Made, Sane}
-use Rattle.rc_along.specs.Along.{AllWhole, given_to, Called, Keeps, CallRight, Written, written_in, Agree, AllWritten, CallDemand, CallMeets}
+use Rattle.rc_along.specs.Along.{AllWhole, given_to, Called, Keeps, CallRight, CallDemand, CallMeets}
 use Rattle.rc_annotations.proofs.Truths.{derivable_holds, holds_same}
 use Rattle.rc_annotations.proofs.Effects.{with_name}
 use Rattle.rc_annotations.proofs.Variables as V
 use Rattle.rc_annotations.proofs.WorldFacts.{Goes, goes_bind, goes_more, goes_branching, gives}
 use Rattle.rc_along.proofs.Settings.{Setting}
-use Rattle.rc_along.proofs.Crossing.{n, fresh, temp_at, vals, At, exits, Leads, cross, old_temp, new_temp, keep_values, regional_temp, Leaves, Shown, agree_keep, sets, kind_regional, kind_numeric, temp_made}
+use Rattle.rc_along.proofs.Crossing.{n, fresh, temp_at, vals, At, exits, Leads, cross, old_temp, new_temp, keep_values, regional_temp, Leaves, sets, kind_regional, kind_numeric, temp_made}
 
 module _ (frame : Setting) where
   open frame use {r, temporaries, a, c, g, f, there, copied, whole, heap0}
@@ -118,39 +118,26 @@ module _ (frame : Setting) where
       by true k = omega (arith, k)
       by false k = omega (arith, k)
 
-  -- what is passed is read from written temporaries
-  pub passed_same : (tys : List Ty) (h : ℕ) (written : Written) (s t : Temporaries) → AllWhole tys → AllWritten written tys h → Agree written s t → passed tys t h ≡ passed tys s h
-  passed_same [] h written s t whole' wrote same = refl
-  passed_same (ty ∷ tys) h written s t whole' wrote same = by (is_regional ty) refl (passed_same tys (suc h) written s t whole'.1 wrote.1 same)
-    where
-      by : (b : Bool) → is_regional ty ≡ b → passed tys t (suc h) ≡ passed tys s (suc h)
-          → picked (b ∷ map is_regional tys) (kept ty (temporary ty t h) ∷ kept_all tys (temporaries_from tys t (suc h))) ≡ picked (b ∷ map is_regional tys) (kept ty (temporary ty s h) ∷ kept_all tys (temporaries_from tys s (suc h)))
-      by true e rest =
-          let kind = kind_regional frame ty whole'.0 e in
-          let one : kept ty (temporary ty t h) ≡ kept ty (temporary ty s h) = ap (kept ty) (regional_temp frame ty t h kind ∙ sym (same h (wrote.0 e)) ∙ sym (regional_temp frame ty s h kind)) in
-          ap (λ v. v ∷ passed tys t (suc h)) one ∙ ap (λ vs. kept ty (temporary ty s h) ∷ vs) rest
-      by false e rest = rest
-
   pub kept_long : (us : List Ty) (t : Temporaries) (j : ℕ) → length (kept_all us (temporaries_from us t j)) ≡ length us
   kept_long [] t j = refl
   kept_long (u ∷ us) t j = ap suc (kept_long us t (suc j))
 
   -- a call of a function is given the facts of its entry, and what is passed is made
-  pub call_passes : (h : ℕ) (ty : Ty) (k : ℕ) (tys : List Ty) (env : List Value) (written : Written) (s t : Temporaries) (w : World) (p to : ℕ) (x : Option ℕ) → (right : CallRight r f (n frame) h ty k tys) → AllWritten written tys h → Leads frame p (called x k (regional_arguments f tys h)) to → At frame p env s w → Agree written s t
+  pub call_passes : (h : ℕ) (ty : Ty) (k : ℕ) (tys : List Ty) (env : List Value) (t : Temporaries) (w : World) (p to : ℕ) (x : Option ℕ) → (right : CallRight r f (n frame) h ty k tys) → Leads frame p (called x k (regional_arguments f tys h)) to → At frame p env t w
       → (length (kept_all tys (temporaries_from tys t h)) ≡ right.callee.parameters) × ((i : ℕ) → Made w.heap (past (given_to right.callee (kept_all tys (temporaries_from tys t h))) (λ j. Null) i)) × AllHold (a.entry k) (past (given_to right.callee (kept_all tys (temporaries_from tys t h))) (λ i. Null)) w.heap
-  call_passes h ty k tys env written s t w p to x right given_all l good agree =
-      let given : given_to right.callee (kept_all tys (temporaries_from tys t h)) ≡ passed tys s h = ap (λ us. picked (map is_regional us) (kept_all tys (temporaries_from tys t h))) right.parameters ∙ passed_same tys h written s t right.wholes given_all agree in
-      let entry : AllHold (a.entry k) (past (passed tys s h) (λ i. Null)) w.heap = entry_holds p to k right.callee x tys h env s w right.found (ap (count_by is_regional) right.parameters ∙ sym (length_arguments tys h)) right.wholes l good in
-      (kept_long tys t h ∙ right.count, (λ i. subst (λ vs. Made w.heap (past vs (λ j. Null) i)) (sym given) (passed_made tys h i s w.heap right.wholes (λ j. temp_made frame p env s w j good))), subst (λ vs. AllHold (a.entry k) (past vs (λ i. Null)) w.heap) (sym given) entry)
+  call_passes h ty k tys env t w p to x right l good =
+      let given : given_to right.callee (kept_all tys (temporaries_from tys t h)) ≡ passed tys t h = ap (λ us. picked (map is_regional us) (kept_all tys (temporaries_from tys t h))) right.parameters in
+      let entry : AllHold (a.entry k) (past (passed tys t h) (λ i. Null)) w.heap = entry_holds p to k right.callee x tys h env t w right.found (ap (count_by is_regional) right.parameters ∙ sym (length_arguments tys h)) right.wholes l good in
+      (kept_long tys t h ∙ right.count, (λ i. subst (λ vs. Made w.heap (past vs (λ j. Null) i)) (sym given) (passed_made tys h i t w.heap right.wholes (λ j. temp_made frame p env t w j good))), subst (λ vs. AllHold (a.entry k) (past vs (λ i. Null)) w.heap) (sym given) entry)
 
-  pub call_says : (deleting : ℕ → Bool) (calls : Calls World) (inside : CallDemand) → Keeps r a calls inside → (line h : ℕ) (ty : Ty) (k : ℕ) (tys : List Ty) (live : ℕ → Bool) (env : List Value) (written : Written) (s t : Temporaries) (w : World) (p to : ℕ) (x : Option ℕ) → (right : CallRight r f (n frame) h ty k tys) → AllWritten written tys h → CallMeets deleting f calls inside k tys live env t h w → Leads frame p (called x k (regional_arguments f tys h)) to → At frame p env s w → Agree written s t
-      → Goes (Called a right.callee.result k (passed tys s h) w) (operation_value source deleting f.locals line (Code.call k tys) calls live env t h w)
-  call_says deleting calls inside keeps_calls line h ty k tys live env written s t w p to x right given_all meets l good agree =
-      goes_branching (Called a right.callee.result k (passed tys s h) w) (deleting k) (λ w1. bind (calls k xs (source.enter (held source deleting f.locals live env) w1)) (λ v w2. Go v (source.leave w1 w2))) (calls k xs) w
-      (λ e. goes_bind (Called a right.callee.result k (passed tys s h) (source.enter (held source deleting f.locals live env) w)) (Called a right.callee.result k (passed tys s h) w) (calls k xs (source.enter (held source deleting f.locals live env) w)) (λ v w2. Go v (source.leave w w2))
-      (inner (source.enter (held source deleting f.locals live env) w) (record { sound = good.sane.sound; rooted = good.sane.rooted }) (temp_made frame p env s w) entry (meets.0 e))
-      (λ v w2 q. gives (Called a right.callee.result k (passed tys s h) w) v (source.leave w w2) (record { sane = record { sound = q.0.sane.sound; rooted = q.0.sane.rooted }; grown = q.0.grown }, q.1, q.2)))
-      (λ e. inner w good.sane (temp_made frame p env s w) entry (meets.1 e))
+  pub call_says : (deleting : ℕ → Bool) (calls : Calls World) (inside : CallDemand) → Keeps r a calls inside → (line h : ℕ) (ty : Ty) (k : ℕ) (tys : List Ty) (live : ℕ → Bool) (env : List Value) (t : Temporaries) (w : World) (p to : ℕ) (x : Option ℕ) → (right : CallRight r f (n frame) h ty k tys) → CallMeets deleting f calls inside k tys live env t h w → Leads frame p (called x k (regional_arguments f tys h)) to → At frame p env t w
+      → Goes (Called a right.callee.result k (passed tys t h) w) (operation_value source deleting f.locals line (Code.call k tys) calls live env t h w)
+  call_says deleting calls inside keeps_calls line h ty k tys live env t w p to x right meets l good =
+      goes_branching (Called a right.callee.result k (passed tys t h) w) (deleting k) (λ w1. bind (calls k xs (source.enter (held source deleting f.locals live env) w1)) (λ v w2. Go v (source.leave w1 w2))) (calls k xs) w
+      (λ e. goes_bind (Called a right.callee.result k (passed tys t h) (source.enter (held source deleting f.locals live env) w)) (Called a right.callee.result k (passed tys t h) w) (calls k xs (source.enter (held source deleting f.locals live env) w)) (λ v w2. Go v (source.leave w w2))
+      (inner (source.enter (held source deleting f.locals live env) w) (record { sound = good.sane.sound; rooted = good.sane.rooted }) (temp_made frame p env t w) entry (meets.0 e))
+      (λ v w2 q. gives (Called a right.callee.result k (passed tys t h) w) v (source.leave w w2) (record { sane = record { sound = q.0.sane.sound; rooted = q.0.sane.rooted }; grown = q.0.grown }, q.1, q.2)))
+      (λ e. inner w good.sane (temp_made frame p env t w) entry (meets.1 e))
     where
       xs : List Value
       xs = kept_all tys (temporaries_from tys t h)
@@ -159,41 +146,35 @@ module _ (frame : Setting) where
       passed_long [] j = refl
       passed_long (u ∷ us) j = ap suc (passed_long us (suc j))
 
-      entry : AllHold (a.entry k) (past (passed tys s h) (λ i. Null)) w.heap
-      entry = entry_holds p to k right.callee x tys h env s w right.found (ap (count_by is_regional) right.parameters ∙ sym (length_arguments tys h)) right.wholes l good
+      entry : AllHold (a.entry k) (past (passed tys t h) (λ i. Null)) w.heap
+      entry = entry_holds p to k right.callee x tys h env t w right.found (ap (count_by is_regional) right.parameters ∙ sym (length_arguments tys h)) right.wholes l good
 
-      same : picked (map is_regional tys) xs ≡ passed tys s h
-      same = passed_same tys h written s t right.wholes given_all agree
+      given : given_to right.callee xs ≡ passed tys t h
+      given = ap (λ us. picked (map is_regional us) xs) right.parameters
 
-      given : given_to right.callee xs ≡ passed tys s h
-      given = ap (λ us. picked (map is_regional us) xs) right.parameters ∙ same
-
-      inner : (w1 : World) → Sane w1 → ((j : ℕ) → At frame p env s w → Made w1.heap (s.regions j)) → AllHold (a.entry k) (past (passed tys s h) (λ i. Null)) w1.heap → inside k xs w1 → Goes (Called a right.callee.result k (passed tys s h) w1) (calls k xs w1)
+      inner : (w1 : World) → Sane w1 → ((j : ℕ) → At frame p env t w → Made w1.heap (t.regions j)) → AllHold (a.entry k) (past (passed tys t h) (λ i. Null)) w1.heap → inside k xs w1 → Goes (Called a right.callee.result k (passed tys t h) w1) (calls k xs w1)
       inner w1 sane m hold within = subst (λ vs. AllHold (a.entry k) (past vs (λ i. Null)) w1.heap → ((i : ℕ) → Made w1.heap (past vs (λ i. Null) i)) → Goes (Called a right.callee.result k vs w1) (calls k xs w1)) given
-          (λ hold m. record { holds = keeps_calls k right.callee xs w1 right.found (passed_long tys h ∙ right.count) within sane m hold }) hold (λ i. passed_made tys h i s w1.heap right.wholes (λ j. m j good))
+          (λ hold m. record { holds = keeps_calls k right.callee xs w1 right.found (passed_long tys h ∙ right.count) within sane m hold }) hold (λ i. passed_made tys h i t w1.heap right.wholes (λ j. m j good))
 
   -- a call that is an operation
-  pub call_good : (deleting : ℕ → Bool) (calls : Calls World) (inside : CallDemand) → Keeps r a calls inside → (p to line h : ℕ) (ty : Ty) (k : ℕ) (tys : List Ty) (live : ℕ → Bool) (env : List Value) (written : Written) (s t : Temporaries) (w : World) → h < (n frame) → CallRight r f (n frame) h ty k tys → AllWritten written tys h → CallMeets deleting f calls inside k tys live env t h w → Leads frame p (operation_effect f h ty (Code.call k tys)) to → At frame p env s w → Agree written s t
-      → Goes (Shown frame to env (written_in ty h written)) (step_run source deleting f.locals (set line h ty (Code.call k tys)) calls live env t w)
-  call_good deleting calls inside keeps_calls p to line h ty k tys live env written s t w lt right given_all meets l good agree = by (is_regional ty) refl l
+  pub call_good : (deleting : ℕ → Bool) (calls : Calls World) (inside : CallDemand) → Keeps r a calls inside → (p to line h : ℕ) (ty : Ty) (k : ℕ) (tys : List Ty) (live : ℕ → Bool) (env : List Value) (t : Temporaries) (w : World) → h < (n frame) → CallRight r f (n frame) h ty k tys → CallMeets deleting f calls inside k tys live env t h w → Leads frame p (operation_effect f h ty (Code.call k tys)) to → At frame p env t w
+      → Goes (At frame to env) (step_run source deleting f.locals (set line h ty (Code.call k tys)) calls live env t w)
+  call_good deleting calls inside keeps_calls p to line h ty k tys live env t w lt right meets l good = by (is_regional ty) refl l
     where
       m : Run World Value
       m = operation_value source deleting f.locals line (Code.call k tys) calls live env t h w
 
-      by : (b : Bool) → is_regional ty ≡ b → Leads frame p (called (one_of b (Some (temp_at frame h)) None) k (regional_arguments f tys h)) to → Goes (Shown frame to env (written_in ty h written)) (bind m (λ v w1. Go (with_temporary ty t h v) w1))
-      by true e l = sets frame p to (called (Some (temp_at frame h)) k (regional_arguments f tys h)) ty h m env written s t w (kind_regional frame ty right.result e) refl l good agree
-          (goes_more (Called a right.callee.result k (passed tys s h) w) (Leaves frame (called (Some (temp_at frame h)) k (regional_arguments f tys h)) env s w) m (λ v w1 q. (
+      by : (b : Bool) → is_regional ty ≡ b → Leads frame p (called (one_of b (Some (temp_at frame h)) None) k (regional_arguments f tys h)) to → Goes (At frame to env) (bind m (λ v w1. Go (with_temporary ty t h v) w1))
+      by true e l = sets frame p to (called (Some (temp_at frame h)) k (regional_arguments f tys h)) ty h m env t w (kind_regional frame ty right.result e) refl l good
+          (goes_more (Called a right.callee.result k (passed tys t h) w) (Leaves frame (called (Some (temp_at frame h)) k (regional_arguments f tys h)) env t w) m (λ v w1 q. (
             q.0,
             (let u = right.gives_back e in q.1 u.0 u.1 u.2),
-            exit_holds k tys h (Some (fresh frame)) (changed_at (vals frame env s) (fresh frame) v) s v w1.heap right.wholes (λ j lt2. old_temp frame env s v j (let room = right.room in omega (arith, lt2, room))) (λ y e2. let e3 : fresh frame ≡ y = cc in ap (changed_at (vals frame env s) (fresh frame) v) (sym e3) ∙ new_temp frame env s v) q.2,
+            exit_holds k tys h (Some (fresh frame)) (changed_at (vals frame env t) (fresh frame) v) t v w1.heap right.wholes (λ j lt2. old_temp frame env t v j (let room = right.room in omega (arith, lt2, room))) (λ y e2. let e3 : fresh frame ≡ y = cc in ap (changed_at (vals frame env t) (fresh frame) v) (sym e3) ∙ new_temp frame env t v) q.2,
           ))
-          (call_says deleting calls inside keeps_calls line h ty k tys live env written s t w p to (Some (temp_at frame h)) right given_all meets l good agree))
+          (call_says deleting calls inside keeps_calls line h ty k tys live env t w p to (Some (temp_at frame h)) right meets l good))
       by false e l =
           let kind = kind_numeric frame ty right.result e in
-          goes_bind (Called a right.callee.result k (passed tys s h) w) (Shown frame to env (written_in ty h written)) m (λ v w1. Go (with_temporary ty t h v) w1) (call_says deleting calls inside keeps_calls line h ty k tys live env written s t w p to None right given_all meets l good agree) (λ v w1 q.
-          gives (Shown frame to env (written_in ty h written)) (with_temporary ty t h v) w1 (
-            with_temporary ty s h v,
-            cross frame p to (called None k (regional_arguments f tys h)) env env s (with_temporary ty s h v) w w1 l good q.0 refl (keep_values frame ty env s h v kind) refl
-                (exit_holds k tys h None (vals frame env (with_temporary ty s h v)) s v w1.heap right.wholes (λ j lt2. keep_values frame ty env s h v kind (temp_at frame j) ∙ V.temp_value f copied whole env s.regions j) (λ y e2. cc) q.2),
-            agree_keep frame ty h v written s t right.result kind agree,
-          ))
+          goes_bind (Called a right.callee.result k (passed tys t h) w) (At frame to env) m (λ v w1. Go (with_temporary ty t h v) w1) (call_says deleting calls inside keeps_calls line h ty k tys live env t w p to None right meets l good) (λ v w1 q.
+          gives (At frame to env) (with_temporary ty t h v) w1
+          (cross frame p to (called None k (regional_arguments f tys h)) env env t (with_temporary ty t h v) w w1 l good q.0 refl (keep_values frame ty env t h v kind) refl
+          (exit_holds k tys h None (vals frame env (with_temporary ty t h v)) t v w1.heap right.wholes (λ j lt2. keep_values frame ty env t h v kind (temp_at frame j) ∙ V.temp_value f copied whole env t.regions j) (λ y e2. cc) q.2)))

@@ -1,5 +1,5 @@
 -- Over an edge, facts that are allowed behind it hold behind it; and what operations say.
-use Rattle.std.proofs.Common.{◌≡◌, ℕ, zero, suc, ◌<◌, ◌≤◌, Bool, true, false, ◌||◌, nat_eq, List, [], ◌∷◌, length, map, get_or, Option, Some, None, refl, sym, ap, ◌∙◌, subst, arith}
+use Rattle.std.proofs.Common.{◌≡◌, ℕ, zero, suc, ◌<◌, ◌≤◌, Bool, true, false, nat_eq, List, [], ◌∷◌, length, map, get_or, Option, Some, None, refl, sym, ap, ◌∙◌, subst, arith}
 use Rattle.std.specs.Prelude.{slice_get}
 use Rattle.rc_core.specs.declared.ty.Note.{Note}
 use Rattle.rc_core.specs.Types.{Ty, int, unsigned, char, region, struct, pointer}
@@ -18,8 +18,9 @@ use Rattle.rc_annotations.specs.Holding.{is_present, region_in}
 use Rattle.rc_annotations.specs.Effects.{Absent, Says}
 use Rattle.rc_annotations.specs.Variables.{picked, picks, values_of}
 use Rattle.rc_annotations.specs.Worlds.{Made, Sane, Stays, note_at, Beside, Anew, Under, Loaded}
-use Rattle.rc_along.specs.Along.{Whole, NoNumber, Good, Written, written_in, Agree}
+use Rattle.rc_along.specs.Along.{Whole, NoNumber, Good}
 use Rattle.rc_annotations.proofs.Effects.{changed_there, changed_else, not_eq, gained_holds, holds_behind, holds_assigned}
+use Rattle.rc_annotations.proofs.Truths.{holds_same}
 use Rattle.rc_annotations.proofs.Variables as V
 use Rattle.rc_annotations.proofs.WorldFacts.{Goes, goes_bind, goes_more, goes_both, gives, stays_itself, stays_heap, grown_trans, made_grown}
 use Rattle.rc_along.proofs.Settings.{Setting}
@@ -73,6 +74,16 @@ module _ (frame : Setting) where
     long = long ∙ good.long;
   }
 
+  -- other temporaries with the same values of the variables
+  pub again : (p : ℕ) (env : List Value) (t t1 : Temporaries) (w : World) → ((u : ℕ) → vals env t1 u ≡ vals env t u) → At p env t w → At p env t1 w
+  again p env t t1 w same good = record {
+    facts = λ fact is. holds_same (result_variable f n) fact (vals env t) (vals env t1) w.heap (c.at_points g f p fact there is) (λ u lt. same u) (good.facts fact is);
+    made = λ u. subst (Made w.heap) (sym (same u)) (good.made u);
+    sane = good.sane;
+    grown = good.grown;
+    long = good.long;
+  }
+
   pub changed_made : (heap : Heap) (t : ℕ → Value) (x : ℕ) (v : Value) (u : ℕ) → Made heap v → Made heap (t u) → Made heap (changed_at t x v u)
   changed_made heap t x v u m k = by (nat_eq u x)
     where
@@ -114,46 +125,20 @@ module _ (frame : Setting) where
   abbrev pub Leaves : Effect → List Value → Temporaries → World → Value → World → Type 0
   Leaves effect env t w v w1 = Stays w w1 × Made w1.heap v × Says exits (assigning fresh effect) (changed_at (vals env t) fresh v) w1.heap
 
-  -- the facts of a point hold with the written temporaries, and with some values of the others
-  abbrev pub Shown : ℕ → List Value → Written → Temporaries → World → Type 0
-  Shown p env written t w = (s : Temporaries) × At p env s w × Agree written s t
-
-  pub agree_set : (ty : Ty) (h : ℕ) (v : Value) (written : Written) (s t : Temporaries) → kind_of ty ≡ regional → Agree written s t → Agree (written_in ty h written) (with_temporary ty s h v) (with_temporary ty t h v)
-  agree_set ty h v written s t kind same j e = subst (λ k. (set_kind k s h v).regions j ≡ (set_kind k t h v).regions j) (sym kind) (by (nat_eq j h) refl)
-    where
-      was : (b c : Bool) → one_of b (c || written j) (written j) ≡ true → c ≡ false → written j ≡ true
-      was true true e q = cc
-      was true false e q = e
-      was false c e q = e
-
-      by : (b : Bool) → nat_eq j h ≡ b → chosen_value (nat_eq j h) v (s.regions j) ≡ chosen_value (nat_eq j h) v (t.regions j)
-      by true q = rw q refl
-      by false q = rw q (same j (was (is_regional ty) (nat_eq j h) e q))
-
-  pub agree_keep : (ty : Ty) (h : ℕ) (v : Value) (written : Written) (s t : Temporaries) → Whole ty → kind_of ty ≡ numeric → Agree written s t → Agree (written_in ty h written) (with_temporary ty s h v) (with_temporary ty t h v)
-  agree_keep ty h v written s t whole' kind same j e = subst (λ k. (set_kind k s h v).regions j ≡ (set_kind k t h v).regions j) (sym kind) (same j (was (is_regional ty) refl e))
-    where
-      was : (b : Bool) → is_regional ty ≡ b → one_of b (nat_eq j h || written j) (written j) ≡ true → written j ≡ true
-      was true q e = absurd (apart (sym kind ∙ whole' ∙ ap (λ c. one_of c regional numeric) q))
-        where
-          apart : numeric ≡ regional → ⊥
-          apart e = cc
-      was false q e = e
-
-  pub sets : (p to : ℕ) (effect : Effect) (ty : Ty) (h : ℕ) (m : Run World Value) (env : List Value) (written : Written) (s t : Temporaries) (w : World) → kind_of ty ≡ regional → assigned effect ≡ Some (temp_at h) → Leads p effect to → At p env s w → Agree written s t
-      → Goes (Leaves effect env s w) m → Goes (Shown to env (written_in ty h written)) (bind m (λ v w1. Go (with_temporary ty t h v) w1))
-  sets p to effect ty h m env written s t w kind e l good same k = goes_bind (Leaves effect env s w) (Shown to env (written_in ty h written)) m (λ v w1. Go (with_temporary ty t h v) w1) k (λ v w1 q.
-      gives (Shown to env (written_in ty h written)) (with_temporary ty t h v) w1 (with_temporary ty s h v, cross_assigned p to effect (temp_at h) v env env s (with_temporary ty s h v) w w1 l good q.0 refl (set_values ty env s h v kind) e q.1 q.2, agree_set ty h v written s t kind same))
+  pub sets : (p to : ℕ) (effect : Effect) (ty : Ty) (h : ℕ) (m : Run World Value) (env : List Value) (t : Temporaries) (w : World) → kind_of ty ≡ regional → assigned effect ≡ Some (temp_at h) → Leads p effect to → At p env t w
+      → Goes (Leaves effect env t w) m → Goes (At to env) (bind m (λ v w1. Go (with_temporary ty t h v) w1))
+  sets p to effect ty h m env t w kind e l good k = goes_bind (Leaves effect env t w) (At to env) m (λ v w1. Go (with_temporary ty t h v) w1) k (λ v w1 q.
+      gives (At to env) (with_temporary ty t h v) w1 (cross_assigned p to effect (temp_at h) v env env t (with_temporary ty t h v) w w1 l good q.0 refl (set_values ty env t h v kind) e q.1 q.2))
 
   -- and one that leaves a number
   abbrev pub Counts : Effect → List Value → Temporaries → World → Value → World → Type 0
   Counts effect env t w v w1 = Stays w w1 × Says exits effect (vals env t) w1.heap
 
-  pub keeps : (p to : ℕ) (effect : Effect) (ty : Ty) (h : ℕ) (m : Run World Value) (env : List Value) (written : Written) (s t : Temporaries) (w : World) → Whole ty → kind_of ty ≡ numeric → assigned effect ≡ None → Leads p effect to → At p env s w → Agree written s t
-      → ((v : Value) (w1 : World) → Says exits effect (vals env s) w1.heap → Says exits effect (vals env (with_temporary ty s h v)) w1.heap)
-      → Goes (Counts effect env s w) m → Goes (Shown to env (written_in ty h written)) (bind m (λ v w1. Go (with_temporary ty t h v) w1))
-  keeps p to effect ty h m env written s t w whole' kind e l good agree same k = goes_bind (Counts effect env s w) (Shown to env (written_in ty h written)) m (λ v w1. Go (with_temporary ty t h v) w1) k (λ v w1 q.
-      gives (Shown to env (written_in ty h written)) (with_temporary ty t h v) w1 (with_temporary ty s h v, cross p to effect env env s (with_temporary ty s h v) w w1 l good q.0 refl (keep_values ty env s h v kind) e (same v w1 q.1), agree_keep ty h v written s t whole' kind agree))
+  pub keeps : (p to : ℕ) (effect : Effect) (ty : Ty) (h : ℕ) (m : Run World Value) (env : List Value) (t : Temporaries) (w : World) → Whole ty → kind_of ty ≡ numeric → assigned effect ≡ None → Leads p effect to → At p env t w
+      → ((v : Value) (w1 : World) → Says exits effect (vals env t) w1.heap → Says exits effect (vals env (with_temporary ty t h v)) w1.heap)
+      → Goes (Counts effect env t w) m → Goes (At to env) (bind m (λ v w1. Go (with_temporary ty t h v) w1))
+  keeps p to effect ty h m env t w whole' kind e l good same k = goes_bind (Counts effect env t w) (At to env) m (λ v w1. Go (with_temporary ty t h v) w1) k (λ v w1 q.
+      gives (At to env) (with_temporary ty t h v) w1 (cross p to effect env env t (with_temporary ty t h v) w w1 l good q.0 refl (keep_values ty env t h v kind) e (same v w1 q.1)))
 
   -- what operations say
   pub says_null : (env : List Value) (t : Temporaries) (w : World) (h : ℕ) → Sane w → Goes (Leaves (nulled (temp_at h)) env t w) (Go Null w)
@@ -209,10 +194,6 @@ module _ (frame : Setting) where
 
   abbrev pub Quiet : Effect → List Value → Temporaries → World → Type 0
   Quiet effect env t w = (assigned effect ≡ None) × Says exits effect (vals env t) w.heap
-
-  -- a region or a pointer that is tested is the same where it is written
-  pub tested_same : (test : Ty) (h : ℕ) (written : Written) (s t : Temporaries) → Whole test → is_regional test ≡ true → written h ≡ true → Agree written s t → holds test (temporary test s h) ≡ holds test (temporary test t h)
-  tested_same test h written s t whole' e is agree = let kind = kind_regional test whole' e in ap (holds test) (regional_temp test s h kind ∙ agree h is ∙ sym (regional_temp test t h kind))
 
   pub says_yes : (env : List Value) (t : Temporaries) (w : World) (test : Ty) (h : ℕ) → Whole test → (is_regional test ≡ true → NoNumber (t.regions h)) → (is_regional test ≡ true → holds test (temporary test t h) ≡ true) → Quiet (yes_effect f test h) env t w
   says_yes env t w test h whole' typed is = by (is_regional test) refl
@@ -286,5 +267,5 @@ module _ (frame : Setting) where
   whole_number (struct i) e = cc
   whole_number (pointer note target) e = cc
 
-  pub counts : (p to : ℕ) (ty : Ty) (h : ℕ) (m : Run World Value) (env : List Value) (written : Written) (s t : Temporaries) (w : World) → kind_of ty ≡ numeric → Leads p nothing to → At p env s w → Agree written s t → Goes (Only w) m → Goes (Shown to env (written_in ty h written)) (bind m (λ v w1. Go (with_temporary ty t h v) w1))
-  counts p to ty h m env written s t w kind l good agree k = keeps p to nothing ty h m env written s t w (whole_number ty kind) kind refl l good agree (λ v w1 q. tt) (goes_more (Only w) (Counts nothing env s w) m (λ v w1 q. (q, tt)) k)
+  pub counts : (p to : ℕ) (ty : Ty) (h : ℕ) (m : Run World Value) (env : List Value) (t : Temporaries) (w : World) → kind_of ty ≡ numeric → Leads p nothing to → At p env t w → Goes (Only w) m → Goes (At to env) (bind m (λ v w1. Go (with_temporary ty t h v) w1))
+  counts p to ty h m env t w kind l good k = keeps p to nothing ty h m env t w (whole_number ty kind) kind refl l good (λ v w1 q. tt) (goes_more (Only w) (Counts nothing env t w) m (λ v w1 q. (q, tt)) k)

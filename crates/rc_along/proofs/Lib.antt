@@ -10,3 +10,4 @@ pub mod RoutinesHold
 pub mod MarkedActs
 pub mod MarkedCode
 pub mod Along
+pub mod Coming

@@ -11,16 +11,16 @@ use Rattle.std.specs.Prelude.{ℤ, Result, Ok, Err}
 use Rattle.rc_base.specs.declared.ends.Trap.{Trap}
 use Rattle.rc_core.specs.declared.ty.Signedness.{Signedness}
 use Rattle.rc_facts.specs.declared.fact.Fact.{Fact}
-use Rattle.rc_rlang.specs.RegionCode.{Access, width, Operation, Step, set, fork, Steps, none, more, Act, Code, Routine}
+use Rattle.rc_rlang.specs.RegionCode.{numeric, regional, Access, width, Operation, Step, set, fork, Steps, none, more, Act, Code, Routine}
 use Rattle.rc_rlang.specs.RegionCode as Code
 use Rattle.rc_rlang.specs.RegionPoints.{step_points, steps_points, act_points}
 use Rattle.rc_rlang.specs.RegionLive.{before_steps}
-use Rattle.rc_rlang.specs.RegionRuns.{new_value, cells_moved, kept_cell, convert_value, right_number, Next, act_run, kept, held, Temporaries, temporary, with_temporary, target_at, holds, operation_value, step_run, steps_run, temporaries_from, kept_all}
-use Rattle.rc_rlang.specs.RegionFlow.{Effect, looked_at, stored, called, Node, going, is_regional, note_in, one_of, first_of, operation_effect, yes_effect, no_effect, step_nodes, steps_nodes, regional_arguments, routine_nodes, Ends, act_nodes, in_line, cell_effects}
+use Rattle.rc_rlang.specs.RegionRuns.{new_value, cells_moved, kept_cell, convert_value, right_number, Next, act_run, kept, held, Temporaries, temporary, with_temporary, set_kind, cell_kind, with_cell, target_at, holds, operation_value, step_run, steps_run, temporaries_from, kept_all}
+use Rattle.rc_rlang.specs.RegionFlow.{Effect, looked_at, stored, called, Node, going, is_regional, is_regional_cell, note_in, one_of, first_of, operation_effect, yes_effect, no_effect, step_nodes, steps_nodes, regional_arguments, routine_nodes, Ends, act_nodes, in_line, cell_effects}
 use Rattle.rc_annotations.specs.Holding.{region_in, AllHold}
 use Rattle.rc_annotations.specs.Variables.{past}
 use Rattle.rc_annotations.specs.Worlds.{Made, note_at}
-use Rattle.rc_along.specs.Along.{Named, Stand, NoNumber, given_to, CallRight, RightOperation, RightStep, RightSteps, StepMeets, StepsMeet, Written, written_by, Agree, AllWritten, RightAct, ActMeets, MoveMeets, CallMeets}
+use Rattle.rc_along.specs.Along.{Named, Stand, given_to, CallRight, RightOperation, RightStep, RightSteps, StepMeets, StepsMeet, RightAct, ActMeets, MoveMeets, CallMeets}
 use Rattle.rc_annotations.specs.Annotations.{asked_of, asked_by}
 use Rattle.rc_along.specs.MarkedRuns.{before_store, cells_marked, act_marked}
 use Rattle.rc_along.specs.MarkedLaws.{Fits}
@@ -42,10 +42,10 @@ use Rattle.rc_annotations.proofs.WorldFacts.{Goes, goes_more, goes_both, stays_i
 use Rattle.rc_annotations.proofs.Nodes.{step_count, steps_count}
 use Rattle.rc_along.proofs.Standing.{stand_left, stand_right, twin, twin_branch}
 use Rattle.rc_along.proofs.Settings.{Setting, Calling, Marking}
-use Rattle.rc_along.proofs.Crossing.{n, all, temp_at, vals, At, Leads, leads, cross, regional_temp, Shown, kind_regional, tested_same, says_yes, says_no, target_pointer}
+use Rattle.rc_along.proofs.Crossing.{n, all, temp_at, vals, At, Leads, leads, cross, regional_temp, kind_regional, says_yes, says_no, target_pointer}
 use Rattle.rc_along.proofs.CallsPass.{kept_whole, call_passes}
 use Rattle.rc_along.proofs.StepsHold.{steps_first, step_good}
-use Rattle.rc_along.proofs.ActsHold.{with_value, Ready, ready_good, stored_leads, Carried, carried_good, cell_stored}
+use Rattle.rc_along.proofs.ActsHold.{Ready, Held, ready_good, kind_else, stored_leads, Carried, carried_good, cell_there, cell_stored}
 
 module _ (frame : Setting) (around : Calling frame) (marking : Marking frame around) where
   open frame use {r, temporaries, a, c, g, f, there, copied, whole, heap0}
@@ -57,9 +57,9 @@ module _ (frame : Setting) (around : Calling frame) (marking : Marking frame aro
   abbrev pub Calls_same : (line h k : ℕ) → List Ty → (ℕ → Bool) → List Value → Temporaries → World → Type 0
   Calls_same line h k tys live env t w = operation_value source deleting f.locals line (Code.call k tys) calls' live env t h w ≡ operation_value source deleting f.locals line (Code.call k tys) calls live env t h w
 
-  pub call_same : (line h : ℕ) (ty : Ty) (k : ℕ) (tys : List Ty) (live : ℕ → Bool) (env : List Value) (written : Written) (s t : Temporaries) (w : World) (p to : ℕ) (x : Option ℕ) → CallRight r f (n frame) h ty k tys → AllWritten written tys h → CallMeets deleting f calls inside k tys live env t h w
-      → Leads frame p (called x k (regional_arguments f tys h)) to → At frame p env s w → Agree written s t → Calls_same line h k tys live env t w
-  call_same line h ty k tys live env written s t w p to x right given_all meets l good agree = by (deleting k) refl
+  pub call_same : (line h : ℕ) (ty : Ty) (k : ℕ) (tys : List Ty) (live : ℕ → Bool) (env : List Value) (t : Temporaries) (w : World) (p to : ℕ) (x : Option ℕ) → CallRight r f (n frame) h ty k tys → CallMeets deleting f calls inside k tys live env t h w
+      → Leads frame p (called x k (regional_arguments f tys h)) to → At frame p env t w → Calls_same line h k tys live env t w
+  call_same line h ty k tys live env t w p to x right meets l good = by (deleting k) refl
     where
       xs : List Value
       xs = kept_all tys (temporaries_from tys t h)
@@ -68,64 +68,64 @@ module _ (frame : Setting) (around : Calling frame) (marking : Marking frame aro
       entered = source.enter (held source deleting f.locals live env) w
 
       passes : (length xs ≡ right.callee.parameters) × ((i : ℕ) → Made w.heap (past (given_to right.callee xs) (λ i. Null) i)) × AllHold (a.entry k) (past (given_to right.callee xs) (λ i. Null)) w.heap
-      passes = call_passes frame h ty k tys env written s t w p to x right given_all l good agree
+      passes = call_passes frame h ty k tys env t w p to x right l good
 
       by : (b : Bool) → deleting k ≡ b → branching b (λ w1. bind (calls' k xs (source.enter (held source deleting f.locals live env) w1)) (λ v w2. Go v (source.leave w1 w2))) (calls' k xs) w ≡ branching b (λ w1. bind (calls k xs (source.enter (held source deleting f.locals live env) w1)) (λ v w2. Go v (source.leave w1 w2))) (calls k xs) w
       by true e = ap (λ m. bind m (λ v w2. Go v (source.leave w w2))) (calls_same k right.callee xs entered right.found passes.0 (meets.0 e) (record { sound = good.sane.sound; rooted = good.sane.rooted }) passes.1 passes.2)
       by false e = calls_same k right.callee xs w right.found passes.0 (meets.1 e) good.sane passes.1 passes.2
 
-  pub set_same : (p to line h : ℕ) (ty : Ty) (op : Operation) (live : ℕ → Bool) (env : List Value) (written : Written) (s t : Temporaries) (w : World) → RightOperation r f (n frame) written h ty op → Leads frame p (operation_effect f h ty op) to → At frame p env s w → Agree written s t → StepMeets deleting f calls inside (set line h ty op) live env t w
+  pub set_same : (p to line h : ℕ) (ty : Ty) (op : Operation) (live : ℕ → Bool) (env : List Value) (t : Temporaries) (w : World) → RightOperation r f (n frame) h ty op → Leads frame p (operation_effect f h ty op) to → At frame p env t w → StepMeets deleting f calls inside (set line h ty op) live env t w
       → step_run source deleting f.locals (set line h ty op) calls' live env t w ≡ step_run source deleting f.locals (set line h ty op) calls live env t w
-  set_same p to line h ty (Code.call k tys) live env written s t w right l good agree meets = ap (λ m. bind m (λ v w1. Go (with_temporary ty t h v) w1)) (call_same line h ty k tys live env written s t w p to (one_of (is_regional ty) (Some (temp_at frame h)) None) right.0 right.1 meets l good agree)
-  set_same p to line h ty (Code.constant sign k) live env written s t w right l good agree meets = refl
-  set_same p to line h ty Code.null live env written s t w right l good agree meets = refl
-  set_same p to line h ty (Code.static object) live env written s t w right l good agree meets = refl
-  set_same p to line h ty (Code.copy x) live env written s t w right l good agree meets = refl
-  set_same p to line h ty (Code.load acc) live env written s t w right l good agree meets = refl
-  set_same p to line h ty (Code.step direction pointed k) live env written s t w right l good agree meets = refl
-  set_same p to line h ty (Code.step_from k pointed) live env written s t w right l good agree meets = refl
-  set_same p to line h ty (Code.unary operator sign) live env written s t w right l good agree meets = refl
-  set_same p to line h ty (Code.binary operator sign k) live env written s t w right l good agree meets = refl
-  set_same p to line h ty (Code.convert from aim) live env written s t w right l good agree meets = refl
-  set_same p to line h ty (Code.not_zero of) live env written s t w right l good agree meets = refl
-  set_same p to line h ty (Code.truth of) live env written s t w right l good agree meets = refl
-  set_same p to line h ty (Code.is_null wanted of) live env written s t w right l good agree meets = refl
-  set_same p to line h ty (Code.same wanted of) live env written s t w right l good agree meets = refl
-  set_same p to line h ty Code.new_region live env written s t w right l good agree meets = refl
-  set_same p to line h ty Code.new_subregion live env written s t w right l good agree meets = refl
-  set_same p to line h ty (Code.region_of of) live env written s t w right l good agree meets = refl
-  set_same p to line h ty (Code.allocate made' layout) live env written s t w right l good agree meets = refl
-  set_same p to line h ty (Code.allocate_array made' layout) live env written s t w right l good agree meets = refl
-  set_same p to line h ty Code.putchar live env written s t w right l good agree meets = refl
-  set_same p to line h ty Code.getchar live env written s t w right l good agree meets = refl
+  set_same p to line h ty (Code.call k tys) live env t w right l good meets = ap (λ m. bind m (λ v w1. Go (with_temporary ty t h v) w1)) (call_same line h ty k tys live env t w p to (one_of (is_regional ty) (Some (temp_at frame h)) None) right meets l good)
+  set_same p to line h ty (Code.constant sign k) live env t w right l good meets = refl
+  set_same p to line h ty Code.null live env t w right l good meets = refl
+  set_same p to line h ty (Code.static object) live env t w right l good meets = refl
+  set_same p to line h ty (Code.copy x) live env t w right l good meets = refl
+  set_same p to line h ty (Code.load acc) live env t w right l good meets = refl
+  set_same p to line h ty (Code.step direction pointed k) live env t w right l good meets = refl
+  set_same p to line h ty (Code.step_from k pointed) live env t w right l good meets = refl
+  set_same p to line h ty (Code.unary operator sign) live env t w right l good meets = refl
+  set_same p to line h ty (Code.binary operator sign k) live env t w right l good meets = refl
+  set_same p to line h ty (Code.convert from aim) live env t w right l good meets = refl
+  set_same p to line h ty (Code.not_zero of) live env t w right l good meets = refl
+  set_same p to line h ty (Code.truth of) live env t w right l good meets = refl
+  set_same p to line h ty (Code.is_null wanted of) live env t w right l good meets = refl
+  set_same p to line h ty (Code.same wanted of) live env t w right l good meets = refl
+  set_same p to line h ty Code.new_region live env t w right l good meets = refl
+  set_same p to line h ty Code.new_subregion live env t w right l good meets = refl
+  set_same p to line h ty (Code.region_of of) live env t w right l good meets = refl
+  set_same p to line h ty (Code.allocate made' layout) live env t w right l good meets = refl
+  set_same p to line h ty (Code.allocate_array made' layout) live env t w right l good meets = refl
+  set_same p to line h ty Code.putchar live env t w right l good meets = refl
+  set_same p to line h ty Code.getchar live env t w right l good meets = refl
 
   mutual
-    pub step_same : (x : Step) (here next : ℕ) (live : ℕ → Bool) (env : List Value) (written : Written) (s t : Temporaries) (w : World) → Stand (all frame) here (step_nodes f x here next) → RightStep r f (n frame) x written → StepMeets deleting f calls inside x live env t w → At frame here env s w → Agree written s t
+    pub step_same : (x : Step) (here next : ℕ) (live : ℕ → Bool) (env : List Value) (t : Temporaries) (w : World) → Stand (all frame) here (step_nodes f x here next) → RightStep r f (n frame) x → StepMeets deleting f calls inside x live env t w → At frame here env t w
         → step_run source deleting f.locals x calls' live env t w ≡ step_run source deleting f.locals x calls live env t w
-    step_same (set line h ty op) here next live env written s t w st right meets good agree = set_same here next line h ty op live env written s t w right.1 (leads frame here (operation_effect f h ty op) next st.0) good agree meets
-    step_same (fork line h test result x y) here next live env written s t w st right meets good agree =
+    step_same (set line h ty op) here next live env t w st right meets good = set_same here next line h ty op live env t w right.1 (leads frame here (operation_effect f h ty op) next st.0) good meets
+    step_same (fork line h test result x y) here next live env t w st right meets good =
         let at_y = suc here + steps_points x in
         twin_branch (holds test (temporary test t h)) (steps_run source deleting f.locals x calls live env t) (steps_run source deleting f.locals x calls' live env t) (steps_run source deleting f.locals y calls live env t) (steps_run source deleting f.locals y calls' live env t) w
-        (λ e. let q = says_yes frame env s w test h right.1 (λ i. subst NoNumber (sym (agree h (right.2 i))) (meets.0 i)) (λ i. tested_same frame test h written s t right.1 i (right.2 i) agree ∙ e) in
-        steps_same x (suc here) next live env written s t w (stand_left (all frame) (suc here) (steps_nodes f x (suc here) next) (steps_nodes f y at_y next) st.1) right.3 (meets.1 e)
-        (cross frame here (first_of (steps_points x) (suc here) next) (yes_effect f test h) env env s s w w (record { node = _; e = 0; at = st.0; edge = refl }) good (stays_itself w good.sane) refl (λ u. refl) q.0 q.1) agree)
-        (λ e. let q = says_no frame env s w test h right.1 (λ i. tested_same frame test h written s t right.1 i (right.2 i) agree ∙ e) in
-        steps_same y at_y next live env written s t w (stand_right (all frame) (suc here) at_y (steps_nodes f x (suc here) next) (steps_nodes f y at_y next) (let k = steps_count f x (suc here) next in omega (arith, k)) st.1) right.4 (meets.2 e)
-        (cross frame here (first_of (steps_points y) at_y next) (no_effect f test h) env env s s w w (record { node = _; e = 1; at = st.0; edge = refl }) good (stays_itself w good.sane) refl (λ u. refl) q.0 q.1) agree)
+        (λ e. let q = says_yes frame env t w test h right.1 meets.0 (λ i. e) in
+        steps_same x (suc here) next live env t w (stand_left (all frame) (suc here) (steps_nodes f x (suc here) next) (steps_nodes f y at_y next) st.1) right.2 (meets.1 e)
+        (cross frame here (first_of (steps_points x) (suc here) next) (yes_effect f test h) env env t t w w (record { node = _; e = 0; at = st.0; edge = refl }) good (stays_itself w good.sane) refl (λ u. refl) q.0 q.1))
+        (λ e. let q = says_no frame env t w test h right.1 (λ i. e) in
+        steps_same y at_y next live env t w (stand_right (all frame) (suc here) at_y (steps_nodes f x (suc here) next) (steps_nodes f y at_y next) (let k = steps_count f x (suc here) next in omega (arith, k)) st.1) right.3 (meets.2 e)
+        (cross frame here (first_of (steps_points y) at_y next) (no_effect f test h) env env t t w w (record { node = _; e = 1; at = st.0; edge = refl }) good (stays_itself w good.sane) refl (λ u. refl) q.0 q.1))
 
-    pub steps_same : (x : Steps) (here next : ℕ) (live : ℕ → Bool) (env : List Value) (written : Written) (s t : Temporaries) (w : World) → Stand (all frame) here (steps_nodes f x here next) → RightSteps r f (n frame) x written → StepsMeet deleting f calls inside x live env t w → At frame (first_of (steps_points x) here next) env s w → Agree written s t
+    pub steps_same : (x : Steps) (here next : ℕ) (live : ℕ → Bool) (env : List Value) (t : Temporaries) (w : World) → Stand (all frame) here (steps_nodes f x here next) → RightSteps r f (n frame) x → StepsMeet deleting f calls inside x live env t w → At frame (first_of (steps_points x) here next) env t w
         → steps_run source deleting f.locals x calls' live env t w ≡ steps_run source deleting f.locals x calls live env t w
-    steps_same none here next live env written s t w st right meets good agree = refl
-    steps_same (more x rest) here next live env written s t w st right meets good agree =
+    steps_same none here next live env t w st right meets good = refl
+    steps_same (more x rest) here next live env t w st right meets good =
         let at_rest = here + step_points x in
         let to = first_of (steps_points rest) at_rest next in
         let m = step_run source deleting f.locals x calls (before_steps rest live) env t w in
-        let first = subst (λ p. At frame p env s w) (steps_first frame around x rest here next) good in
+        let first = subst (λ p. At frame p env t w) (steps_first frame around x rest here next) good in
         let left = stand_left (all frame) here (step_nodes f x here to) (steps_nodes f rest at_rest next) st in
-        twin (λ t1 w1. Shown frame to env (written_by x written) t1 w1 × StepsMeet deleting f calls inside rest live env t1 w1) m (step_run source deleting f.locals x calls' (before_steps rest live) env t w) (steps_run source deleting f.locals rest calls live env) (steps_run source deleting f.locals rest calls' live env)
-        (step_same x here to (before_steps rest live) env written s t w left right.0 meets.0 first agree)
-        (goes_both (Shown frame to env (written_by x written)) (λ t1 w1. StepsMeet deleting f calls inside rest live env t1 w1) m (step_good frame around x here to (before_steps rest live) env written s t w left right.0 meets.0 first agree) (record { holds = meets.1 }))
-        (λ t1 w1 q. steps_same rest at_rest next live env (written_by x written) q.0.0 t1 w1 (stand_right (all frame) here at_rest (step_nodes f x here to) (steps_nodes f rest at_rest next) (let k = step_count f x here to in omega (arith, k)) st) right.1 q.1 q.0.1 q.0.2)
+        twin (λ t1 w1. At frame to env t1 w1 × StepsMeet deleting f calls inside rest live env t1 w1) m (step_run source deleting f.locals x calls' (before_steps rest live) env t w) (steps_run source deleting f.locals rest calls live env) (steps_run source deleting f.locals rest calls' live env)
+        (step_same x here to (before_steps rest live) env t w left right.0 meets.0 first)
+        (goes_both (At frame to env) (λ t1 w1. StepsMeet deleting f calls inside rest live env t1 w1) m (step_good frame around x here to (before_steps rest live) env t w left right.0 meets.0 first) (record { holds = meets.1 }))
+        (λ t1 w1 q. steps_same rest at_rest next live env t1 w1 (stand_right (all frame) here at_rest (step_nodes f x here to) (steps_nodes f rest at_rest next) (let k = step_count f x here to in omega (arith, k)) st) right.1 q.1 q.0)
 
   -- stores
   pub put_same : (p line : ℕ) (tg : Target) (v : Value) (w : World) → (marked p ≡ true → Fits line tg v w) → put (marked p) line tg v w ≡ source.store line tg v w
@@ -200,25 +200,26 @@ module _ (frame : Setting) (around : Calling frame) (marking : Marking frame aro
   converted_number Unsigned Char k = (_, refl)
 
   abbrev pub ActSame : Code.Act → Type 0
-  ActSame act = (here : ℕ) (k : Ends) (live : ℕ → Bool) (env : List Value) (written : Written) (s t : Temporaries) (w : World) → Stand (all frame) here (act_nodes f act here k.next) → RightAct r f (n frame) act written → ActMeets deleting f calls inside act live env t w → At frame (first_of (act_points act) here k.next) env s w → Agree written s t
+  ActSame act = (here : ℕ) (k : Ends) (live : ℕ → Bool) (env : List Value) (t : Temporaries) (w : World) → Stand (all frame) here (act_nodes f act here k.next) → RightAct r f (n frame) act → ActMeets deleting f calls inside act live env t w → At frame (first_of (act_points act) here k.next) env t w
       → act_marked source put deleting f.locals marked act here calls' live env t w ≡ act_run source deleting f.locals act calls live env t w
 
   pub store_same : (line : ℕ) (acc : Access) → ActSame (Code.store line acc)
-  store_same line acc here k live env written s t w st right meets good agree =
+  store_same line acc here k live env t w st right meets good =
       ap (λ m. bind m (λ _ w1. Go (Next env t) w1)) (put_same here line (target_at acc t 0) (kept acc.cell (temporary acc.cell t (width acc))) w
-      (cell_fits here k.next (width acc) line acc.cell (target_at acc t 0) (kept acc.cell (temporary acc.cell t (width acc))) env s w st.0 good (target_pointer frame acc t 0 ∙ sym (agree 0 right.3))
-      (λ e. kept_whole frame acc.cell (temporary acc.cell t (width acc)) e ∙ regional_temp frame acc.cell t (width acc) (kind_regional frame acc.cell right.0 e) ∙ sym (agree (width acc) (right.4 e))) meets))
+      (cell_fits here k.next (width acc) line acc.cell (target_at acc t 0) (kept acc.cell (temporary acc.cell t (width acc))) env t w st.0 good (target_pointer frame acc t 0)
+      (λ e. kept_whole frame acc.cell (temporary acc.cell t (width acc)) e ∙ regional_temp frame acc.cell t (width acc) (kind_regional frame acc.cell right.0 e)) meets))
 
   pub compute_same : (line : ℕ) (acc : Access) (from : NumberType) (operator : Operator) (sign : Signedness) (ty : Ty) → ActSame (Code.update line acc (Compute from operator sign) ty)
-  compute_same line acc from operator sign ty here k live env written s t w st right meets good agree =
+  compute_same line acc from operator sign ty here k live env t w st right meets good =
       let tg = target_at acc t 0 in
       let p = here + before_store (Compute from operator sign) in
-      let finish = λ (new : Value) (w2 : World). bind (source.store line tg (kept acc.cell new) w2) (λ _ w3. Go (Next env t) w3) in
-      let finish' = λ (new : Value) (w2 : World). bind (put (marked p) line tg (kept acc.cell new) w2) (λ _ w3. Go (Next env t) w3) in
+      let left = λ (new : Value). set_kind numeric t (suc (width acc)) new in
+      let finish = λ (new : Value) (w2 : World). bind (source.store line tg (kept acc.cell new) w2) (λ _ w3. Go (Next env (left new)) w3) in
+      let finish' = λ (new : Value) (w2 : World). bind (put (marked p) line tg (kept acc.cell new) w2) (λ _ w3. Go (Next env (left new)) w3) in
       twin (λ x w1. Unit {0}) (source.load line tg w) (source.load line tg w) (λ old w1. bind (new_value source deleting f.locals line (Compute from operator sign) ty old (temporary ty t (width acc)) w1) finish) (λ old w1. bind (new_value source deleting f.locals line (Compute from operator sign) ty old (temporary ty t (width acc)) w1) finish') refl (goes_unit (source.load line tg w)) (λ old w1 u.
       twin (λ new w2. (j : ℤ) × (new ≡ Number j)) (new_value source deleting f.locals line (Compute from operator sign) ty old (temporary ty t (width acc)) w1) (new_value source deleting f.locals line (Compute from operator sign) ty old (temporary ty t (width acc)) w1) finish finish' refl
       (computed_number (calculate operator sign (number_in (convert_value from (type_of sign) old)) (right_number operator ty (temporary ty t (width acc)))) w1) (λ new w2 q.
-      ap (λ m. bind m (λ _ w3. Go (Next env t) w3)) (put_same p line tg (kept acc.cell new) w2 (λ e. any_fits new w2 q.0 q.1))))
+      ap (λ m. bind m (λ _ w3. Go (Next env (left new)) w3)) (put_same p line tg (kept acc.cell new) w2 (λ e. any_fits new w2 q.0 q.1))))
     where
       goes_unit : {A : Type 0} (m : Run World A) → Goes (λ x w1. Unit {0}) m
       goes_unit (Go x w1) = record { holds = tt }
@@ -235,19 +236,20 @@ module _ (frame : Setting) (around : Calling frame) (marking : Marking frame aro
           all_go (fits (parent w2.heap) (note_at w2.heap tg) (region_in tg.pointer) (kept acc.cell new) ≡ true) (at_spot line tg w2 (λ spot. Go spot w2)) (subst (λ v. fits (parent w2.heap) (note_at w2.heap tg) (region_in tg.pointer) v ≡ true) (sym (ap (kept acc.cell) e ∙ q.1)) (number_fits (parent w2.heap) (note_at w2.heap tg) (region_in tg.pointer) q.0))
 
   pub step_by_same : (line : ℕ) (acc : Access) (direction : Direction) (ty : Ty) → ActSame (Code.update line acc (Stepping direction) ty)
-  step_by_same line acc direction ty here k live env written s t w st right meets good agree =
+  step_by_same line acc direction ty here k live env t w st right meets good =
       let tg = target_at acc t 0 in
       let z = suc (width acc) in
       let p = here + 2 in
       let shift = toward direction (number_in (temporary ty t (width acc))) in
-      let finish = λ (new : Value) (w2 : World). bind (source.store line tg (kept acc.cell new) w2) (λ _ w3. Go (Next env t) w3) in
-      let finish' = λ (new : Value) (w2 : World). bind (put (marked p) line tg (kept acc.cell new) w2) (λ _ w3. Go (Next env t) w3) in
+      let left = λ (new : Value). set_kind regional t (suc (width acc)) new in
+      let finish = λ (new : Value) (w2 : World). bind (source.store line tg (kept acc.cell new) w2) (λ _ w3. Go (Next env (left new)) w3) in
+      let finish' = λ (new : Value) (w2 : World). bind (put (marked p) line tg (kept acc.cell new) w2) (λ _ w3. Go (Next env (left new)) w3) in
       let store_at = subst (λ i. slice_get (all frame) i ≡ Some (going (one_of (is_regional acc.cell) (stored (temp_at frame z) (temp_at frame 0) (note_in acc.cell)) (looked_at (temp_at frame 0))) k.next)) (let e : suc (suc here) ≡ p = omega arith in e) st.1.1.0 in
-      twin (λ old w1. Goes (Ready frame around line acc here env t) (source.step line old shift w1)) (source.load line tg w) (source.load line tg w) (λ old w1. bind (source.step line old shift w1) finish) (λ old w1. bind (source.step line old shift w1) finish') refl
-      (ready_good frame around line acc direction ty here k live env written s t w st right meets good agree) (λ old w1 q1.
-      twin (Ready frame around line acc here env t) (source.step line old shift w1) (source.step line old shift w1) finish finish' refl q1 (λ new w2 q2.
-      ap (λ m. bind m (λ _ w3. Go (Next env t) w3)) (put_same p line tg (kept acc.cell new) w2
-      (cell_fits p k.next z line acc.cell tg (kept acc.cell new) env q2.temps w2 store_at (subst (λ i. At frame i env q2.temps w2) (let e : suc (suc here) ≡ p = omega arith in e) q2.at) q2.holder (λ e. sym q2.new_is) q2.named))))
+      twin (Held frame around line acc direction ty here env t) (source.load line tg w) (source.load line tg w) (λ old w1. bind (source.step line old shift w1) finish) (λ old w1. bind (source.step line old shift w1) finish') refl
+      (ready_good frame around line acc direction ty here k live env t w st right meets good) (λ old w1 q1.
+      twin (Ready frame around line acc here env t old) (source.step line old shift w1) (source.step line old shift w1) finish finish' refl q1.then (λ new w2 q2.
+      ap (λ m. bind m (λ _ w3. Go (Next env (left new)) w3)) (put_same p line tg (kept acc.cell new) w2
+      (cell_fits p k.next z line acc.cell tg (kept acc.cell new) env (left new) w2 store_at (subst (λ i. At frame i env (left new) w2) (let e : suc (suc here) ≡ p = omega arith in e) q2.at) (target_pointer frame acc t 0 ∙ sym (changed_else t.regions z new 0 (not_eq 0 z (λ e. cc)))) (λ e. kept_whole frame acc.cell new e ∙ sym (changed_there t.regions z new z refl)) q2.named))))
 
   pub fits_cell : (kind : CellKind) (parents : ℕ → ℕ) (holder : ℕ) (v : Value) → fits parents (note_of kind) holder v ≡ true → fits parents (note_of kind) holder (kept_cell kind v) ≡ true
   fits_cell int_cell parents holder v e = e
@@ -256,35 +258,45 @@ module _ (frame : Setting) (around : Calling frame) (marking : Marking frame aro
   fits_cell region_cell parents holder v e = e
   fits_cell (pointer_cell note target) parents holder v e = e
 
-  pub cells_same : (line z lw : ℕ) → lw < z → z < (n frame) → (kinds : Layout) (from to : Target) (here next : ℕ) (env : List Value) (s : Temporaries) (w : World) → Stand (all frame) here (in_line (cell_effects f z lw kinds) here next) → MoveMeets line kinds from to w → from.pointer ≡ s.regions lw → to.pointer ≡ s.regions 0 → At frame (first_of (2 * length kinds) here next) env s w
-      → cells_marked source put deleting f.locals marked line kinds from to here w ≡ cells_moved source deleting f.locals line kinds from to w
-  cells_same line z lw lz lt [] from to here next env s w st meets ef et good = refl
-  cells_same line z lw lz lt (kind ∷ kinds) from to here next env s w st meets ef et good =
+  -- a cell's value fits where its store is marked
+  pub cell_put_fits : (p to z line : ℕ) (kind : CellKind) (tg : Target) (v : Value) (env : List Value) (t : Temporaries) (w : World) → slice_get (all frame) p ≡ Some (going (one_of (is_regional_cell kind) (stored (temp_at frame z) (temp_at frame 0) (note_of kind)) (looked_at (temp_at frame 0))) to)
+      → At frame p env t w → tg.pointer ≡ t.regions 0 → (is_regional_cell kind ≡ true → t.regions z ≡ v) → (is_regional_cell kind ≡ true → Named line tg (note_of kind) w) → marked p ≡ true → Fits line tg (kept_cell kind v) w
+  cell_put_fits p to z line kind tg v env t w at good e same named m = by (is_regional_cell kind) refl at
+    where
+      by : (b : Bool) → is_regional_cell kind ≡ b → slice_get (all frame) p ≡ Some (going (one_of b (stored (temp_at frame z) (temp_at frame 0) (note_of kind)) (looked_at (temp_at frame 0))) to) → Fits line tg (kept_cell kind v) w
+      by true q at = fits_named line tg (note_of kind) (kept_cell kind v) w (named q) (fits_cell kind (parent w.heap) (region_in tg.pointer) v
+          (subst (λ x. fits (parent w.heap) (note_of kind) (region_in x) v ≡ true) (sym e) (subst (λ x. fits (parent w.heap) (note_of kind) (region_in (t.regions 0)) x ≡ true) (same q) (stored_fits p to z (note_of kind) env t w at m good))))
+      by false q at = absurd (none_some (asks_there p (looked_at (temp_at frame 0)) to at m))
+        where
+          none_some : None ≡ Some (proven p m).fact → ⊥
+          none_some e = cc
+
+  pub cells_same : (line z lw : ℕ) → lw < z → z < (n frame) → (kinds : Layout) (from to : Target) (here next : ℕ) (env : List Value) (t : Temporaries) (w : World) → Stand (all frame) here (in_line (cell_effects f z lw kinds) here next) → MoveMeets line kinds from to w → from.pointer ≡ t.regions lw → to.pointer ≡ t.regions 0 → At frame (first_of (2 * length kinds) here next) env t w
+      → cells_marked source put deleting f.locals marked line z kinds from to here t w ≡ cells_moved source deleting f.locals line z kinds from to t w
+  cells_same line z lw lz lt [] from to here next env t w st meets ef et good = refl
+  cells_same line z lw lz lt (kind ∷ kinds) from to here next env t w st meets ef et good =
       let from1 : Target = record from { offset = suc from.offset } in
       let to1 : Target = record to { offset = suc to.offset } in
-      let two = stored_leads frame around z lw kinds (note_of kind) (suc here) next st.1 in
-      twin (Carried frame around line kind kinds from to z here env s) (source.load line from w) (source.load line from w) (λ v w1. bind (source.store line to (kept_cell kind v) w1) (λ _ w2. cells_moved source deleting f.locals line kinds from1 to1 w2))
-      (λ v w1. bind (put (marked (suc here)) line to (kept_cell kind v) w1) (λ _ w2. cells_marked source put deleting f.locals marked line kinds from1 to1 (suc (suc here)) w2)) refl
-      (carried_good frame around line z lw lz lt kind kinds from to here next env s w st meets ef good) (λ v w1 q1.
-      let s1 = with_value frame around z s v in
-      let et1 : to.pointer ≡ s1.regions 0 = et ∙ sym (changed_else s.regions z v 0 (not_eq 0 z (λ e. omega (arith, e, lz)))) in
-      let ef1 : from.pointer ≡ s1.regions lw = ef ∙ sym (changed_else s.regions z v lw (not_eq lw z (λ e. omega (arith, e, lz)))) in
-      twin (λ u w2. At frame (first_of (2 * length kinds) (suc (suc here)) next) env s1 w2 × MoveMeets line kinds from1 to1 w2) (source.store line to (kept_cell kind v) w1) (put (marked (suc here)) line to (kept_cell kind v) w1) (λ _ w2. cells_moved source deleting f.locals line kinds from1 to1 w2) (λ _ w2. cells_marked source put deleting f.locals marked line kinds from1 to1 (suc (suc here)) w2)
-      (put_same (suc here) line to (kept_cell kind v) w1 (λ e. fits_named line to (note_of kind) (kept_cell kind v) w1 q1.named
-      (fits_cell kind (parent w1.heap) (region_in to.pointer) v
-      (subst (λ x. fits (parent w1.heap) (note_of kind) (region_in x) v ≡ true) (sym et1) (subst (λ x. fits (parent w1.heap) (note_of kind) (region_in (s1.regions 0)) x ≡ true) (changed_there s.regions z v z refl)
-      (stored_fits (suc here) (first_of (2 * length kinds) (suc (suc here)) next) z (note_of kind) env s1 w1 two.0 e q1.at))))))
-      (cell_stored frame around line z lw lz kind kinds from to here next env s v w1 two.0 et1 q1)
-      (λ u w2 q2. cells_same line z lw lz lt kinds from1 to1 (suc (suc here)) next env s1 w2 two.1 q2.1 ef1 et1 q2.0))
+      let two = stored_leads frame around z lw kinds (one_of (is_regional_cell kind) (stored (temp_at frame z) (temp_at frame 0) (note_of kind)) (looked_at (temp_at frame 0))) (suc here) next st.1 in
+      twin (Carried frame around line kind kinds from to z here env t) (source.load line from w) (source.load line from w) (λ v w1. bind (source.store line to (kept_cell kind v) w1) (λ _ w2. cells_moved source deleting f.locals line z kinds from1 to1 (with_cell kind t z v) w2))
+      (λ v w1. bind (put (marked (suc here)) line to (kept_cell kind v) w1) (λ _ w2. cells_marked source put deleting f.locals marked line z kinds from1 to1 (suc (suc here)) (with_cell kind t z v) w2)) refl
+      (carried_good frame around line z lw lz lt kind kinds from to here next env t w st meets ef good) (λ v w1 q1.
+      let t1 = with_cell kind t z v in
+      let et1 : to.pointer ≡ t1.regions 0 = et ∙ sym (kind_else frame around (cell_kind kind) t z v 0 (not_eq 0 z (λ e. omega (arith, e, lz)))) in
+      let ef1 : from.pointer ≡ t1.regions lw = ef ∙ sym (kind_else frame around (cell_kind kind) t z v lw (not_eq lw z (λ e. omega (arith, e, lz)))) in
+      twin (λ u w2. At frame (first_of (2 * length kinds) (suc (suc here)) next) env t1 w2 × MoveMeets line kinds from1 to1 w2) (source.store line to (kept_cell kind v) w1) (put (marked (suc here)) line to (kept_cell kind v) w1) (λ _ w2. cells_moved source deleting f.locals line z kinds from1 to1 t1 w2) (λ _ w2. cells_marked source put deleting f.locals marked line z kinds from1 to1 (suc (suc here)) t1 w2)
+      (put_same (suc here) line to (kept_cell kind v) w1 (cell_put_fits (suc here) _ z line kind to v env t1 w1 two.0 q1.at et1 (cell_there frame around kind t z v) q1.named))
+      (cell_stored frame around line z lw lz kind kinds from to here next env t v w1 two.0 et1 q1)
+      (λ u w2 q2. cells_same line z lw lz lt kinds from1 to1 (suc (suc here)) next env t1 w2 two.1 q2.1 ef1 et1 q2.0))
 
   pub act_same : (act : Code.Act) → ActSame act
-  act_same Code.drop here k live env written s t w st right meets good agree = refl
-  act_same (Code.perform line i tys) here k live env written s t w st right meets good agree = ap (λ m. bind m (λ _ w1. Go (Next env t) w1)) (call_same line 0 int i tys live env written s t w here k.next None right.0 right.1 meets (leads frame here _ k.next st.0) good agree)
-  act_same (Code.assign line x ty) here k live env written s t w st right meets good agree = refl
-  act_same (Code.store line acc) here k live env written s t w st right meets good agree = store_same line acc here k live env written s t w st right meets good agree
-  act_same (Code.update line acc (Compute from operator sign) ty) here k live env written s t w st right meets good agree = compute_same line acc from operator sign ty here k live env written s t w st right meets good agree
-  act_same (Code.update line acc (Stepping direction) ty) here k live env written s t w st right meets good agree = step_by_same line acc direction ty here k live env written s t w st right meets good agree
-  act_same (Code.move line kinds left right) here k live env written s t w st right' meets good agree =
-      ap (λ m. bind m (λ _ w1. Go (Next env t) w1)) (cells_same line (width left + width right) (width left) (omega arith) right'.0 kinds (target_at right t (width left)) (target_at left t 0) here k.next env s w st meets (target_pointer frame right t (width left) ∙ sym (agree (width left) right'.2)) (target_pointer frame left t 0 ∙ sym (agree 0 right'.1)) good)
-  act_same (Code.delete line) here k live env written s t w st right meets good agree = refl
-  act_same (Code.leave line result) here k live env written s t w st right meets good agree = refl
+  act_same Code.drop here k live env t w st right meets good = refl
+  act_same (Code.perform line i tys) here k live env t w st right meets good = ap (λ m. bind m (λ _ w1. Go (Next env t) w1)) (call_same line 0 int i tys live env t w here k.next None right meets (leads frame here _ k.next st.0) good)
+  act_same (Code.assign line x ty) here k live env t w st right meets good = refl
+  act_same (Code.store line acc) here k live env t w st right meets good = store_same line acc here k live env t w st right meets good
+  act_same (Code.update line acc (Compute from operator sign) ty) here k live env t w st right meets good = compute_same line acc from operator sign ty here k live env t w st right meets good
+  act_same (Code.update line acc (Stepping direction) ty) here k live env t w st right meets good = step_by_same line acc direction ty here k live env t w st right meets good
+  act_same (Code.move line kinds left right) here k live env t w st right' meets good =
+      ap (λ m. bind m (λ t1 w1. Go (Next env t1) w1)) (cells_same line (width left + width right) (width left) (omega arith) right' kinds (target_at right t (width left)) (target_at left t 0) here k.next env t w st meets (target_pointer frame right t (width left)) (target_pointer frame left t 0) good)
+  act_same (Code.delete line) here k live env t w st right meets good = refl
+  act_same (Code.leave line result) here k live env t w st right meets good = refl

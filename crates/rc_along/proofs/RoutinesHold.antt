@@ -13,7 +13,7 @@ use Rattle.rc_annotations.specs.Holding.{AllHold}
 use Rattle.rc_annotations.specs.Effects.{Absent, EachIs}
 use Rattle.rc_annotations.specs.Variables.{picked, past, picks}
 use Rattle.rc_annotations.specs.Worlds.{Grown, Made, Sane}
-use Rattle.rc_along.specs.Along.{Stand, Whole, given_to, RightRoutine, RoutineMeets, nowhere}
+use Rattle.rc_along.specs.Along.{Stand, Whole, given_to, RightRoutine, RoutineMeets}
 use Rattle.rc_annotations.proofs.Truths.{derivable_holds, holds_same}
 use Rattle.rc_core.specs.Live as L
 use Rattle.rc_annotations.proofs.Variables as V
@@ -22,33 +22,44 @@ use Rattle.rc_annotations.proofs.Nodes.{code_count}
 use Rattle.rc_along.proofs.Standing.{stand_left, stand_right, past_front, stand_all, null_zero}
 use Rattle.rc_along.proofs.Settings.{Setting, Calling}
 use Rattle.rc_along.proofs.Crossing.{n, all, temp_at, vals, At, leads, cross, cross_assigned, new_temp, set_values, keep_values, kind_regional, kind_numeric}
-use Rattle.rc_along.proofs.ActsHold.{Somehow, Left, GoodWay, left_at, agree_nowhere}
+use Rattle.rc_along.proofs.ActsHold.{Left, GoodWay, left_at}
 use Rattle.rc_along.proofs.CodeHolds.{code_good}
 
 module _ (frame : Setting) (around : Calling frame) where
   open frame use {r, temporaries, a, c, g, f, there, copied, whole, heap0}
   open around use {deleting, calls, inside, keeps_calls}
 
+  -- behind the body a result is zero or null
+  pub cleared_good : (at : ℕ) (env : List Value) (t : Temporaries) (w : World) (ty : Ty) → Whole ty → slice_get (all frame) at ≡ Some (going (one_of (is_regional ty) (nulled (temp_at frame 0)) nothing) (suc at)) → At frame at env t w → At frame (suc at) env (with_temporary ty t 0 (zero_of ty)) w
+  cleared_good at env t w ty whole' node good = cleared (is_regional ty) refl node
+    where
+      cleared : (b : Bool) → is_regional ty ≡ b → slice_get (all frame) at ≡ Some (going (one_of b (nulled (temp_at frame 0)) nothing) (suc at)) → At frame (suc at) env (with_temporary ty t 0 (zero_of ty)) w
+      cleared true q p =
+          let null' : Null ≡ zero_of ty = sym (null_zero ty q) in
+          cross_assigned frame at (suc at) (nulled (temp_at frame 0)) (temp_at frame 0) (zero_of ty) env env t (with_temporary ty t 0 (zero_of ty)) w w (leads frame at _ (suc at) p) good (stays_itself w good.sane) refl (set_values frame ty env t 0 (zero_of ty) (kind_regional frame ty whole' q)) refl
+          (subst (Made w.heap) null' (λ m. absurd m)) (subst Absent (null' ∙ sym (new_temp frame env t (zero_of ty))) (λ m. m))
+      cleared false q p = cross frame at (suc at) nothing env env t (with_temporary ty t 0 (zero_of ty)) w w (leads frame at nothing (suc at) p) good (stays_itself w good.sane) refl (keep_values frame ty env t 0 (zero_of ty) (kind_numeric frame ty whole' q)) refl tt
+
   -- behind the body zero or null is returned
-  pub end_good : (at : ℕ) (env : List Value) (w : World) → ((ty : Ty) → f.result ≡ Some ty → Whole ty × (0 < (n frame))) → Stand (all frame) at (end_nodes f f.result at) → Somehow frame around at env w → Left frame around (zero_result f.result) w
-  end_good at env w right st i = by f.result refl right st
+  pub end_good : (at : ℕ) (env : List Value) (t : Temporaries) (w : World) → ((ty : Ty) → f.result ≡ Some ty → Whole ty × (0 < (n frame))) → Stand (all frame) at (end_nodes f f.result at) → At frame at env t w → Left frame around (zero_result f.result) w
+  end_good at env t w right st i = by f.result refl right st
     where
       set_there : (k : Kind) (s : Temporaries) (v : Value) → at_kind k (set_kind k s 0 v) 0 ≡ v
       set_there numeric s v = refl
       set_there regional s v = refl
 
       by : (result : Option Ty) → result ≡ f.result → ((ty : Ty) → result ≡ Some ty → Whole ty × (0 < (n frame))) → Stand (all frame) at (end_nodes f result at) → Left frame around (zero_result result) w
-      by None e right st = left_at frame around None nowhere ((λ ty q reg. (ty, e ∙ q, reg)), λ ty q. cc) at env i.0 i.0 w st i.1 (agree_nowhere frame around i.0 i.0)
+      by None e right st = left_at frame around None ((λ ty q reg. (ty, e ∙ q, reg)), λ ty q. cc) at env t w st i
       by (Some ty) e right st =
-          let s1 : Temporaries = with_temporary ty i.0 0 (zero_of ty) in
-          subst (λ v. Left frame around v w) (set_there (kind_of ty) i.0 (zero_of ty)) (left_at frame around (Some ty) (λ j. true) ((λ u q reg. (u, e ∙ q, reg)), λ u q. ((right u q).0, (right u q).1, λ k. refl)) (suc at) env s1 s1 w st.1 (cleared (is_regional ty) refl st.0) (λ j q. refl))
+          let s1 : Temporaries = with_temporary ty t 0 (zero_of ty) in
+          subst (λ v. Left frame around v w) (set_there (kind_of ty) t (zero_of ty)) (left_at frame around (Some ty) ((λ u q reg. (u, e ∙ q, reg)), right) (suc at) env s1 w st.1 (cleared (is_regional ty) refl st.0))
         where
-          cleared : (b : Bool) → is_regional ty ≡ b → slice_get (all frame) at ≡ Some (going (one_of b (nulled (temp_at frame 0)) nothing) (suc at)) → At frame (suc at) env (with_temporary ty i.0 0 (zero_of ty)) w
+          cleared : (b : Bool) → is_regional ty ≡ b → slice_get (all frame) at ≡ Some (going (one_of b (nulled (temp_at frame 0)) nothing) (suc at)) → At frame (suc at) env (with_temporary ty t 0 (zero_of ty)) w
           cleared true q p =
               let null' : Null ≡ zero_of ty = sym (null_zero ty q) in
-              cross_assigned frame at (suc at) (nulled (temp_at frame 0)) (temp_at frame 0) (zero_of ty) env env i.0 (with_temporary ty i.0 0 (zero_of ty)) w w (leads frame at _ (suc at) p) i.1 (stays_itself w i.1.sane) refl (set_values frame ty env i.0 0 (zero_of ty) (kind_regional frame ty (right ty refl).0 q)) refl
-              (subst (Made w.heap) null' (λ m. absurd m)) (subst Absent (null' ∙ sym (new_temp frame env i.0 (zero_of ty))) (λ m. m))
-          cleared false q p = cross frame at (suc at) nothing env env i.0 (with_temporary ty i.0 0 (zero_of ty)) w w (leads frame at nothing (suc at) p) i.1 (stays_itself w i.1.sane) refl (keep_values frame ty env i.0 0 (zero_of ty) (kind_numeric frame ty (right ty refl).0 q)) refl tt
+              cross_assigned frame at (suc at) (nulled (temp_at frame 0)) (temp_at frame 0) (zero_of ty) env env t (with_temporary ty t 0 (zero_of ty)) w w (leads frame at _ (suc at) p) i (stays_itself w i.sane) refl (set_values frame ty env t 0 (zero_of ty) (kind_regional frame ty (right ty refl).0 q)) refl
+              (subst (Made w.heap) null' (λ m. absurd m)) (subst Absent (null' ∙ sym (new_temp frame env t (zero_of ty))) (λ m. m))
+          cleared false q p = cross frame at (suc at) nothing env env t (with_temporary ty t 0 (zero_of ty)) w w (leads frame at nothing (suc at) p) i (stays_itself w i.sane) refl (keep_values frame ty env t 0 (zero_of ty) (kind_numeric frame ty (right ty refl).0 q)) refl tt
 
   -- at the entry
   pub zero_absent : (ty : Ty) → Absent (zero_of ty)
@@ -207,11 +218,11 @@ module _ (frame : Setting) (around : Calling frame) where
       let at_end' = suc (code_points f.body) in
       let k : Ends = record { next = at_end'; broken = at_end'; continued = at_end' } in
       goes_bind (GoodWay frame around k) (Left frame around) (code_run source deleting f.locals f.body calls L.at_end (sized f.locals xs) blank_temporaries w) (result_of f.result)
-      (code_good frame around f.body 1 k body_stands.0 right.body L.at_end (sized f.locals xs) blank_temporaries w meets (blank_temporaries, begin_good xs w same long_xs sane grown hold made'))
+      (code_good frame around f.body 1 k body_stands.0 right.body L.at_end (sized f.locals xs) blank_temporaries w meets (begin_good xs w same long_xs sane grown hold made'))
       (λ way w1 p. ending at_end' body_stands.1 way w1 p)
     where
       ending : (at : ℕ) → Stand (all frame) at (end_nodes f f.result at) → (way : Way) (w1 : World) → GoodWay frame around (record { next = at; broken = at; continued = at }) way w1 → Goes (Left frame around) (result_of f.result way w1)
-      ending at ends (Next env t) w1 p = gives (Left frame around) (zero_result f.result) w1 (end_good at env w1 right.result ends p)
-      ending at ends (Broke env t) w1 p = gives (Left frame around) (zero_result f.result) w1 (end_good at env w1 right.result ends p)
-      ending at ends (Continued env t) w1 p = gives (Left frame around) (zero_result f.result) w1 (end_good at env w1 right.result ends p)
+      ending at ends (Next env t) w1 p = gives (Left frame around) (zero_result f.result) w1 (end_good at env t w1 right.result ends p)
+      ending at ends (Broke env t) w1 p = gives (Left frame around) (zero_result f.result) w1 (end_good at env t w1 right.result ends p)
+      ending at ends (Continued env t) w1 p = gives (Left frame around) (zero_result f.result) w1 (end_good at env t w1 right.result ends p)
       ending at ends (Returned v) w1 p = gives (Left frame around) v w1 p

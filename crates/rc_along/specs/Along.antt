@@ -2,7 +2,7 @@
 -- The facts of a point are good where they hold of the variables, all values are made, and the heap is in order. What is asked of types is
 -- said here too: that kinds, arguments and results agree, and that an access names the annotation that the object's layout has. Of calls it is
 -- asked that a call which is given the facts of the entry gives back those of the exit; that is `Keeps`.
-use Rattle.std.specs.Prelude.{◌≡◌, ℕ, zero, suc, ◌+◌, ◌<◌, ◌≤◌, Bool, true, false, ◌||◌, ◌&&◌, nat_eq, List, [], ◌∷◌, length, map, take, get_or, slice_get, Option, Some, None, is_some}
+use Rattle.std.specs.Prelude.{◌≡◌, ℕ, zero, suc, ◌+◌, ◌<◌, ◌≤◌, Bool, true, false, ◌||◌, ◌&&◌, List, [], ◌∷◌, length, map, take, get_or, slice_get, Option, Some, None, is_some}
 use Rattle.rc_core.specs.declared.stmt.Change.TheVariants.{Compute, Step as Stepping}
 use Rattle.rc_core.specs.Types.{Ty, int}
 use Rattle.rc_core.specs.Layout.{Layout, note_of}
@@ -13,7 +13,7 @@ use Rattle.rc_core.specs.Live.{Ways, then_live, round, at_end}
 use Rattle.rc_core.specs.Runs.{Go, Target, Calls}
 use Rattle.rc_core.specs.Source.{World, at_spot, source}
 use Rattle.rc_rlang.specs.RegionCode.{numeric, regional, kind_of, width, Operation, null, static, copy, load, step, step_from, call, new_region, new_subregion, region_of, allocate, allocate_array, Step, set, fork, Steps, none, more, Act, drop, perform, assign, store, update, move, delete, leave, Test, Code, simple, clear, block, branch, loop, repeat, break, continue, Codes, done, then, Routine, Rlang}
-use Rattle.rc_rlang.specs.RegionFlow.{Node, one_of, is_regional, note_in}
+use Rattle.rc_rlang.specs.RegionFlow.{Node, one_of, is_regional, is_regional_cell, note_in}
 use Rattle.rc_rlang.specs.RegionRuns.{Temporaries, temporary, temporaries_from, blank_temporaries, kept_all, kept_cell, holds, target_at, held, sized, test_value, step_run, steps_run, new_value, code_run, deletes, calls_within, Way, Next, Broke, Continued, Returned}
 use Rattle.rc_rlang.specs.RegionLive.{before_steps, before_act, before_code, before_codes, loop_head, repeat_tail}
 use Rattle.rc_annotations.specs.Annotations.{Annotation}
@@ -70,34 +70,6 @@ module _ (r : Rlang) (a : Annotation) where
   Keeps calls inside = (k : ℕ) (fk : Routine) (arguments : List Value) (w : World) → slice_get r.functions k ≡ Some fk → length arguments ≡ fk.parameters → inside k arguments w → Sane w → ((i : ℕ) → Made w.heap (past (given_to fk arguments) (λ _. Null) i)) → AllHold (a.entry k) (past (given_to fk arguments) (λ _. Null)) w.heap
       → IfGoes (Called a fk.result k (given_to fk arguments) w) (calls k arguments w)
 
--- the temporaries of regions and pointers that are written in a statement; no other is read
-abbrev pub Written : Type 0
-Written = ℕ → Bool
-
-abbrev pub nowhere : Written
-nowhere j = false
-
-abbrev pub written_in : Ty → (h : ℕ) → Written → Written
-written_in ty h written j = one_of (is_regional ty) (nat_eq j h || written j) (written j)
-
--- behind a fork what both ways have written
-abbrev mutual
-  pub written_by : Step → Written → Written
-  written_by (set line h ty op) written j = written_in ty h written j
-  written_by (fork line h test result x y) written j = written_by_all x written j && written_by_all y written j
-
-  pub written_by_all : Steps → Written → Written
-  written_by_all none written j = written j
-  written_by_all (more s rest) written j = written_by_all rest (written_by s written) j
-
--- temporaries that are the same where they are written
-abbrev pub Agree : Written → (s t : Temporaries) → Type 0
-Agree written s t = (j : ℕ) → written j ≡ true → s.regions j ≡ t.regions j
-
-abbrev pub AllWritten : Written → List Ty → (h : ℕ) → Type 0
-AllWritten written [] h = Unit {0}
-AllWritten written (ty ∷ tys) h = (is_regional ty ≡ true → written h ≡ true) × AllWritten written tys (suc h)
-
 -- where a region or a pointer is promised, one is given
 abbrev pub GivesBack : (promised given : Option Ty) → Type 0
 GivesBack promised given = (ty : Ty) → promised ≡ Some ty → is_regional ty ≡ true → (u : Ty) × (given ≡ Some u) × (is_regional u ≡ true)
@@ -115,55 +87,50 @@ module _ (r : Rlang) (f : Routine) (n : ℕ) where
     pub result : Whole ty
     pub gives_back : is_regional ty ≡ true → (u : Ty) × (callee.result ≡ Some u) × (is_regional u ≡ true)
 
-  abbrev pub RightOperation : Written → (h : ℕ) → Ty → Operation → Type 0
-  RightOperation written h ty null = kind_of ty ≡ regional
-  RightOperation written h ty (static object) = kind_of ty ≡ regional
-  RightOperation written h ty (copy x) = Whole ty × (get_or (picks f) x false ≡ is_regional ty)
-  RightOperation written h ty (load acc) = Whole ty × (written h ≡ true)
-  RightOperation written h ty (step direction pointed k) = (kind_of ty ≡ regional) × (kind_of pointed ≡ regional) × (written h ≡ true)
-  RightOperation written h ty (step_from k pointed) = (kind_of ty ≡ regional) × (kind_of pointed ≡ regional) × (suc h < n) × (written (suc h) ≡ true)
-  RightOperation written h ty (region_of of) = (kind_of ty ≡ regional) × (kind_of of ≡ regional) × (written h ≡ true)
-  RightOperation written h ty (allocate made layout) = (kind_of ty ≡ regional) × (written h ≡ true)
-  RightOperation written h ty (allocate_array made layout) = (kind_of ty ≡ regional) × (written h ≡ true)
-  RightOperation written h ty new_region = kind_of ty ≡ regional
-  RightOperation written h ty new_subregion = (kind_of ty ≡ regional) × (written h ≡ true)
-  RightOperation written h ty (call k tys) = CallRight h ty k tys × AllWritten written tys h
-  RightOperation written h ty op = kind_of ty ≡ numeric
+  abbrev pub RightOperation : (h : ℕ) → Ty → Operation → Type 0
+  RightOperation h ty null = kind_of ty ≡ regional
+  RightOperation h ty (static object) = kind_of ty ≡ regional
+  RightOperation h ty (copy x) = Whole ty × (get_or (picks f) x false ≡ is_regional ty)
+  RightOperation h ty (load acc) = Whole ty
+  RightOperation h ty (step direction pointed k) = (kind_of ty ≡ regional) × (kind_of pointed ≡ regional)
+  RightOperation h ty (step_from k pointed) = (kind_of ty ≡ regional) × (kind_of pointed ≡ regional) × (suc h < n)
+  RightOperation h ty (region_of of) = (kind_of ty ≡ regional) × (kind_of of ≡ regional)
+  RightOperation h ty (allocate made layout) = kind_of ty ≡ regional
+  RightOperation h ty (allocate_array made layout) = kind_of ty ≡ regional
+  RightOperation h ty new_region = kind_of ty ≡ regional
+  RightOperation h ty new_subregion = kind_of ty ≡ regional
+  RightOperation h ty (call k tys) = CallRight h ty k tys
+  RightOperation h ty op = kind_of ty ≡ numeric
 
   abbrev mutual
-    pub RightStep : Step → Written → Type 0
-    RightStep (set line h ty op) written = (h < n) × RightOperation written h ty op
-    RightStep (fork line h test result x y) written = (h < n) × Whole test × (is_regional test ≡ true → written h ≡ true) × RightSteps x written × RightSteps y written
+    pub RightStep : Step → Type 0
+    RightStep (set line h ty op) = (h < n) × RightOperation h ty op
+    RightStep (fork line h test result x y) = (h < n) × Whole test × RightSteps x × RightSteps y
 
-    pub RightSteps : Steps → Written → Type 0
-    RightSteps none written = Unit {0}
-    RightSteps (more s rest) written = RightStep s written × RightSteps rest (written_by s written)
+    pub RightSteps : Steps → Type 0
+    RightSteps none = Unit {0}
+    RightSteps (more s rest) = RightStep s × RightSteps rest
 
-  -- of an act the written temporaries are those of the steps before it
-  abbrev pub RightAct : Act → Written → Type 0
-  RightAct drop written = Unit {0}
-  RightAct (perform line k tys) written = CallRight 0 int k tys × AllWritten written tys 0
-  RightAct (assign line x ty) written = Whole ty × (get_or (picks f) x false ≡ is_regional ty) × (0 < n) × (is_regional ty ≡ true → written 0 ≡ true)
-  RightAct (store line acc) written = Whole acc.cell × (0 < n) × (width acc < n) × (written 0 ≡ true) × (is_regional acc.cell ≡ true → written (width acc) ≡ true)
-  RightAct (update line acc (Compute from operator sign) ty) written = (0 < n) × (written 0 ≡ true)
-  RightAct (update line acc (Stepping direction) ty) written = (is_regional acc.cell ≡ true) × (suc (width acc) < n) × (written 0 ≡ true)
-  RightAct (move line kinds left right) written = (width left + width right < n) × (written 0 ≡ true) × (written (width left) ≡ true)
-  RightAct (delete line) written = (0 < n) × (written 0 ≡ true)
-  RightAct (leave line result) written = GivesBack f.result result × ((ty : Ty) → result ≡ Some ty → Whole ty × (0 < n) × (is_regional ty ≡ true → written 0 ≡ true))
+  abbrev pub RightAct : Act → Type 0
+  RightAct drop = Unit {0}
+  RightAct (perform line k tys) = CallRight 0 int k tys
+  RightAct (assign line x ty) = Whole ty × (get_or (picks f) x false ≡ is_regional ty) × (0 < n)
+  RightAct (store line acc) = Whole acc.cell × (0 < n) × (width acc < n)
+  RightAct (update line acc (Compute from operator sign) ty) = 0 < n
+  RightAct (update line acc (Stepping direction) ty) = (is_regional acc.cell ≡ true) × (suc (width acc) < n)
+  RightAct (move line kinds left right) = width left + width right < n
+  RightAct (delete line) = 0 < n
+  RightAct (leave line result) = GivesBack f.result result × ((ty : Ty) → result ≡ Some ty → Whole ty × (0 < n))
 
-  abbrev pub RightTest : Test → Written → Type 0
-  RightTest test written = Whole test.ty × (is_regional test.ty ≡ true → written 0 ≡ true)
-
-  -- no temporary is written where a statement begins
   abbrev mutual
     pub RightCode : Code → Type 0
-    RightCode (simple steps act) = RightSteps steps nowhere × RightAct act (written_by_all steps nowhere)
+    RightCode (simple steps act) = RightSteps steps × RightAct act
     RightCode (clear line x ty) = Whole ty × (get_or (picks f) x false ≡ is_regional ty)
     RightCode (block codes) = RightCodes codes
-    RightCode (branch steps test x y) = RightSteps steps nowhere × RightTest test (written_by_all steps nowhere) × RightCode x × RightCode y
+    RightCode (branch steps test x y) = RightSteps steps × Whole test.ty × RightCode x × RightCode y
     RightCode (loop line steps None third body) = (steps ≡ none) × RightCode third × RightCode body
-    RightCode (loop line steps (Some test) third body) = RightSteps steps nowhere × RightTest test (written_by_all steps nowhere) × RightCode third × RightCode body
-    RightCode (repeat line body steps test) = RightSteps steps nowhere × RightTest test (written_by_all steps nowhere) × RightCode body
+    RightCode (loop line steps (Some test) third body) = RightSteps steps × Whole test.ty × RightCode third × RightCode body
+    RightCode (repeat line body steps test) = RightSteps steps × Whole test.ty × RightCode body
     RightCode (break line) = Unit {0}
     RightCode (continue line) = Unit {0}
 
@@ -192,8 +159,8 @@ OptionMeets (Some test) t = TestMeets test t
 
 abbrev pub MoveMeets : (line : ℕ) → Layout → (from to : Target) → World → Type 0
 MoveMeets line [] from to w = Unit {0}
-MoveMeets line (kind ∷ kinds) from to w = Named line from (note_of kind) w
-    × IfGoes (λ v w1. Named line to (note_of kind) w1 × IfGoes (λ _ w2. MoveMeets line kinds (record from { offset = suc from.offset }) (record to { offset = suc to.offset }) w2) (source.store line to (kept_cell kind v) w1)) (source.load line from w)
+MoveMeets line (kind ∷ kinds) from to w = (is_regional_cell kind ≡ true → Named line from (note_of kind) w)
+    × IfGoes (λ v w1. (is_regional_cell kind ≡ true → Named line to (note_of kind) w1) × IfGoes (λ _ w2. MoveMeets line kinds (record from { offset = suc from.offset }) (record to { offset = suc to.offset }) w2) (source.store line to (kept_cell kind v) w1)) (source.load line from w)
 
 -- what is met behind a statement where it goes on, and behind a loop's body
 abbrev pub behind_meets : (List Value → Temporaries → World → Type 0) → Way → World → Type 0
@@ -254,7 +221,7 @@ module _ (deleting : ℕ → Bool) (f : Routine) (calls : Calls World) (inside :
     CodeMeets (block codes) ways env t w = CodesMeet codes ways env t w
     CodeMeets (branch steps test a b) ways env t w = HeadMeets steps (Some test) (λ y. before_code a ways y || before_code b ways y) (CodeMeets a ways) (CodeMeets b ways) env t w
     CodeMeets (loop line steps test third a) ways env t w =
-        RoundsMeet (suc (source.turns_left w))
+        (m : ℕ) → RoundsMeet m
         (λ again env1 t1 w1. HeadMeets steps test (λ y. (is_some test && ways.next y) || before_code a (round (before_code third (then_live (loop_head steps test third a ways) ways)) ways) y)
         (λ env2 t2 w2. CodeMeets a (round (before_code third (then_live (loop_head steps test third a ways) ways)) ways) env2 t2 w2
         × IfGoes (body_meets (λ env3 t3 w3. CodeMeets third (then_live (loop_head steps test third a ways) ways) env3 t3 w3 × IfGoes (behind_meets again) (code_run source deleting f.locals third calls (then_live (loop_head steps test third a ways) ways) env3 t3 w3)))
@@ -262,7 +229,7 @@ module _ (deleting : ℕ → Bool) (f : Routine) (calls : Calls World) (inside :
         nothing_more env1 t1 w1)
         env t w
     CodeMeets (repeat line a steps test) ways env t w =
-        RoundsMeet (suc (source.turns_left w))
+        (m : ℕ) → RoundsMeet m
         (λ again env1 t1 w1. CodeMeets a (round (repeat_tail a steps test ways) ways) env1 t1 w1
         × IfGoes (body_meets (λ env2 t2 w2. HeadMeets steps (Some test) (λ y. ways.next y || before_code (repeat 0 a steps test) ways y) again nothing_more env2 t2 w2)) (code_run source deleting f.locals a calls (round (repeat_tail a steps test ways) ways) env1 t1 w1))
         env t w

@@ -14,7 +14,7 @@ use Rattle.rc_rlang.specs.Points.{conversion_points}
 use Rattle.rc_rlang.specs.RegionCode.{width, Act, store, update, move, Code, simple, clear, block, branch, loop, repeat, break, continue, Codes, done, then, Routine, Rlang}
 use Rattle.rc_rlang.specs.RegionPoints.{steps_points, branch_points, code_points}
 use Rattle.rc_rlang.specs.RegionLive.{before_act, before_code, before_codes, loop_head, repeat_tail}
-use Rattle.rc_rlang.specs.RegionRuns.{Temporaries, temporary, blank_temporaries, kept, kept_cell, target_at, sized, test_value, Way, Next, Broke, Continued, behind, behind_body, steps_run, new_value, act_run, rounds, rounds_first, result_of, deletes}
+use Rattle.rc_rlang.specs.RegionRuns.{Temporaries, temporary, set_kind, change_kind, with_cell, blank_temporaries, kept, kept_cell, target_at, sized, test_value, Way, Next, Broke, Continued, behind, behind_body, steps_run, new_value, act_run, rounds, rounds_first, result_of, deletes}
 
 -- the points of an update that stand before its store
 abbrev pub before_store : Change → ℕ
@@ -25,19 +25,19 @@ abbrev pub Put : Type 0 → Type 0
 Put W = (marked : Bool) → (line : ℕ) → Target → Value → W → Run W (Unit {0})
 
 module _ {W : Type 0} (ops : Ops W) (put : Put W) (deleting : ℕ → Bool) (types : List Ty) (marked : (point : ℕ) → Bool) where
-  abbrev pub cells_marked : (line : ℕ) → Layout → (from to : Target) → (here : ℕ) → W → Run W (Unit {0})
-  cells_marked line [] from to here w = Go tt w
-  cells_marked line (kind ∷ kinds) from to here w =
+  abbrev pub cells_marked : (line h : ℕ) → Layout → (from to : Target) → (here : ℕ) → Temporaries → W → Run W Temporaries
+  cells_marked line h [] from to here t w = Go t w
+  cells_marked line h (kind ∷ kinds) from to here t w =
       bind (ops.load line from w) (λ v w1. bind (put (marked (suc here)) line to (kept_cell kind v) w1) (λ _ w2.
-      cells_marked line kinds (record from { offset = suc from.offset }) (record to { offset = suc to.offset }) (suc (suc here)) w2))
+      cells_marked line h kinds (record from { offset = suc from.offset }) (record to { offset = suc to.offset }) (suc (suc here)) (with_cell kind t h v) w2))
 
   abbrev pub act_marked : Act → (here : ℕ) → Calls W → (live : ℕ → Bool) → List Value → Temporaries → W → Run W Way
   act_marked (store line a) here calls live env t w = bind (put (marked here) line (target_at a t 0) (kept a.cell (temporary a.cell t (width a))) w) (λ _ w1. Go (Next env t) w1)
   act_marked (update line a change ty) here calls live env t w =
       bind (ops.load line (target_at a t 0) w) (λ old w1.
       bind (new_value ops deleting types line change ty old (temporary ty t (width a)) w1) (λ new w2.
-      bind (put (marked (here + before_store change)) line (target_at a t 0) (kept a.cell new) w2) (λ _ w3. Go (Next env t) w3)))
-  act_marked (move line cells left right) here calls live env t w = bind (cells_marked line cells (target_at right t (width left)) (target_at left t 0) here w) (λ _ w1. Go (Next env t) w1)
+      bind (put (marked (here + before_store change)) line (target_at a t 0) (kept a.cell new) w2) (λ _ w3. Go (Next env (set_kind (change_kind change) t (suc (width a)) new)) w3)))
+  act_marked (move line cells left right) here calls live env t w = bind (cells_marked line (width left + width right) cells (target_at right t (width left)) (target_at left t 0) here t w) (λ t1 w1. Go (Next env t1) w1)
   act_marked act here calls live env t w = act_run ops deleting types act calls live env t w
 
   abbrev mutual

@@ -1,6 +1,4 @@
--- The laws of facts along runs of region code over the source's world. Where a statement begins, the facts of its point hold with some
--- values of the temporaries: none of them is read before the statement has written it, and an update or a struct copy leaves in the flow a
--- value in a temporary that its run doesn't write.
+-- The laws of facts along runs of region code over the source's world.
 use Rattle.std.specs.Prelude.{◌≡◌, ℕ, ◌+◌, Bool, true, List, length, slice_get, Some}
 use Rattle.rc_core.specs.Heap.{Value, Heap, parent, fits}
 use Rattle.rc_core.specs.Laws.{IfGoes}
@@ -17,19 +15,15 @@ use Rattle.rc_annotations.specs.Annotations.{Annotation, asked_by}
 use Rattle.rc_annotations.specs.Holding.{region_in, AllHold}
 use Rattle.rc_annotations.specs.Variables.{past}
 use Rattle.rc_annotations.specs.Worlds.{Grown, Sane}
-use Rattle.rc_along.specs.Along.{Stand, Good, MadeResult, CallDemand, Keeps, Written, written_by_all, Agree, RightSteps, RightCode, RightRoutine, StepsMeet, CodeMeets, CallsMeet}
+use Rattle.rc_along.specs.Along.{Stand, Good, MadeResult, CallDemand, Keeps, RightSteps, RightCode, RightRoutine, StepsMeet, CodeMeets, CallsMeet}
 
 -- of a function in a call: its hidden copies, and the heap when it was called
 module _ (a : Annotation) (g : ℕ) (f : Routine) (copied : List Value) (first : Heap) where
-  -- with some values of the temporaries
-  abbrev pub GoodSomehow : (p : ℕ) → List Value → World → Type 0
-  GoodSomehow p env w = (s : Temporaries) × Good a g f copied first p env s w
-
   -- the facts of the point to which a statement's code leads, or of the exit
   abbrev pub GoodEnd : Ends → Way → World → Type 0
-  GoodEnd k (Next env t) w = GoodSomehow k.next env w
-  GoodEnd k (Broke env t) w = GoodSomehow k.broken env w
-  GoodEnd k (Continued env t) w = GoodSomehow k.continued env w
+  GoodEnd k (Next env t) w = Good a g f copied first k.next env t w
+  GoodEnd k (Broke env t) w = Good a g f copied first k.broken env t w
+  GoodEnd k (Continued env t) w = Good a g f copied first k.continued env t w
   GoodEnd k (Returned v) w = AllHold (a.exit g) (past copied (λ _. v)) w.heap × MadeResult f.result w.heap v × Sane w × Grown first w.heap
 
 module _ (r : Rlang) (temporaries : ℕ → ℕ) where
@@ -39,21 +33,21 @@ module _ (r : Rlang) (temporaries : ℕ → ℕ) where
 
 module _ (r : Rlang) (temporaries : ℕ → ℕ) (a : Annotation) where
   module _ (g : ℕ) (f : Routine) (copied : List Value) (first : Heap) (deleting : ℕ → Bool) (calls : Calls World) (inside : CallDemand) where
-    -- from the point where steps begin to what comes behind them, with the temporaries that they have written
+    -- from the point where steps begin to what comes behind them
     abbrev pub StepsKeepFacts : Type 0
-    StepsKeepFacts = (x : Steps) (here next : ℕ) (live : ℕ → Bool) (env : List Value) (written : Written) (s t : Temporaries) (w : World) → Stand (routine_nodes f) here (steps_nodes f x here next) → RightSteps r f (temporaries g) x written → StepsMeet deleting f calls inside x live env t w →
-        Good a g f copied first (first_of (steps_points x) here next) env s w → Agree written s t →
-        IfGoes (λ t1 w1. (s1 : Temporaries) × Good a g f copied first next env s1 w1 × Agree (written_by_all x written) s1 t1) (steps_run source deleting f.locals x calls live env t w)
+    StepsKeepFacts = (x : Steps) (here next : ℕ) (live : ℕ → Bool) (env : List Value) (t : Temporaries) (w : World) → Stand (routine_nodes f) here (steps_nodes f x here next) → RightSteps r f (temporaries g) x → StepsMeet deleting f calls inside x live env t w →
+        Good a g f copied first (first_of (steps_points x) here next) env t w →
+        IfGoes (λ t1 w1. Good a g f copied first next env t1 w1) (steps_run source deleting f.locals x calls live env t w)
 
     -- from the point where a statement begins to the point where it leads
     abbrev pub CodeKeepsFacts : Type 0
     CodeKeepsFacts = (x : Code) (here : ℕ) (k : Ends) → Stand (routine_nodes f) here (code_nodes f x here k) → RightCode r f (temporaries g) x → (ways : Ways) (env : List Value) (t : Temporaries) (w : World) → CodeMeets deleting f calls inside x ways env t w →
-        GoodSomehow a g f copied first (first_of (code_points x) here k.next) env w → IfGoes (GoodEnd a g f copied first k) (code_run source deleting f.locals x calls ways env t w)
+        Good a g f copied first (first_of (code_points x) here k.next) env t w → IfGoes (GoodEnd a g f copied first k) (code_run source deleting f.locals x calls ways env t w)
 
     -- where a store's point has the fact that its check asks, the check finds that the value fits, whenever the run comes to the store
     abbrev pub RemovedFits : Type 0
     RemovedFits = (steps : Steps) (line : ℕ) (acc : Access) (here : ℕ) (k : Ends) → Stand (routine_nodes f) here (code_nodes f (simple steps (store line acc)) here k) → RightCode r f (temporaries g) (simple steps (store line acc)) → (ways : Ways) (env : List Value) (t : Temporaries) (w : World) →
-        CodeMeets deleting f calls inside (simple steps (store line acc)) ways env t w → GoodSomehow a g f copied first (first_of (code_points (simple steps (store line acc))) here k.next) env w →
+        CodeMeets deleting f calls inside (simple steps (store line acc)) ways env t w → Good a g f copied first (first_of (code_points (simple steps (store line acc))) here k.next) env t w →
         (fact : Fact) → asked_by (going (stored_value f acc.cell (width acc) 0) k.next) ≡ Some fact → a.before g (here + steps_points steps) fact ≡ true →
         IfGoes (λ t1 w1. fits (parent w1.heap) (note_in acc.cell) (region_in (target_at acc t1 0).pointer) (kept acc.cell (temporary acc.cell t1 (width acc))) ≡ true) (steps_run source deleting f.locals steps calls (before_act (store line acc) ways.next) env t w)
 

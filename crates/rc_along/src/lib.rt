@@ -7,6 +7,7 @@
 ghost use Rattle.std.specs.Prelude.{ℕ};
 ghost use Rattle.rc_rlang.specs.RegionCode.{Rlang};
 ghost use Rattle.rc_annotations.specs.Annotations.{Annotation, Consistent};
+ghost use Rattle.rc_along.specs.ComesLaws.{FactsHoldWhenever};
 ghost use Rattle.rc_along.specs.MarkedLaws.{MarkedCallsAreTheSame};
 ghost use Rattle.rc_along.specs.RunLaws.{AllRight, InEachCall, StepsKeepFacts, CodeKeepsFacts, RemovedFits, CallsKeepFacts};
 
@@ -23,6 +24,14 @@ pub fn facts_hold_along_runs()
     ensures code { (r : Rlang) (temporaries : ℕ → ℕ) (a : Annotation) → Consistent r temporaries a → InEachCall r temporaries a (CodeKeepsFacts r temporaries a) }
     ensures calls { (r : Rlang) (temporaries : ℕ → ℕ) (a : Annotation) → Consistent r temporaries a → CallsKeepFacts r temporaries a }
     ensures removed { (r : Rlang) (temporaries : ℕ → ℕ) (a : Annotation) → Consistent r temporaries a → InEachCall r temporaries a (RemovedFits r temporaries a) }
+{}
+
+/// Each fact that a consistent annotation has before a point holds of the values of the region
+/// variables, its temporaries included, each time that a run of `main` comes to the point: in calls
+/// inside one another, in each round of a loop, and within updates and struct copies, where the code's
+/// types agree and the run meets them.
+pub fn facts_hold_whenever_the_run_is_there()
+    ensures { (r : Rlang) (temporaries : ℕ → ℕ) (a : Annotation) → Consistent r temporaries a → FactsHoldWhenever r temporaries a }
 {}
 
 /// A check that facts prove needless never fails. In region code whose types agree, a call that meets

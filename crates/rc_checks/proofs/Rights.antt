@@ -1,7 +1,6 @@
 -- The types of a typed program's region code agree: of the steps of its expressions.
-use Rattle.std.proofs.Common.{◌≡◌, ℕ, zero, suc, pos, ◌+◌, ◌<◌, ◌≤◌, Bool, true, false, ◌||◌, not, nat_eq, List, [], ◌∷◌, length, map, get_or, Option, Some, None, refl, sym, ap, ◌∙◌, subst, arith, rules}
+use Rattle.std.proofs.Common.{◌≡◌, ℕ, zero, suc, pos, ◌+◌, ◌<◌, ◌≤◌, Bool, true, false, not, List, [], ◌∷◌, length, map, get_or, Option, Some, None, refl, sym, ap, ◌∙◌, subst, arith}
 use Rattle.std.specs.Prelude.{IsTrue, IfSome, slice_get, take, option_map, is_some, max}
-use Rattle.std.proofs.lemmas.Bool.{or_right, and_from}
 use Rattle.std.proofs.lemmas.Option.{slice_get-map, get_or_from_slice_get}
 use Rattle.rc_core.specs.declared.ty.Note.TheVariants.{Plain}
 use Rattle.rc_core.specs.declared.ty.NumberType.{NumberType}
@@ -28,10 +27,7 @@ use Rattle.rc_translation.proofs.TypesFound.{types_are, kind_found, place_is, nu
 use Rattle.rc_annotations.specs.Heights.{temporaries_in, temporaries_of}
 use Rattle.rc_rlang.specs.RegionVariables.{step_temporaries, steps_temporaries, code_temporaries, codes_temporaries, routine_temporaries}
 use Rattle.rc_along.specs.RunLaws.{AllRight}
-use Rattle.rc_along.specs.Along.{Whole, AllWhole, Written, written_in, written_by, written_by_all, AllWritten, CallRight, RightOperation, RightSteps, nowhere, RightAct, RightTest, RightCode, RightCodes, RightRoutine}
-
-eq_self : (n : ℕ) → nat_eq n n ≡ true
-eq_self n = search rules
+use Rattle.rc_along.specs.Along.{Whole, AllWhole, CallRight, RightOperation, RightSteps, RightAct, RightCode, RightCodes, RightRoutine}
 
 -- types that have a variable or none
 
@@ -125,30 +121,6 @@ heights_both (To.more s a) b n h =
 pub height_one : (line h : ℕ) (ty : Ty) (op : Operation) (n : ℕ) → steps_temporaries (one (To.set line h ty op)) ≤ n → h < n
 height_one line h ty op n le = let p = max_parts (suc h) 0 n le in p.0
 
--- what is written, with the new one
-
-abbrev pub Wider : Written → Written → Type 0
-Wider written w1 = (j : ℕ) → written j ≡ true → w1 j ≡ true
-
-pub wider_trans : (a b c : Written) → Wider a b → Wider b c → Wider a c
-wider_trans a b c f g j e = g j (f j e)
-
-pub record Has (n : ℕ) (ty : Ty) (h : ℕ) (written w1 : Written) : Type 0 where
-  pub wider : Wider written w1
-  pub new : is_regional ty ≡ true → w1 h ≡ true
-  pub below : h < n
-
-has_set : (n : ℕ) (ty : Ty) (h : ℕ) (written w1 : Written) → Wider written w1 → h < n → Has n ty h written (written_in ty h w1)
-has_set n ty h written w1 wide lt = record {
-  wider = λ j e. old (is_regional ty) j (wide j e);
-  new = λ e. rw (e, eq_self h) refl;
-  below = lt;
-}
-  where
-    old : (b : Bool) (j : ℕ) → w1 j ≡ true → one_of b (nat_eq j h || w1 j) (w1 j) ≡ true
-    old true j e = or_right (nat_eq j h) (w1 j) e
-    old false j e = e
-
 module _ (program : Program) (well : IsWellTyped program) (g : ℕ) (f : Function) (there : slice_get program.functions g ≡ Some f) (n : ℕ) where
   abbrev locals : List Ty
   locals = f.locals
@@ -159,48 +131,38 @@ module _ (program : Program) (well : IsWellTyped program) (g : ℕ) (f : Functio
   abbrev fr : Routine
   fr = routine_of program f
 
-  pub record Right (x : Steps) (written : Written) (P : Written → Type 0) : Type 0 where
-    pub steps : RightSteps r fr n x written
-    pub after : P (written_by_all x written)
+  -- and the temporaries that are left are among them
+  pub record Right (x : Steps) (P : Type 0) : Type 0 where
+    pub steps : RightSteps r fr n x
+    pub after : P
 
-  right_both : (a b : Steps) (written : Written) (P Q : Written → Type 0) → Right a written P → ((w1 : Written) → P w1 → Right b w1 Q) → Right (both a b) written Q
-  right_both To.none b written P Q ra k = k written ra.after
-  right_both (To.more s a) b written P Q ra k =
-      let q = right_both a b (written_by s written) P Q (record { steps = ra.steps.1; after = ra.after }) k in
+  right_both : (a b : Steps) (P Q : Type 0) → Right a P → (P → Right b Q) → Right (both a b) Q
+  right_both To.none b P Q ra k = k ra.after
+  right_both (To.more s a) b P Q ra k =
+      let q = right_both a b P Q (record { steps = ra.steps.1; after = ra.after }) k in
       record { steps = (ra.steps.0, q.steps); after = q.after }
 
-  right_one : (line h : ℕ) (ty : Ty) (op : Operation) (written : Written) (P : Written → Type 0) → h < n → RightOperation r fr n written h ty op → P (written_in ty h written) → Right (one (To.set line h ty op)) written P
-  right_one line h ty op written P lt right p = record { steps = ((lt, right), tt); after = p }
+  right_one : (line h : ℕ) (ty : Ty) (op : Operation) → h < n → RightOperation r fr n h ty op → Right (one (To.set line h ty op)) (h < n)
+  right_one line h ty op lt right = record { steps = ((lt, right), tt); after = lt }
 
   -- an operation behind operands
-  right_set : (a : Steps) (line h : ℕ) (ty : Ty) (op : Operation) (written : Written) (P : Written → Type 0) → steps_temporaries (both a (one (To.set line h ty op))) ≤ n → Right a written P
-      → ((w1 : Written) → P w1 → Wider written w1 × RightOperation r fr n w1 h ty op) → Right (both a (one (To.set line h ty op))) written (Has n ty h written)
-  right_set a line h ty op written P le ra k =
+  right_set : (a : Steps) (line h : ℕ) (ty : Ty) (op : Operation) (P : Type 0) → steps_temporaries (both a (one (To.set line h ty op))) ≤ n → Right a P → (P → RightOperation r fr n h ty op) → Right (both a (one (To.set line h ty op))) (h < n)
+  right_set a line h ty op P le ra k =
       let lt = height_one line h ty op n (heights_both a (one (To.set line h ty op)) n le).1 in
-      right_both a (one (To.set line h ty op)) written P (Has n ty h written) ra (λ w1 p. let q = k w1 p in right_one line h ty op w1 (Has n ty h written) lt q.1 (has_set n ty h written w1 q.0 lt))
+      right_both a (one (To.set line h ty op)) P (h < n) ra (λ p. right_one line h ty op lt (k p))
 
   -- one without operands
-  right_first : (line h : ℕ) (ty : Ty) (op : Operation) (written : Written) → steps_temporaries (one (To.set line h ty op)) ≤ n → RightOperation r fr n written h ty op → Right (one (To.set line h ty op)) written (Has n ty h written)
-  right_first line h ty op written le right = let lt = height_one line h ty op n le in right_one line h ty op written (Has n ty h written) lt right (has_set n ty h written written (λ j e. e) lt)
+  right_first : (line h : ℕ) (ty : Ty) (op : Operation) → steps_temporaries (one (To.set line h ty op)) ≤ n → RightOperation r fr n h ty op → Right (one (To.set line h ty op)) (h < n)
+  right_first line h ty op le right = right_one line h ty op (height_one line h ty op n le) right
 
-  right_fork : (a : Steps) (line h : ℕ) (test ty : Ty) (x y : Steps) (written : Written) → steps_temporaries (both a (one (To.fork line h test ty x y))) ≤ n → Whole test → Right a written (Has n test h written)
-      → ((w1 : Written) → steps_temporaries x ≤ n → Right x w1 (Has n ty h w1)) → ((w1 : Written) → steps_temporaries y ≤ n → Right y w1 (Has n ty h w1)) → Right (both a (one (To.fork line h test ty x y))) written (Has n ty h written)
-  right_fork a line h test ty x y written le whole ra rx ry =
+  right_fork : (a : Steps) (line h : ℕ) (test ty : Ty) (x y : Steps) → steps_temporaries (both a (one (To.fork line h test ty x y))) ≤ n → Whole test → Right a (h < n)
+      → (steps_temporaries x ≤ n → Right x (h < n)) → (steps_temporaries y ≤ n → Right y (h < n)) → Right (both a (one (To.fork line h test ty x y))) (h < n)
+  right_fork a line h test ty x y le whole ra rx ry =
       let own = (heights_both a (one (To.fork line h test ty x y)) n le).1 in
       let parts = max_parts (max (suc h) (max (steps_temporaries x) (steps_temporaries y))) 0 n own in
       let inner = max_parts (suc h) (max (steps_temporaries x) (steps_temporaries y)) n parts.0 in
       let arms = max_parts (steps_temporaries x) (steps_temporaries y) n inner.1 in
-      right_both a (one (To.fork line h test ty x y)) written (Has n test h written) (Has n ty h written) ra (λ w1 p.
-      let qx = rx w1 arms.0 in
-      let qy = ry w1 arms.1 in
-      record {
-        steps = ((p.below, whole, p.new, qx.steps, qy.steps), tt);
-        after = record {
-          wider = λ j e. and_from (written_by_all x w1 j) (written_by_all y w1 j) (qx.after.wider j (p.wider j e)) (qy.after.wider j (p.wider j e));
-          new = λ e. and_from (written_by_all x w1 h) (written_by_all y w1 h) (qx.after.new e) (qy.after.new e);
-          below = p.below;
-        };
-      })
+      right_both a (one (To.fork line h test ty x y)) (h < n) (h < n) ra (λ p. record { steps = ((p, whole, (rx arms.0).steps, (ry arms.1).steps), tt); after = p })
 
   not_struct : (k : ℕ) (h : Function) → slice_get program.functions k ≡ Some h → (x : ℕ) (t : Ty) → slice_get h.locals x ≡ Some t → Whole t
   not_struct k h e x t q = whole_type t ((well.functions k h e).locals x t q).1
@@ -292,197 +254,155 @@ module _ (program : Program) (well : IsWellTyped program) (g : ℕ) (f : Functio
   gives_of None t ty e q b = cc
   gives_of (Some u) t ty e q b = let s : value_type u ≡ t = cc in (u, refl, sym (regional_value u) ∙ ap is_regional s ∙ sym q ∙ b)
 
-  pub record Passes (tys : List Ty) (h : ℕ) (written w1 : Written) : Type 0 where
-    pub wider : Wider written w1
-    pub all : AllWritten w1 tys h
-    pub room : h + length tys ≤ n
-
-  pub record Points (h : ℕ) (written w1 : Written) : Type 0 where
-    pub wider : Wider written w1
-    pub new : w1 h ≡ true
-    pub below : h < n
-
-  all_wider : (tys : List Ty) (h : ℕ) (a b : Written) → Wider a b → AllWritten a tys h → AllWritten b tys h
-  all_wider [] h a b w all = tt
-  all_wider (ty ∷ tys) h a b w all = ((λ e. w h (all.0 e)), all_wider tys (suc h) a b w all.1)
-
   abbrev Does : Expr → Type 0
-  Does e = (t : Ty) → HasType program locals e t → (ty : Ty) (h : ℕ) → kind_of ty ≡ kind_of t → Whole ty → steps_temporaries (code e ty h) ≤ n → (written : Written) → Right (code e ty h) written (Has n ty h written)
+  Does e = (t : Ty) → HasType program locals e t → (ty : Ty) (h : ℕ) → kind_of ty ≡ kind_of t → Whole ty → steps_temporaries (code e ty h) ≤ n → Right (code e ty h) (h < n)
 
-  -- one operand, of whatever kind, and an operation that asks nothing more of it
-  right_numeric : (e : Expr) → Does e → (u own : Ty) (line h : ℕ) (ty : Ty) (op : Operation) (written : Written) → HasType program locals e u → kind_of own ≡ kind_of u → Whole own → steps_temporaries (both (code e own h) (one (To.set line h ty op))) ≤ n
-      → ((w1 : Written) → RightOperation r fr n w1 h ty op) → Right (both (code e own h) (one (To.set line h ty op))) written (Has n ty h written)
-  right_numeric e does u own line h ty op written he hk hw le right =
-      right_set (code e own h) line h ty op written (Has n own h written) le (does u he own h hk hw (heights_both (code e own h) (one (To.set line h ty op)) n le).0 written) (λ w1 p. (p.wider, right w1))
+  -- an operand and an operation
+  right_operand : (e : Expr) → Does e → (u own : Ty) (line h : ℕ) (ty : Ty) (op : Operation) → HasType program locals e u → kind_of own ≡ kind_of u → Whole own → steps_temporaries (both (code e own h) (one (To.set line h ty op))) ≤ n
+      → RightOperation r fr n h ty op → Right (both (code e own h) (one (To.set line h ty op))) (h < n)
+  right_operand e does u own line h ty op he hk hw le right =
+      right_set (code e own h) line h ty op (h < n) le (does u he own h hk hw (heights_both (code e own h) (one (To.set line h ty op)) n le).0) (λ p. right)
 
-  -- one that has to be written
-  right_held : (e : Expr) → Does e → (u own : Ty) (line h : ℕ) (ty : Ty) (op : Operation) (written : Written) → HasType program locals e u → kind_of own ≡ kind_of u → Whole own → is_regional own ≡ true → steps_temporaries (both (code e own h) (one (To.set line h ty op))) ≤ n
-      → ((w1 : Written) → w1 h ≡ true → RightOperation r fr n w1 h ty op) → Right (both (code e own h) (one (To.set line h ty op))) written (Has n ty h written)
-  right_held e does u own line h ty op written he hk hw reg le right =
-      right_set (code e own h) line h ty op written (Has n own h written) le (does u he own h hk hw (heights_both (code e own h) (one (To.set line h ty op)) n le).0 written) (λ w1 p. (p.wider, right w1 (p.new reg)))
-
-  right_two : (a b : Expr) → Does a → Does b → (u v own other : Ty) (line h : ℕ) (ty : Ty) (op : Operation) (written : Written) → HasType program locals a u → HasType program locals b v → kind_of own ≡ kind_of u → kind_of other ≡ kind_of v → Whole own → Whole other
-      → steps_temporaries (both (code a own h) (both (code b other (suc h)) (one (To.set line h ty op)))) ≤ n → ((w1 : Written) → RightOperation r fr n w1 h ty op) → Right (both (code a own h) (both (code b other (suc h)) (one (To.set line h ty op)))) written (Has n ty h written)
-  right_two a b does_a does_b u v own other line h ty op written ha hb ka kb wa wb le right =
+  right_two : (a b : Expr) → Does a → Does b → (u v own other : Ty) (line h : ℕ) (ty : Ty) (op : Operation) → HasType program locals a u → HasType program locals b v → kind_of own ≡ kind_of u → kind_of other ≡ kind_of v → Whole own → Whole other
+      → steps_temporaries (both (code a own h) (both (code b other (suc h)) (one (To.set line h ty op)))) ≤ n → (suc h < n → RightOperation r fr n h ty op) → Right (both (code a own h) (both (code b other (suc h)) (one (To.set line h ty op)))) (h < n)
+  right_two a b does_a does_b u v own other line h ty op ha hb ka kb wa wb le right =
       let last = one (To.set line h ty op) in
       let p = heights_both (code a own h) (both (code b other (suc h)) last) n le in
       let q = heights_both (code b other (suc h)) last n p.1 in
-      right_both (code a own h) (both (code b other (suc h)) last) written (Has n own h written) (Has n ty h written) (does_a u ha own h ka wa p.0 written) (λ w1 q1.
-      right_both (code b other (suc h)) last w1 (Has n other (suc h) w1) (Has n ty h written) (does_b v hb other (suc h) kb wb q.0 w1) (λ w2 q2.
-      right_one line h ty op w2 (Has n ty h written) q1.below (right w2) (has_set n ty h written w2 (wider_trans written w1 w2 q1.wider q2.wider) q1.below)))
+      right_both (code a own h) (both (code b other (suc h)) last) (h < n) (h < n) (does_a u ha own h ka wa p.0) (λ first.
+      right_both (code b other (suc h)) last (suc h < n) (h < n) (does_b v hb other (suc h) kb wb q.0) (λ second. right_one line h ty op first (right second)))
 
-  right_index : (i : Expr) → Does i → (s : Signedness) → HasType program locals i (arithmetic s) → (h : ℕ) → steps_temporaries (code i (index_type program locals i) h) ≤ n → (written : Written) → Right (code i (index_type program locals i) h) written (Has n (index_type program locals i) h written)
-  right_index i does s hi h le written =
-      does (arithmetic s) hi (index_type program locals i) h (kind_arithmetic (signedness program locals (found i)) ∙ sym (kind_arithmetic s)) (whole_arithmetic (signedness program locals (found i))) le written
+  index_kind : (i : Expr) (s : Signedness) → kind_of (index_type program locals i) ≡ kind_of (arithmetic s)
+  index_kind i s = kind_arithmetic (signedness program locals (found i)) ∙ sym (kind_arithmetic s)
 
-  right_pointed : (h : ℕ) → h < n → (written w1 : Written) → Wider written w1 → w1 h ≡ true → (x : Steps) → Right x w1 (Wider w1) → Right x w1 (Points h written)
-  right_pointed h lt written w1 wide new x q = record { steps = q.steps; after = record { wider = wider_trans written w1 _ wide q.after; new = q.after h new; below = lt } }
+  index_whole : (i : Expr) → Whole (index_type program locals i)
+  index_whole i = whole_arithmetic (signedness program locals (found i))
+
+  right_index : (i : Expr) → Does i → (s : Signedness) → HasType program locals i (arithmetic s) → (h : ℕ) → steps_temporaries (code i (index_type program locals i) h) ≤ n → Right (code i (index_type program locals i) h) (h < n)
+  right_index i does s hi h le = does (arithmetic s) hi (index_type program locals i) h (index_kind i s) (index_whole i) le
+
+  right_behind : (a x : Steps) (h : ℕ) → Right a (h < n) → RightSteps r fr n x → Right (both a x) (h < n)
+  right_behind a x h ra rx = right_both a x (h < n) (h < n) ra (λ p. record { steps = rx; after = p })
 
   mutual
-    pub right_expression : (e : Expr) (t : Ty) → HasType program locals e t → (ty : Ty) (h : ℕ) → kind_of ty ≡ kind_of t → Whole ty → steps_temporaries (code e ty h) ≤ n → (written : Written) → Right (code e ty h) written (Has n ty h written)
-    right_expression (constant line s k) t he ty h hk hw le written = right_first line h ty (To.constant s k) written le (hk ∙ ap kind_of he.0 ∙ kind_arithmetic s)
-    right_expression (null line) t he ty h hk hw le written = right_first line h ty To.null written le (hk ∙ kind_reference t he.0)
-    right_expression (string line k) t he ty h hk hw le written = right_first line h ty (To.static (length program.globals + k)) written le (hk ∙ ap kind_of he.0)
-    right_expression (local line x) t he ty h hk hw le written =
-        right_first line h ty (To.copy x) written le (hw, mapped_at locals x he.0 he.1.0 ∙ sym (regional_same ty he.0 hw (not_struct g f there x he.0 he.1.0) (hk ∙ ap kind_of he.1.1 ∙ kind_value he.0)))
-    right_expression (read line place) t he ty h hk hw le written =
-        right_set (place_code program locals line place h) line h ty (To.load (access program locals place)) written (Points h written) le
-        (right_place line place he.0 he.1.0 h (heights_both (place_code program locals line place h) (one (To.set line h ty (To.load (access program locals place)))) n le).0 written)
-        (λ w1 p. (p.wider, (hw, p.new)))
-    right_expression (address line k) t he ty h hk hw le written = right_first line h ty (To.static k) written le (hk ∙ ap kind_of he.1.1)
-    right_expression (step line direction p i) t he ty h hk hw le written =
-        let pt = pointer_type program locals p in
-        let it = index_type program locals i in
-        let last = one (To.set line h ty (To.step direction pt it)) in
-        let a = heights_both (code p pt h) (both (code i it (suc h)) last) n le in
-        let b = heights_both (code i it (suc h)) last n a.1 in
-        right_both (code p pt h) (both (code i it (suc h)) last) written (Has n pt h written) (Has n ty h written) (right_expression p t he.2 pt h (sym (kind_pointer t he.0)) refl a.0 written) (λ w1 q1.
-        right_both (code i it (suc h)) last w1 (Has n it (suc h) w1) (Has n ty h written) (right_index i (right_expression i) he.3.0 he.3.1 (suc h) b.0 w1) (λ w2 q2.
-        right_one line h ty (To.step direction pt it) w2 (Has n ty h written) q1.below (hk ∙ kind_pointer t he.0, refl, q2.wider h (q1.new refl)) (has_set n ty h written w2 (wider_trans written w1 w2 q1.wider q2.wider) q1.below)))
-    right_expression (step_from line i p) t he ty h hk hw le written =
-        let pt = pointer_type program locals p in
-        let it = index_type program locals i in
-        let last = one (To.set line h ty (To.step_from it pt)) in
-        let a = heights_both (code i it h) (both (code p pt (suc h)) last) n le in
-        let b = heights_both (code p pt (suc h)) last n a.1 in
-        right_both (code i it h) (both (code p pt (suc h)) last) written (Has n it h written) (Has n ty h written) (right_index i (right_expression i) he.3.0 he.3.1 h a.0 written) (λ w1 q1.
-        right_both (code p pt (suc h)) last w1 (Has n pt (suc h) w1) (Has n ty h written) (right_expression p t he.2 pt (suc h) (sym (kind_pointer t he.0)) refl b.0 w1) (λ w2 q2.
-        right_one line h ty (To.step_from it pt) w2 (Has n ty h written) q1.below (hk ∙ kind_pointer t he.0, refl, q2.below, q2.new refl) (has_set n ty h written w2 (wider_trans written w1 w2 q1.wider q2.wider) q1.below)))
-    right_expression (unary line Negate s e) t he ty h hk hw le written =
-        right_numeric e (right_expression e) (arithmetic s) (arithmetic s) line h ty (To.unary Negate s) written he.1 refl (whole_arithmetic s) le (λ w1. hk ∙ ap kind_of he.0 ∙ kind_arithmetic s)
-    right_expression (unary line Plus s e) t he ty h hk hw le written = right_expression e (arithmetic s) he.1 ty h (hk ∙ ap kind_of he.0) hw le written
-    right_expression (unary line Complement s e) t he ty h hk hw le written =
-        right_numeric e (right_expression e) (arithmetic s) (arithmetic s) line h ty (To.unary Complement s) written he.1 refl (whole_arithmetic s) le (λ w1. hk ∙ ap kind_of he.0 ∙ kind_arithmetic s)
-    right_expression (binary line operator s a b) t he ty h hk hw le written =
-        right_two a b (right_expression a) (right_expression b) (arithmetic s) (arithmetic he.2.0) (arithmetic s) (found b) line h ty (To.binary operator s (found b)) written he.1 he.2.1.1 refl (kind_found program locals b (arithmetic he.2.0) he.2.1.1) (whole_arithmetic s) (found_whole b (arithmetic he.2.0) he.2.1.1) le
-        (λ w1. hk ∙ ap kind_of he.0 ∙ kind_result (is_comparison operator) s)
-    right_expression (convert line from to e) t he ty h hk hw le written =
-        right_numeric e (right_expression e) (number from) (number from) line h ty (To.convert from to) written he.2 refl (whole_number from) le (λ w1. hk ∙ ap kind_of he.0 ∙ kind_number to)
-    right_expression (not_zero line e) t he ty h hk hw le written =
-        right_numeric e (right_expression e) (number he.1.0) (found e) line h ty (To.not_zero (found e)) written he.1.1 (kind_found program locals e (number he.1.0) he.1.1) (found_whole e (number he.1.0) he.1.1) le (λ w1. hk ∙ ap kind_of he.0)
-    right_expression (and line a b) t he ty h hk hw le written =
+    pub right_expression : (e : Expr) (t : Ty) → HasType program locals e t → (ty : Ty) (h : ℕ) → kind_of ty ≡ kind_of t → Whole ty → steps_temporaries (code e ty h) ≤ n → Right (code e ty h) (h < n)
+    right_expression (constant line s k) t he ty h hk hw le = right_first line h ty (To.constant s k) le (hk ∙ ap kind_of he.0 ∙ kind_arithmetic s)
+    right_expression (null line) t he ty h hk hw le = right_first line h ty To.null le (hk ∙ kind_reference t he.0)
+    right_expression (string line k) t he ty h hk hw le = right_first line h ty (To.static (length program.globals + k)) le (hk ∙ ap kind_of he.0)
+    right_expression (local line x) t he ty h hk hw le =
+        right_first line h ty (To.copy x) le (hw, mapped_at locals x he.0 he.1.0 ∙ sym (regional_same ty he.0 hw (not_struct g f there x he.0 he.1.0) (hk ∙ ap kind_of he.1.1 ∙ kind_value he.0)))
+    right_expression (read line place) t he ty h hk hw le =
+        right_set (place_code program locals line place h) line h ty (To.load (access program locals place)) (h < n) le
+        (right_place line place he.0 he.1.0 h (heights_both (place_code program locals line place h) (one (To.set line h ty (To.load (access program locals place)))) n le).0)
+        (λ below. hw)
+    right_expression (address line k) t he ty h hk hw le = right_first line h ty (To.static k) le (hk ∙ ap kind_of he.1.1)
+    right_expression (step line direction p i) t he ty h hk hw le =
+        right_two p i (right_expression p) (right_expression i) t (arithmetic he.3.0) (pointer_type program locals p) (index_type program locals i) line h ty (To.step direction (pointer_type program locals p) (index_type program locals i)) he.2 he.3.1 (sym (kind_pointer t he.0)) (index_kind i he.3.0) refl (index_whole i) le
+        (λ second. (hk ∙ kind_pointer t he.0, refl))
+    right_expression (step_from line i p) t he ty h hk hw le =
+        right_two i p (right_expression i) (right_expression p) (arithmetic he.3.0) t (index_type program locals i) (pointer_type program locals p) line h ty (To.step_from (index_type program locals i) (pointer_type program locals p)) he.3.1 he.2 (index_kind i he.3.0) (sym (kind_pointer t he.0)) (index_whole i) refl le
+        (λ second. (hk ∙ kind_pointer t he.0, refl, second))
+    right_expression (unary line Negate s e) t he ty h hk hw le =
+        right_operand e (right_expression e) (arithmetic s) (arithmetic s) line h ty (To.unary Negate s) he.1 refl (whole_arithmetic s) le (hk ∙ ap kind_of he.0 ∙ kind_arithmetic s)
+    right_expression (unary line Plus s e) t he ty h hk hw le = right_expression e (arithmetic s) he.1 ty h (hk ∙ ap kind_of he.0) hw le
+    right_expression (unary line Complement s e) t he ty h hk hw le =
+        right_operand e (right_expression e) (arithmetic s) (arithmetic s) line h ty (To.unary Complement s) he.1 refl (whole_arithmetic s) le (hk ∙ ap kind_of he.0 ∙ kind_arithmetic s)
+    right_expression (binary line operator s a b) t he ty h hk hw le =
+        right_two a b (right_expression a) (right_expression b) (arithmetic s) (arithmetic he.2.0) (arithmetic s) (found b) line h ty (To.binary operator s (found b)) he.1 he.2.1.1 refl (kind_found program locals b (arithmetic he.2.0) he.2.1.1) (whole_arithmetic s) (found_whole b (arithmetic he.2.0) he.2.1.1) le
+        (λ second. hk ∙ ap kind_of he.0 ∙ kind_result (is_comparison operator) s)
+    right_expression (convert line from to e) t he ty h hk hw le =
+        right_operand e (right_expression e) (number from) (number from) line h ty (To.convert from to) he.2 refl (whole_number from) le (hk ∙ ap kind_of he.0 ∙ kind_number to)
+    right_expression (not_zero line e) t he ty h hk hw le =
+        right_operand e (right_expression e) (number he.1.0) (found e) line h ty (To.not_zero (found e)) he.1.1 (kind_found program locals e (number he.1.0) he.1.1) (found_whole e (number he.1.0) he.1.1) le (hk ∙ ap kind_of he.0)
+    right_expression (and line a b) t he ty h hk hw le =
         let x = both (code b (found b) h) (one (To.set line h ty (To.truth (found b)))) in
         let y = one (To.set line h ty (To.constant Signed (pos 0))) in
-        right_fork (code a (found a) h) line h (found a) ty x y written le (found_whole a he.3.0 he.3.1)
-        (right_expression a he.3.0 he.3.1 (found a) h (kind_found program locals a he.3.0 he.3.1) (found_whole a he.3.0 he.3.1) (heights_both (code a (found a) h) (one (To.fork line h (found a) ty x y)) n le).0 written)
-        (λ w1 lx. right_numeric b (right_expression b) he.4.0 (found b) line h ty (To.truth (found b)) w1 he.4.1 (kind_found program locals b he.4.0 he.4.1) (found_whole b he.4.0 he.4.1) lx (λ w1. hk ∙ ap kind_of he.0))
-        (λ w1 ly. right_first line h ty (To.constant Signed (pos 0)) w1 ly (hk ∙ ap kind_of he.0))
-    right_expression (or line a b) t he ty h hk hw le written =
+        right_fork (code a (found a) h) line h (found a) ty x y le (found_whole a he.3.0 he.3.1)
+        (right_expression a he.3.0 he.3.1 (found a) h (kind_found program locals a he.3.0 he.3.1) (found_whole a he.3.0 he.3.1) (heights_both (code a (found a) h) (one (To.fork line h (found a) ty x y)) n le).0)
+        (λ lx. right_operand b (right_expression b) he.4.0 (found b) line h ty (To.truth (found b)) he.4.1 (kind_found program locals b he.4.0 he.4.1) (found_whole b he.4.0 he.4.1) lx (hk ∙ ap kind_of he.0))
+        (λ ly. right_first line h ty (To.constant Signed (pos 0)) ly (hk ∙ ap kind_of he.0))
+    right_expression (or line a b) t he ty h hk hw le =
         let x = one (To.set line h ty (To.constant Signed (pos 1))) in
         let y = both (code b (found b) h) (one (To.set line h ty (To.truth (found b)))) in
-        right_fork (code a (found a) h) line h (found a) ty x y written le (found_whole a he.3.0 he.3.1)
-        (right_expression a he.3.0 he.3.1 (found a) h (kind_found program locals a he.3.0 he.3.1) (found_whole a he.3.0 he.3.1) (heights_both (code a (found a) h) (one (To.fork line h (found a) ty x y)) n le).0 written)
-        (λ w1 lx. right_first line h ty (To.constant Signed (pos 1)) w1 lx (hk ∙ ap kind_of he.0))
-        (λ w1 ly. right_numeric b (right_expression b) he.4.0 (found b) line h ty (To.truth (found b)) w1 he.4.1 (kind_found program locals b he.4.0 he.4.1) (found_whole b he.4.0 he.4.1) ly (λ w1. hk ∙ ap kind_of he.0))
-    right_expression (choose line test a b) t he ty h hk hw le written =
-        right_fork (code test (found test) h) line h (found test) ty (code a ty h) (code b ty h) written le (found_whole test he.1.0 he.1.1)
-        (right_expression test he.1.0 he.1.1 (found test) h (kind_found program locals test he.1.0 he.1.1) (found_whole test he.1.0 he.1.1) (heights_both (code test (found test) h) (one (To.fork line h (found test) ty (code a ty h) (code b ty h))) n le).0 written)
-        (λ w1 lx. right_expression a t he.3 ty h hk hw lx w1)
-        (λ w1 ly. right_expression b t he.4 ty h hk hw ly w1)
-    right_expression (is_null line wanted e) t he ty h hk hw le written =
-        right_numeric e (right_expression e) he.2.0 (found e) line h ty (To.is_null wanted (found e)) written he.2.1.1 (kind_found program locals e he.2.0 he.2.1.1) (found_whole e he.2.0 he.2.1.1) le (λ w1. hk ∙ ap kind_of he.0)
-    right_expression (same line wanted a b) t he ty h hk hw le written =
-        right_two a b (right_expression a) (right_expression b) he.3.0 he.3.0 (found a) (found a) line h ty (To.same wanted (found a)) written he.3.1.1 he.3.1.2 (kind_found program locals a he.3.0 he.3.1.1) (kind_found program locals a he.3.0 he.3.1.1) (found_whole a he.3.0 he.3.1.1) (found_whole a he.3.0 he.3.1.1) le (λ w1. hk ∙ ap kind_of he.0)
-    right_expression (call line k es) t he ty h hk hw le written =
+        right_fork (code a (found a) h) line h (found a) ty x y le (found_whole a he.3.0 he.3.1)
+        (right_expression a he.3.0 he.3.1 (found a) h (kind_found program locals a he.3.0 he.3.1) (found_whole a he.3.0 he.3.1) (heights_both (code a (found a) h) (one (To.fork line h (found a) ty x y)) n le).0)
+        (λ lx. right_first line h ty (To.constant Signed (pos 1)) lx (hk ∙ ap kind_of he.0))
+        (λ ly. right_operand b (right_expression b) he.4.0 (found b) line h ty (To.truth (found b)) he.4.1 (kind_found program locals b he.4.0 he.4.1) (found_whole b he.4.0 he.4.1) ly (hk ∙ ap kind_of he.0))
+    right_expression (choose line test a b) t he ty h hk hw le =
+        right_fork (code test (found test) h) line h (found test) ty (code a ty h) (code b ty h) le (found_whole test he.1.0 he.1.1)
+        (right_expression test he.1.0 he.1.1 (found test) h (kind_found program locals test he.1.0 he.1.1) (found_whole test he.1.0 he.1.1) (heights_both (code test (found test) h) (one (To.fork line h (found test) ty (code a ty h) (code b ty h))) n le).0)
+        (λ lx. right_expression a t he.3 ty h hk hw lx)
+        (λ ly. right_expression b t he.4 ty h hk hw ly)
+    right_expression (is_null line wanted e) t he ty h hk hw le =
+        right_operand e (right_expression e) he.2.0 (found e) line h ty (To.is_null wanted (found e)) he.2.1.1 (kind_found program locals e he.2.0 he.2.1.1) (found_whole e he.2.0 he.2.1.1) le (hk ∙ ap kind_of he.0)
+    right_expression (same line wanted a b) t he ty h hk hw le =
+        right_two a b (right_expression a) (right_expression b) he.3.0 he.3.0 (found a) (found a) line h ty (To.same wanted (found a)) he.3.1.1 he.3.1.2 (kind_found program locals a he.3.0 he.3.1.1) (kind_found program locals a he.3.0 he.3.1.1) (found_whole a he.3.0 he.3.1.1) (found_whole a he.3.0 he.3.1.1) le (λ second. hk ∙ ap kind_of he.0)
+    right_expression (call line k es) t he ty h hk hw le =
         let tys : parameter_types program k ≡ parameters_of he.0 = ap types_in he.1.0 in
         let now = λ (ts us : List Ty). both (arguments_code program locals es ts h) (one (To.set line h ty (To.call k us))) in
         let us : argument_types program locals es (parameters_of he.0) ≡ parameters_of he.0 = arguments_same es (parameters_of he.0) he.1.2 in
-        subst (λ ts. Right (now ts (argument_types program locals es ts)) written (Has n ty h written)) (sym tys)
-        (subst (λ vs. Right (now (parameters_of he.0) vs) written (Has n ty h written)) (sym us)
+        subst (λ ts. Right (now ts (argument_types program locals es ts)) (h < n)) (sym tys)
+        (subst (λ vs. Right (now (parameters_of he.0) vs) (h < n)) (sym us)
         (let le1 : steps_temporaries (now (parameters_of he.0) (parameters_of he.0)) ≤ n = subst (λ vs. steps_temporaries (now (parameters_of he.0) vs) ≤ n) us (subst (λ ts. steps_temporaries (now ts (argument_types program locals es ts)) ≤ n) tys le) in
         let parts = heights_both (arguments_code program locals es (parameters_of he.0) h) (one (To.set line h ty (To.call k (parameters_of he.0)))) n le1 in
         let lt = height_one line h ty (To.call k (parameters_of he.0)) n parts.1 in
-        right_set (arguments_code program locals es (parameters_of he.0) h) line h ty (To.call k (parameters_of he.0)) written (Passes (parameters_of he.0) h written) le1
-        (right_arguments es (parameters_of he.0) he.1.2 h (omega (arith, lt)) parts.0 written)
-        (λ w1 p. (p.wider, (call_right h ty t k he.0 he.1.0 hw (gives_of he.0.result t ty he.1.1 (regional_same ty t hw (typed_whole (call line k es) t he) hk)) p.room, p.all)))))
-    right_expression (new_region line) t he ty h hk hw le written = right_first line h ty To.new_region written le (hk ∙ ap kind_of he)
-    right_expression (new_subregion line e) t he ty h hk hw le written = right_held e (right_expression e) region region line h ty To.new_subregion written he.1 refl refl refl le (λ w1 new. (hk ∙ ap kind_of he.0, new))
-    right_expression (region_of line e) t he ty h hk hw le written =
-        right_held e (right_expression e) he.2.0 (found e) line h ty (To.region_of (found e)) written he.2.1.1 (kind_found program locals e he.2.0 he.2.1.1) (found_whole e he.2.0 he.2.1.1) (regional_same (found e) (pointer Plain int) (found_whole e he.2.0 he.2.1.1) refl (kind_found program locals e he.2.0 he.2.1.1 ∙ kind_pointer he.2.0 he.2.1.0)) le
-        (λ w1 new. (hk ∙ ap kind_of he.0, kind_found program locals e he.2.0 he.2.1.1 ∙ kind_pointer he.2.0 he.2.1.0, new))
-    right_expression (allocate line e u) t he ty h hk hw le written = right_held e (right_expression e) region region line h ty (To.allocate u (cells program.structs u)) written he.2 refl refl refl le (λ w1 new. (hk ∙ ap kind_of he.0, new))
-    right_expression (allocate_array line e k u) t he ty h hk hw le written =
-        let last = one (To.set line h ty (To.allocate_array u (cells program.structs u))) in
-        let a = heights_both (code e region h) (both (code k int (suc h)) last) n le in
-        let b = heights_both (code k int (suc h)) last n a.1 in
-        right_both (code e region h) (both (code k int (suc h)) last) written (Has n region h written) (Has n ty h written) (right_expression e region he.2 region h refl refl a.0 written) (λ w1 q1.
-        right_both (code k int (suc h)) last w1 (Has n int (suc h) w1) (Has n ty h written) (right_expression k int he.3 int (suc h) refl refl b.0 w1) (λ w2 q2.
-        right_one line h ty (To.allocate_array u (cells program.structs u)) w2 (Has n ty h written) q1.below (hk ∙ ap kind_of he.0, q2.wider h (q1.new refl)) (has_set n ty h written w2 (wider_trans written w1 w2 q1.wider q2.wider) q1.below)))
-    right_expression (putchar line e) t he ty h hk hw le written = right_numeric e (right_expression e) int int line h ty To.putchar written he.1 refl refl le (λ w1. hk ∙ ap kind_of he.0)
-    right_expression (getchar line) t he ty h hk hw le written = right_first line h ty To.getchar written le (hk ∙ ap kind_of he)
+        right_set (arguments_code program locals es (parameters_of he.0) h) line h ty (To.call k (parameters_of he.0)) (h + length (parameters_of he.0) ≤ n) le1
+        (right_arguments es (parameters_of he.0) he.1.2 h (omega (arith, lt)) parts.0)
+        (λ room. call_right h ty t k he.0 he.1.0 hw (gives_of he.0.result t ty he.1.1 (regional_same ty t hw (typed_whole (call line k es) t he) hk)) room)))
+    right_expression (new_region line) t he ty h hk hw le = right_first line h ty To.new_region le (hk ∙ ap kind_of he)
+    right_expression (new_subregion line e) t he ty h hk hw le = right_operand e (right_expression e) region region line h ty To.new_subregion he.1 refl refl le (hk ∙ ap kind_of he.0)
+    right_expression (region_of line e) t he ty h hk hw le =
+        right_operand e (right_expression e) he.2.0 (found e) line h ty (To.region_of (found e)) he.2.1.1 (kind_found program locals e he.2.0 he.2.1.1) (found_whole e he.2.0 he.2.1.1) le (hk ∙ ap kind_of he.0, kind_found program locals e he.2.0 he.2.1.1 ∙ kind_pointer he.2.0 he.2.1.0)
+    right_expression (allocate line e u) t he ty h hk hw le = right_operand e (right_expression e) region region line h ty (To.allocate u (cells program.structs u)) he.2 refl refl le (hk ∙ ap kind_of he.0)
+    right_expression (allocate_array line e k u) t he ty h hk hw le =
+        right_two e k (right_expression e) (right_expression k) region int region int line h ty (To.allocate_array u (cells program.structs u)) he.2 he.3 refl refl refl refl le (λ second. hk ∙ ap kind_of he.0)
+    right_expression (putchar line e) t he ty h hk hw le = right_operand e (right_expression e) int int line h ty To.putchar he.1 refl refl le (hk ∙ ap kind_of he.0)
+    right_expression (getchar line) t he ty h hk hw le = right_first line h ty To.getchar le (hk ∙ ap kind_of he)
 
-    pub right_arguments : (es : Arguments) (tys : List Ty) → AreArguments program locals es tys → (h : ℕ) → h ≤ n → steps_temporaries (arguments_code program locals es tys h) ≤ n → (written : Written) → Right (arguments_code program locals es tys h) written (Passes tys h written)
-    right_arguments none [] ha h lh le written = record { steps = tt; after = record { wider = λ j e. e; all = tt; room = omega (arith, lh) } }
-    right_arguments none (ty ∷ tys) ha h lh le written = absurd ha
-    right_arguments (more e es) [] ha h lh le written = absurd ha
-    right_arguments (more e es) (ty ∷ tys) ha h lh le written =
+    pub right_arguments : (es : Arguments) (tys : List Ty) → AreArguments program locals es tys → (h : ℕ) → h ≤ n → steps_temporaries (arguments_code program locals es tys h) ≤ n → Right (arguments_code program locals es tys h) (h + length tys ≤ n)
+    right_arguments none [] ha h lh le = record { steps = tt; after = omega (arith, lh) }
+    right_arguments none (ty ∷ tys) ha h lh le = absurd ha
+    right_arguments (more e es) [] ha h lh le = absurd ha
+    right_arguments (more e es) (ty ∷ tys) ha h lh le =
         let own = value_type ty in
         let parts = heights_both (code e own h) (arguments_code program locals es tys (suc h)) n le in
-        right_both (code e own h) (arguments_code program locals es tys (suc h)) written (Has n own h written) (Passes (ty ∷ tys) h written) (right_expression e own ha.0 own h refl (typed_whole e own ha.0) parts.0 written) (λ w1 q1.
-        let q = right_arguments es tys ha.1 (suc h) (let lt = q1.below in omega (arith, lt)) parts.1 w1 in
-        record {
-          steps = q.steps;
-          after = record { wider = wider_trans written w1 _ q1.wider q.after.wider; all = ((λ b. q.after.wider h (q1.new (regional_value ty ∙ b))), q.after.all); room = let room = q.after.room in omega (arith, room) };
-        })
+        right_both (code e own h) (arguments_code program locals es tys (suc h)) (h < n) (h + length (ty ∷ tys) ≤ n) (right_expression e own ha.0 own h refl (typed_whole e own ha.0) parts.0) (λ lt.
+        let q = right_arguments es tys ha.1 (suc h) (omega (arith, lt)) parts.1 in
+        record { steps = q.steps; after = let room = q.after in omega (arith, room) })
 
-    pub right_place : (line : ℕ) (place : Place) (t : Ty) → IsPlace program locals place t → (h : ℕ) → steps_temporaries (place_code program locals line place h) ≤ n → (written : Written) → Right (place_code program locals line place h) written (Points h written)
-    right_place line (global k path) t hp h le written =
+    pub right_place : (line : ℕ) (place : Place) (t : Ty) → IsPlace program locals place t → (h : ℕ) → steps_temporaries (place_code program locals line place h) ≤ n → Right (place_code program locals line place h) (h < n)
+    right_place line (global k path) t hp h le =
         let first = one (To.set line h (pointer Plain (global_type program k)) (To.static k)) in
         let parts = heights_both first (path_code program locals path (suc h)) n le in
-        right_both first (path_code program locals path (suc h)) written (Has n (pointer Plain (global_type program k)) h written) (Points h written) (right_first line h (pointer Plain (global_type program k)) (To.static k) written parts.0 refl) (λ w1 q1.
-        right_pointed h q1.below written w1 q1.wider (q1.new refl) (path_code program locals path (suc h)) (right_path path hp.0.ty t hp.1.2 (suc h) parts.1 w1))
-    right_place line (pointed p path) t hp h le written =
+        right_behind first (path_code program locals path (suc h)) h (right_first line h (pointer Plain (global_type program k)) (To.static k) parts.0 refl) (right_path path hp.0.ty t hp.1.2 (suc h) parts.1)
+    right_place line (pointed p path) t hp h le =
         let pt = pointer_type program locals p in
         let parts = heights_both (code p pt h) (path_code program locals path (suc h)) n le in
-        right_both (code p pt h) (path_code program locals path (suc h)) written (Has n pt h written) (Points h written) (right_expression p (pointer Plain hp.1.0) hp.1.1.0 pt h refl refl parts.0 written) (λ w1 q1.
-        right_pointed h q1.below written w1 q1.wider (q1.new refl) (path_code program locals path (suc h)) (right_path path hp.1.0 t hp.1.1.1 (suc h) parts.1 w1))
-    right_place line (indexed p i path) t hp h le written =
+        right_behind (code p pt h) (path_code program locals path (suc h)) h (right_expression p (pointer Plain hp.1.0) hp.1.1.0 pt h refl refl parts.0) (right_path path hp.1.0 t hp.1.1.1 (suc h) parts.1)
+    right_place line (indexed p i path) t hp h le =
         let pt = pointer_type program locals p in
         let it = index_type program locals i in
         let rest = path_code program locals path (suc (suc h)) in
         let a = heights_both (code p pt h) (both (code i it (suc h)) rest) n le in
         let b = heights_both (code i it (suc h)) rest n a.1 in
-        right_both (code p pt h) (both (code i it (suc h)) rest) written (Has n pt h written) (Points h written) (right_expression p (pointer Plain hp.1.0) hp.1.1.0 pt h refl refl a.0 written) (λ w1 q1.
-        right_both (code i it (suc h)) rest w1 (Has n it (suc h) w1) (Points h written) (right_index i (right_expression i) hp.1.1.1.0 hp.1.1.1.1 (suc h) b.0 w1) (λ w2 q2.
-        right_pointed h q1.below written w2 (wider_trans written w1 w2 q1.wider q2.wider) (q2.wider h (q1.new refl)) rest (right_path path hp.1.0 t hp.1.1.2 (suc (suc h)) b.1 w2)))
+        right_behind (code p pt h) (both (code i it (suc h)) rest) h (right_expression p (pointer Plain hp.1.0) hp.1.1.0 pt h refl refl a.0)
+        (right_behind (code i it (suc h)) rest (suc h) (right_index i (right_expression i) hp.1.1.1.0 hp.1.1.1.1 (suc h) b.0) (right_path path hp.1.0 t hp.1.1.2 (suc (suc h)) b.1)).steps
 
-    right_path : (path : Path) (u t : Ty) → LeadsTo program locals path u t → (h : ℕ) → steps_temporaries (path_code program locals path h) ≤ n → (written : Written) → Right (path_code program locals path h) written (Wider written)
-    right_path here u t hl h le written = record { steps = tt; after = λ j e. e }
-    right_path (field s k rest) u t hl h le written = right_path rest hl.1.0.ty t hl.1.1.2 h le written
-    right_path (element s k i rest) u t hl h le written =
+    right_path : (path : Path) (u t : Ty) → LeadsTo program locals path u t → (h : ℕ) → steps_temporaries (path_code program locals path h) ≤ n → RightSteps r fr n (path_code program locals path h)
+    right_path here u t hl h le = tt
+    right_path (field s k rest) u t hl h le = right_path rest hl.1.0.ty t hl.1.1.2 h le
+    right_path (element s k i rest) u t hl h le =
         let it = index_type program locals i in
         let parts = heights_both (code i it h) (path_code program locals rest (suc h)) n le in
-        right_both (code i it h) (path_code program locals rest (suc h)) written (Has n it h written) (Wider written) (right_index i (right_expression i) hl.1.1.2.0 hl.1.1.2.1 h parts.0 written) (λ w1 q1.
-        let q = right_path rest hl.1.0.ty t hl.1.1.3 (suc h) parts.1 w1 in
-        record { steps = q.steps; after = wider_trans written w1 _ q1.wider q.after })
+        (right_behind (code i it h) (path_code program locals rest (suc h)) h (right_index i (right_expression i) hl.1.1.2.0 hl.1.1.2.1 h parts.0) (right_path rest hl.1.0.ty t hl.1.1.3 (suc h) parts.1)).steps
 
   -- statements
 
   abbrev CodeIs : To.Code → Type 0
   CodeIs x = RightCode r fr n x
 
-  right_simple : (x : Steps) (act : To.Act) (P : Written → Type 0) → Right x nowhere P → ((w1 : Written) → P w1 → RightAct r fr n act w1) → CodeIs (To.simple x act)
-  right_simple x act P ra k = (ra.steps, k (written_by_all x nowhere) ra.after)
+  right_simple : (x : Steps) (act : To.Act) (P : Type 0) → Right x P → (P → RightAct r fr n act) → CodeIs (To.simple x act)
+  right_simple x act P ra k = (ra.steps, k ra.after)
 
   local_whole : (x : ℕ) (t : Ty) → slice_get locals x ≡ Some t → Whole t
   local_whole x t e = not_struct g f there x t e
@@ -491,23 +411,21 @@ module _ (program : Program) (well : IsWellTyped program) (g : ℕ) (f : Functio
   right_assign line x t ty e at alike he le =
       subst (λ u. code_temporaries (To.simple (code e (value_type u) 0) (To.assign line x u)) ≤ n → CodeIs (To.simple (code e (value_type u) 0) (To.assign line x u))) (sym alike)
       (λ le1.
-      right_simple (code e (value_type t) 0) (To.assign line x t) (Has n (value_type t) 0 nowhere) (right_expression e (value_type t) he (value_type t) 0 refl (whole_value t (local_whole x t at)) (max_parts (steps_temporaries (code e (value_type t) 0)) 0 n le1).0 nowhere)
-      (λ w1 p. (local_whole x t at, mapped_at locals x t at, p.below, (λ b. p.new (regional_value t ∙ b))))) le
+      right_simple (code e (value_type t) 0) (To.assign line x t) (0 < n) (right_expression e (value_type t) he (value_type t) 0 refl (whole_value t (local_whole x t at)) (max_parts (steps_temporaries (code e (value_type t) 0)) 0 n le1).0)
+      (λ lt. (local_whole x t at, mapped_at locals x t at, lt))) le
 
-  record PlaceThen (cell : Ty) (k : ℕ) (w1 : Written) : Type 0 where
-    pointer : w1 0 ≡ true
+  record PlaceThen (k : ℕ) : Type 0 where
     first : 0 < n
-    value : is_regional cell ≡ true → w1 k ≡ true
     below : k < n
 
   right_place_then : (line : ℕ) (place : Place) (pt : Ty) → IsPlace program locals place pt → (e : Expr) (v own : Ty) → HasType program locals e v → kind_of own ≡ kind_of v → Whole own
-      → let a = access program locals place in steps_temporaries (both (place_code program locals line place 0) (code e own (width a))) ≤ n → Right (both (place_code program locals line place 0) (code e own (width a))) nowhere (PlaceThen own (width a))
+      → let a = access program locals place in steps_temporaries (both (place_code program locals line place 0) (code e own (width a))) ≤ n → Right (both (place_code program locals line place 0) (code e own (width a))) (PlaceThen (width a))
   right_place_then line place pt hp e v own he hk hw le =
       let a = access program locals place in
       let parts = heights_both (place_code program locals line place 0) (code e own (width a)) n le in
-      right_both (place_code program locals line place 0) (code e own (width a)) nowhere (Points 0 nowhere) (PlaceThen own (width a)) (right_place line place pt hp 0 parts.0 nowhere) (λ w1 p1.
-      let q = right_expression e v he own (width a) hk hw parts.1 w1 in
-      record { steps = q.steps; after = record { pointer = q.after.wider 0 p1.new; first = p1.below; value = q.after.new; below = q.after.below } })
+      right_both (place_code program locals line place 0) (code e own (width a)) (0 < n) (PlaceThen (width a)) (right_place line place pt hp 0 parts.0) (λ first.
+      let q = right_expression e v he own (width a) hk hw parts.1 in
+      record { steps = q.steps; after = record { first = first; below = q.after } })
 
   path_cell : (path : Path) (a : Access) → (path_access program locals path a).cell ≡ a.cell
   path_cell here a = refl
@@ -524,9 +442,9 @@ module _ (program : Program) (well : IsWellTyped program) (g : ℕ) (f : Functio
       let a = access program locals place in
       let x = both (place_code program locals line place 0) (code e (value_type a.cell) (width a)) in
       let whole : Whole a.cell = subst Whole (sym (cell_is place pt hp)) (whole_type pt h) in
-      right_simple x (To.store line a) (PlaceThen (value_type a.cell) (width a))
+      right_simple x (To.store line a) (PlaceThen (width a))
       (right_place_then line place pt hp e (value_type pt) (value_type a.cell) he (ap (λ c. kind_of (value_type c)) (cell_is place pt hp)) (whole_value a.cell whole) (max_parts (steps_temporaries x) 0 n le).0)
-      (λ w1 p. (whole, p.first, p.below, p.pointer, (λ b. p.value (regional_value a.cell ∙ b))))
+      (λ p. (whole, p.first, p.below))
 
   pointer_regional : (t : Ty) → IsTrue (is_pointer t) → is_regional t ≡ true
   pointer_regional int h = cc
@@ -542,15 +460,11 @@ module _ (program : Program) (well : IsWellTyped program) (g : ℕ) (f : Functio
       let x = both (place_code program locals line place 0) (code e (found e) (width a)) in
       let has = taken_has program f pt change e takes in
       let parts = max_parts (steps_temporaries x) (suc (suc (width a))) n le in
-      right_simple x (To.update line a change (found e)) (PlaceThen (found e) (width a)) (right_place_then line place pt hp e has.0 (found e) has.1 (kind_found program locals e has.0 has.1) (found_whole e has.0 has.1) parts.0) (λ w1 p. act change takes w1 parts.1 p.first p.pointer)
+      right_simple x (To.update line a change (found e)) (PlaceThen (width a)) (right_place_then line place pt hp e has.0 (found e) has.1 (kind_found program locals e has.0 has.1) (found_whole e has.0 has.1) parts.0) (λ p. act change takes parts.1 p.first)
     where
-      act : (change : Change) → Takes program locals pt change e → (w1 : Written) → suc (suc (width (access program locals place))) ≤ n → 0 < n → w1 0 ≡ true → RightAct r fr n (To.update line (access program locals place) change (found e)) w1
-      act (Compute from operator s) takes w1 room first new = (first, new)
-      act (Stepping direction) takes w1 room first new = (ap is_regional (cell_is place pt hp) ∙ pointer_regional pt takes.0, room, new)
-
-  record TwoPlaces (k : ℕ) (w1 : Written) : Type 0 where
-    first : w1 0 ≡ true
-    second : w1 k ≡ true
+      act : (change : Change) → Takes program locals pt change e → suc (suc (width (access program locals place))) ≤ n → 0 < n → RightAct r fr n (To.update line (access program locals place) change (found e))
+      act (Compute from operator s) takes room first = first
+      act (Stepping direction) takes room first = (ap is_regional (cell_is place pt hp) ∙ pointer_regional pt takes.0, room)
 
   right_copy : (line s : ℕ) (left right : Place) → IsPlace program locals left (struct s) → IsPlace program locals right (struct s) → code_temporaries (statement_code program f (copy line s left right)) ≤ n → CodeIs (statement_code program f (copy line s left right))
   right_copy line s left right hl hr le =
@@ -559,15 +473,12 @@ module _ (program : Program) (well : IsWellTyped program) (g : ℕ) (f : Functio
       let x = both (place_code program locals line left 0) (place_code program locals line right (width a)) in
       let parts = max_parts (steps_temporaries x) (suc (width a + width b)) n le in
       let two = heights_both (place_code program locals line left 0) (place_code program locals line right (width a)) n parts.0 in
-      right_simple x (To.move line (cells program.structs (struct s)) a b) (TwoPlaces (width a))
-      (right_both (place_code program locals line left 0) (place_code program locals line right (width a)) nowhere (Points 0 nowhere) (TwoPlaces (width a)) (right_place line left (struct s) hl 0 two.0 nowhere) (λ w1 p1.
-      let q = right_place line right (struct s) hr (width a) two.1 w1 in
-      record { steps = q.steps; after = record { first = q.after.wider 0 p1.new; second = q.after.new } }))
-      (λ w1 p. (parts.1, p.first, p.second))
+      let copied = right_behind (place_code program locals line left 0) (place_code program locals line right (width a)) 0 (right_place line left (struct s) hl 0 two.0) (right_place line right (struct s) hr (width a) two.1).steps in
+      right_simple x (To.move line (cells program.structs (struct s)) a b) (0 < n) copied (λ first. parts.1)
 
   right_dropped : (e : Expr) (u : Ty) → HasType program locals e u → code_temporaries (To.simple (code e (found e) 0) To.drop) ≤ n → CodeIs (To.simple (code e (found e) 0) To.drop)
   right_dropped e u he le =
-      right_simple (code e (found e) 0) To.drop (Has n (found e) 0 nowhere) (right_expression e u he (found e) 0 (kind_found program locals e u he) (found_whole e u he) (max_parts (steps_temporaries (code e (found e) 0)) 0 n le).0 nowhere) (λ w1 p. tt)
+      right_simple (code e (found e) 0) To.drop (0 < n) (right_expression e u he (found e) 0 (kind_found program locals e u he) (found_whole e u he) (max_parts (steps_temporaries (code e (found e) 0)) 0 n le).0) (λ lt. tt)
 
   right_perform : (line k : ℕ) (es : Arguments) (callee : Function) → slice_get program.functions k ≡ Some callee → AreArguments program locals es (parameters_of callee)
       → code_temporaries (To.simple (arguments_code program locals es (parameter_types program k) 0) (To.perform line k (argument_types program locals es (parameter_types program k)))) ≤ n
@@ -577,7 +488,7 @@ module _ (program : Program) (well : IsWellTyped program) (g : ℕ) (f : Functio
       subst (λ ts. steps_temporaries (arguments_code program locals es ts 0) ≤ n → CodeIs (To.simple (arguments_code program locals es ts 0) (To.perform line k (argument_types program locals es ts)))) (sym (ap types_in e))
       (λ le1.
       subst (λ us. CodeIs (To.simple (arguments_code program locals es tys 0) (To.perform line k us))) (sym (arguments_same es tys ha))
-      (right_simple (arguments_code program locals es tys 0) (To.perform line k tys) (Passes tys 0 nowhere) (right_arguments es tys ha 0 (omega arith) le1 nowhere) (λ w1 p. (call_right 0 int int k callee e refl (λ b. cc) p.room, p.all))))
+      (right_simple (arguments_code program locals es tys 0) (To.perform line k tys) (0 + length tys ≤ n) (right_arguments es tys ha 0 (omega arith) le1) (λ room. call_right 0 int int k callee e refl (λ b. cc) room)))
       (max_parts (steps_temporaries (arguments_code program locals es (parameter_types program k) 0)) 1 n le).0
 
   abbrev gives_in : Option Function → Bool
@@ -627,12 +538,11 @@ module _ (program : Program) (well : IsWellTyped program) (g : ℕ) (f : Functio
 
   abbrev Head : Steps → Option Test → Type 0
   Head x None = x ≡ To.none
-  Head x (Some test) = RightSteps r fr n x nowhere × RightTest r fr n test (written_by_all x nowhere)
+  Head x (Some test) = RightSteps r fr n x × Whole test.ty
 
   right_tested : (e : Expr) (u : Ty) → HasType program locals e u → (test : Test) → test.ty ≡ found e → steps_temporaries (whole program locals e) ≤ n → Head (whole program locals e) (Some test)
   right_tested e u he test alike le =
-      let q = right_expression e u he (found e) 0 (kind_found program locals e u he) (found_whole e u he) le nowhere in
-      (q.steps, (subst Whole (sym alike) (found_whole e u he), (λ b. q.after.new (ap is_regional (sym alike) ∙ b))))
+      ((right_expression e u he (found e) 0 (kind_found program locals e u he) (found_whole e u he) le).steps, subst Whole (sym alike) (found_whole e u he))
 
   right_whole : (line : ℕ) (wanted : Bool) (e : Expr) (u : Ty) → HasType program locals e u → steps_temporaries (whole program locals e) ≤ n → Head (whole program locals e) (Some (record { line = line; ty = found e; wanted = wanted }))
   right_whole line wanted e u he le = right_tested e u he (record { line = line; ty = found e; wanted = wanted }) refl le
@@ -681,9 +591,9 @@ module _ (program : Program) (well : IsWellTyped program) (g : ℕ) (f : Functio
   right_returned line e rt er he le =
       subst (λ ty. steps_temporaries (code e ty 0) ≤ n → CodeIs (To.simple (code e ty 0) (To.leave line (option_map value_type f.result)))) (sym (ap returned_type er))
       (λ le1.
-      right_simple (code e (value_type rt) 0) (To.leave line (option_map value_type f.result)) (Has n (value_type rt) 0 nowhere) (right_expression e (value_type rt) he (value_type rt) 0 refl (typed_whole e (value_type rt) he) le1 nowhere) (λ w1 p. (
+      right_simple (code e (value_type rt) 0) (To.leave line (option_map value_type f.result)) (0 < n) (right_expression e (value_type rt) he (value_type rt) 0 refl (typed_whole e (value_type rt) he) le1) (λ lt. (
         (λ ty q reg. (value_type ty, ap (option_map value_type) q, regional_value ty ∙ reg)),
-        (λ ty q. let alike : value_type rt ≡ ty = some_same (sym (ap (option_map value_type) er) ∙ q) in (subst Whole alike (typed_whole e (value_type rt) he), p.below, (λ b. p.new (ap is_regional alike ∙ b)))),
+        (λ ty q. let alike : value_type rt ≡ ty = some_same (sym (ap (option_map value_type) er) ∙ q) in (subst Whole alike (typed_whole e (value_type rt) he), lt)),
       )))
       (max_parts (steps_temporaries (code e (returned_type f.result) 0)) 0 n le).0
     where
@@ -703,7 +613,7 @@ module _ (program : Program) (well : IsWellTyped program) (g : ℕ) (f : Functio
     right_statement loop (copy line s left right) h le = right_copy line s left right h.0 h.1 le
     right_statement loop (evaluate line e) h le = right_evaluate line e h le
     right_statement loop (delete line e) h le =
-        right_simple (code e region 0) (To.delete line) (Has n region 0 nowhere) (right_expression e region h region 0 refl refl (max_parts (steps_temporaries (code e region 0)) 0 n le).0 nowhere) (λ w1 p. (p.below, p.new refl))
+        right_simple (code e region 0) (To.delete line) (0 < n) (right_expression e region h region 0 refl refl (max_parts (steps_temporaries (code e region 0)) 0 n le).0) (λ lt. lt)
     right_statement loop (branch line test a b) h le =
         let x = condition_code program locals test in
         let parts = max_parts (steps_temporaries x) (max (code_temporaries (statement_code program f a)) (code_temporaries (statement_code program f b))) n le in

@@ -457,7 +457,8 @@ module _ (program : Program) (well : IsWellTyped program) (g : ℕ) (f : Functio
         (λ l1 env t t1 w1 own s p.
         let tg = target_at a t1 0 in
         let v = temporary (found e) t1 (width a) in
-        let finish = λ (new : Value) (w3 : World). bind (source.store line tg (kept a.cell new) w3) (λ _ w4. Go (R.Next env t1) w4) in
+        let left = λ (new : Value). R.set_kind (R.change_kind change) t1 (suc (width a)) new in
+        let finish = λ (new : Value) (w3 : World). bind (source.store line tg (kept a.cell new) w3) (λ _ w4. Go (R.Next env (left new)) w4) in
         let loads = load_keeps program l1 line pt tg w1 h (place_aims program well locals place pt hp l1 t1 0 p.pointer) s in
         let news = λ (old : Value) (l2 : Ledger) (w2 : World) (g2 : Grows l1 l2) (s2 : WorldSuits program l2 w2) (q2 : Suits l2 pt old). new_keeps line pt change e takes old v l2 w2 q2 (still_suits l1 l2 g2 has.0 v p.value) s2 in
         let pointer_at = λ (l3 : Ledger) (g3 : Grows l1 l3). still_suits l1 l3 g3 (pointer Plain a.element) (t1.regions 0) p.pointer in (
@@ -469,29 +470,29 @@ module _ (program : Program) (well : IsWellTyped program) (g : ℕ) (f : Functio
           ),
           keeps_then program l1 (Of pt) WaySuits (source.load line tg w1) (λ old w2. bind (R.new_value source deleting locals line change (found e) old v w2) finish) loads (λ old l2 w2 g2 s2 q2.
               keeps_then program l2 (Of pt) WaySuits (R.new_value source deleting locals line change (found e) old v w2) finish (news old l2 w2 g2 s2 q2) (λ new l3 w3 g3 s3 q3.
-              then_on l3 env t1 _ (stays l2 l3 env g3 (stays l1 l2 env g2 own))
+              then_on l3 env (left new) _ (stays l2 l3 env g3 (stays l1 l2 env g2 own))
               (store_keeps program l3 line pt tg (kept a.cell new) w3 h (place_aims program well locals place pt hp l3 t1 0 (pointer_at l3 (grows_on l1 l2 l3 g2 g3))) (subst (λ c. Suits l3 pt (kept c new)) (sym (cell_is program well locals place pt hp)) (kept_suits l3 pt new (value_suits l3 pt new q3))) s3))),
         ))
 
     -- a struct copy
-    move_holds : (line : ℕ) (kinds : Layout) (l : Ledger) (from to : Target) (w : World) → AimsAt program l kinds from → AimsAt program l kinds to → WorldSuits program l w → MoveMeets line kinds from to w × Keeps program l Nothing (R.cells_moved source deleting locals line kinds from to w)
-    move_holds line [] l from to w af at s = (tt, keeps_here program l Nothing tt w s tt)
-    move_holds line (kind ∷ kinds) l from to w af at s =
+    move_holds : (line z : ℕ) (kinds : Layout) (l : Ledger) (from to : Target) (t : Temporaries) (w : World) → AimsAt program l kinds from → AimsAt program l kinds to → WorldSuits program l w → MoveMeets line kinds from to w × Keeps program l (λ l1 t1. Unit {0}) (R.cells_moved source deleting locals line z kinds from to t w)
+    move_holds line z [] l from to t w af at s = (tt, keeps_here program l (λ l1 t1. Unit {0}) t w s tt)
+    move_holds line z (kind ∷ kinds) l from to t w af at s =
         let loads = load_suits program l line kind kinds from w af s in
         let from1 : Target = record from { offset = suc from.offset } in
         let to1 : Target = record to { offset = suc to.offset } in
         let stores = λ (v : Value) (l1 : Ledger) (w1 : World) (g1 : Grows l l1) (s1 : WorldSuits program l1 w1) (q : CellSuits l1 kind v). store_suits program l1 line kind kinds to (R.kept_cell kind v) w1 (still_at program l l1 (kind ∷ kinds) to g1 at) (kept_cell_suits l1 kind v q) s1 in
-        let rest = λ (l2 : Ledger) (w2 : World) (g : Grows l l2) (s2 : WorldSuits program l2 w2). move_holds line kinds l2 from1 to1 w2 (still_at program l l2 kinds from1 g (next_at program l kind kinds from af)) (still_at program l l2 kinds to1 g (next_at program l kind kinds to at)) s2 in (
+        let rest = λ (v : Value) (l2 : Ledger) (w2 : World) (g : Grows l l2) (s2 : WorldSuits program l2 w2). move_holds line z kinds l2 from1 to1 (R.with_cell kind t z v) w2 (still_at program l l2 kinds from1 g (next_at program l kind kinds from af)) (still_at program l l2 kinds to1 g (next_at program l kind kinds to at)) s2 in (
           (
-            kinds_named program l line af.element kind kinds from w af.pointer af.stands s,
+            (λ regional. kinds_named program l line af.element kind kinds from w af.pointer af.stands s),
             goes_on program l (λ l1 v. CellSuits l1 kind v) _ (source.load line from w) loads (λ v l1 w1 g1 s1 q.
                 let at1 = still_at program l l1 (kind ∷ kinds) to g1 at in (
-                  kinds_named program l1 line at1.element kind kinds to w1 at1.pointer at1.stands s1,
-                  goes_on program l1 Nothing (λ u w2. MoveMeets line kinds from1 to1 w2) (source.store line to (R.kept_cell kind v) w1) (stores v l1 w1 g1 s1 q) (λ u l2 w2 g2 s2 r. (rest l2 w2 (grows_on l l1 l2 g1 g2) s2).0),
+                  (λ regional. kinds_named program l1 line at1.element kind kinds to w1 at1.pointer at1.stands s1),
+                  goes_on program l1 Nothing (λ u w2. MoveMeets line kinds from1 to1 w2) (source.store line to (R.kept_cell kind v) w1) (stores v l1 w1 g1 s1 q) (λ u l2 w2 g2 s2 r. (rest v l2 w2 (grows_on l l1 l2 g1 g2) s2).0),
                 )),
           ),
-          keeps_then program l (λ l1 v. CellSuits l1 kind v) Nothing (source.load line from w) (λ v w1. bind (source.store line to (R.kept_cell kind v) w1) (λ _ w2. R.cells_moved source deleting locals line kinds from1 to1 w2)) loads (λ v l1 w1 g1 s1 q.
-              keeps_then program l1 Nothing Nothing (source.store line to (R.kept_cell kind v) w1) (λ _ w2. R.cells_moved source deleting locals line kinds from1 to1 w2) (stores v l1 w1 g1 s1 q) (λ u l2 w2 g2 s2 r. (rest l2 w2 (grows_on l l1 l2 g1 g2) s2).1)),
+          keeps_then program l (λ l1 v. CellSuits l1 kind v) (λ l1 t1. Unit {0}) (source.load line from w) (λ v w1. bind (source.store line to (R.kept_cell kind v) w1) (λ _ w2. R.cells_moved source deleting locals line z kinds from1 to1 (R.with_cell kind t z v) w2)) loads (λ v l1 w1 g1 s1 q.
+              keeps_then program l1 Nothing (λ l2 t1. Unit {0}) (source.store line to (R.kept_cell kind v) w1) (λ _ w2. R.cells_moved source deleting locals line z kinds from1 to1 (R.with_cell kind t z v) w2) (stores v l1 w1 g1 s1 q) (λ u l2 w2 g2 s2 r. (rest v l2 w2 (grows_on l l1 l2 g1 g2) s2).1)),
         )
 
     record Pair (left right : Ty) (k : ℕ) (l : Ledger) (t : Temporaries) : Type 0 where
@@ -509,8 +510,8 @@ module _ (program : Program) (well : IsWellTyped program) (g : ℕ) (f : Functio
         fine_more l1 (Pointed b.element (width a) t1) (Pair a.element b.element (width a)) (place_code program locals line right (width a)) _ env t1 w1 (place_fine line right (struct s) hr (width a) _ env t1 w1 l1 (stays l l1 env g1 own) s1) (λ t2 l2 g2 p2.
         record { first = subst (IsPointer l2 a.element) (sym (p2.lower.regions 0 (omega arith))) (still_suits l1 l2 g2 (pointer Plain a.element) (t1.regions 0) p1.pointer); second = p2.pointer })))
         (λ l1 env t t1 w1 own s1 p.
-        let q = move_holds line kinds l1 (target_at b t1 (width a)) (target_at a t1 0) w1 (aims_at program l1 (struct s) (target_at b t1 (width a)) (place_aims program well locals right (struct s) hr l1 t1 (width a) p.second)) (aims_at program l1 (struct s) (target_at a t1 0) (place_aims program well locals left (struct s) hl l1 t1 0 p.first)) s1 in
-        (q.0, then_on l1 env t1 _ own q.1))
+        let q = move_holds line (width a + width b) kinds l1 (target_at b t1 (width a)) (target_at a t1 0) t1 w1 (aims_at program l1 (struct s) (target_at b t1 (width a)) (place_aims program well locals right (struct s) hr l1 t1 (width a) p.second)) (aims_at program l1 (struct s) (target_at a t1 0) (place_aims program well locals left (struct s) hl l1 t1 0 p.first)) s1 in
+        (q.0, keeps_then program l1 (λ l2 t2. Unit {0}) WaySuits _ (λ t2 w2. Go (R.Next env t2) w2) q.1 (λ t2 l2 w2 g2 s2 r. keeps_here program l2 WaySuits (R.Next env t2) w2 s2 (stays l1 l2 env g2 own))))
 
     -- a value that is let go
     dropped_holds : (e : Expr) (u : Ty) → HasType program locals e u → (ways : Ways) → CodeHeld (To.simple (code e (found e) 0) To.drop) ways
@@ -690,21 +691,21 @@ module _ (program : Program) (well : IsWellTyped program) (g : ℕ) (f : Functio
         let Inner : Goal → Goal = λ M env2 t2 w2. CodeMeets deleting fr calls inside a ways1 env2 t2 w2 × IfGoes (body_meets (Third M)) (code_run source deleting locals a calls ways1 env2 t2 w2) in
         let third_go : Going → Going = λ again env2 t2 w2. bind (code_run source deleting locals third calls ways2 env2 t2 w2) (R.behind again) in
         let body : Going → Going = λ again env1 t1 w1. bind (code_run source deleting locals a calls ways1 env1 t1 w1) (R.behind_body (third_go again)) in
-        rounds_hold (λ M env1 t1 w1. HeadMeets deleting fr calls inside x test live (Inner M) (nothing_more deleting fr calls inside) env1 t1 w1) (λ env1 t1 w1. run x live env1 t1 w1) test body
+        let held : (m : ℕ) → Held (RoundsMeet m _) (R.rounds source deleting locals m (λ env1 t1 w1. run x live env1 t1 w1) test body) = rounds_hold (λ M env1 t1 w1. HeadMeets deleting fr calls inside x test live (Inner M) (nothing_more deleting fr calls inside) env1 t1 w1) (λ env1 t1 w1. run x live env1 t1 w1) test body
         (λ M again h. head_holds x test live (Inner M) (nothing_more deleting fr calls inside) (body again) (λ env1 t1 w1. Go (R.Next env1 t1) w1) hx
-        (body_then a ways1 (Third M) (third_go again) (ha ways1) (code_then third ways2 M again (h3 ways2) h)) goes_next)
-        (suc (source.turns_left w)) l env t w own suits
+        (body_then a ways1 (Third M) (third_go again) (ha ways1) (code_then third ways2 M again (h3 ways2) h)) goes_next) in
+        ((λ m. (held m l env t w own suits).0), (held (suc (source.turns_left w)) l env t w own suits).1)
 
     repeat_holds : (line : ℕ) (a : To.Code) (x : Steps) (test : Test) (ways : Ways) → Heads x (Some test) → ((k : Ways) → CodeHeld a k) → CodeHeld (To.repeat line a x test) ways
     repeat_holds line a x test ways hx ha l env t w own suits =
         let live : ℕ → Bool = λ y. ways.next y || before_code (To.repeat 0 a x test) ways y in
         let ways1 : Ways = round (repeat_tail a x test ways) ways in
         let Met : Goal → Goal = λ M env2 t2 w2. HeadMeets deleting fr calls inside x (Some test) live M (nothing_more deleting fr calls inside) env2 t2 w2 in
-        rounds_first_hold (λ M env1 t1 w1. CodeMeets deleting fr calls inside a ways1 env1 t1 w1 × IfGoes (body_meets (Met M)) (code_run source deleting locals a calls ways1 env1 t1 w1)) (λ env1 t1 w1. run x live env1 t1 w1) (Some test)
+        let held : (m : ℕ) → Held (RoundsMeet m _) (R.rounds_first source deleting locals m (λ env1 t1 w1. run x live env1 t1 w1) (Some test) _) = rounds_first_hold (λ M env1 t1 w1. CodeMeets deleting fr calls inside a ways1 env1 t1 w1 × IfGoes (body_meets (Met M)) (code_run source deleting locals a calls ways1 env1 t1 w1)) (λ env1 t1 w1. run x live env1 t1 w1) (Some test)
         (λ again env1 t1 w1. bind (code_run source deleting locals a calls ways1 env1 t1 w1) (R.behind_body again))
         (λ M again h. body_then a ways1 (Met M) (λ env1 t1 w1. bind (run x live env1 t1 w1) (λ t2. branching (test_value (Some test) t2) (again env1 t2) (Go (R.Next env1 t2)))) (ha ways1)
-        (head_holds x (Some test) live M (nothing_more deleting fr calls inside) again (λ env1 t1 w1. Go (R.Next env1 t1) w1) hx h goes_next))
-        (suc (source.turns_left w)) l env t w own suits
+        (head_holds x (Some test) live M (nothing_more deleting fr calls inside) again (λ env1 t1 w1. Go (R.Next env1 t1) w1) hx h goes_next)) in
+        ((λ m. (held m l env t w own suits).0), (held (suc (source.turns_left w)) l env t w own suits).1)
 
     block_holds : (x : To.Codes) (ways : Ways) → CodesHeld x ways → CodeHeld (To.block x) ways
     block_holds x ways h l env t w own suits = h l env t w own suits

@@ -10,7 +10,7 @@ use Rattle.rc_kinds.proofs.First.{first_world_suits}
 use Rattle.rc_translation.specs.Translation.{routine_of, region_of_program}
 use Rattle.rc_along.specs.Along.{given_to}
 use Rattle.rc_checks.proofs.Typed.{calls_hold}
-use Rattle.rc_checks.specs.Laws.{RunsMeet, RemovedChecksNeverFail}
+use Rattle.rc_checks.specs.Laws.{RunsMeet, RemovedChecksNeverFail, FactsHold}
 use Rattle.rc_checks.proofs.Rights.{all_right}
 use Rattle.rc_core.specs.Heap.{Null, parent, first_heap}
 use Rattle.rc_safety.proofs.First.{first_is_sound}
@@ -22,6 +22,7 @@ use Rattle.rc_annotations.specs.Variables.{picked, past}
 use Rattle.rc_annotations.specs.Worlds.{Made}
 use Rattle.rc_annotations.proofs.Unions.{one_proves_all}
 use Rattle.rc_along.proofs.Along.{marked_calls_same}
+use Rattle.rc_along.proofs.Coming.{facts_hold_whenever}
 
 pub runs_meet : (program : Program) → IsWellTyped program → RunsMeet program
 runs_meet program well input limits bytes m =
@@ -59,3 +60,13 @@ module _ (program : Program) (well : IsWellTyped program) where
     where
       false_true : false ≡ true → ⊥
       false_true e = cc
+
+  pub facts_hold : FactsHold program
+  facts_hold a consistent input limits bytes function point values heap comes =
+      facts_hold_whenever r (temporaries_of r) a consistent (all_right program well) (first_world program input limits) (record { sound = first_is_sound program; rooted = first_rooted program }) no_parameters (runs_meet program well input limits bytes) function point values heap comes
+    where
+      no_parameters : (f : Routine) → slice_get r.functions r.main ≡ Some f → f.parameters ≡ 0
+      no_parameters f found = let e : main' ≡ f = some_is (sym main_there ∙ found) in ap (λ (x : Routine). x.parameters) (sym e) ∙ well.main.1.1
+        where
+          some_is : {x y : Routine} → Some x ≡ Some y → x ≡ y
+          some_is e = cc

@@ -16,7 +16,10 @@ use Rattle.rc_along.specs.Along.{CallsMeet}
 use Rattle.rc_along.specs.RunLaws.{AllRight}
 use Rattle.rc_along.specs.MarkedRuns.{Put, main_marked}
 use Rattle.rc_along.specs.MarkedLaws.{Trusting}
-use Rattle.rc_annotations.specs.Annotations.{AllRemovable}
+use Rattle.rc_along.specs.Comes.{At, Comes}
+use Rattle.rc_annotations.specs.Annotations.{Annotation, Consistent, AllRemovable}
+use Rattle.rc_annotations.specs.Holding.{AllHold}
+use Rattle.rc_core.specs.Heap.{Value, Heap}
 
 abbrev pub TypesAgree : Program → Type 0
 TypesAgree program = AllRight (region_of_program program) (temporaries_of (region_of_program program))
@@ -26,3 +29,7 @@ RunsMeet program = (input : List ℕ) (limits : Limits) → Every IsByte input �
 
 abbrev pub RemovedChecksNeverFail : Program → Type 0
 RemovedChecksNeverFail program = let r = region_of_program program in (input : List ℕ) (limits : Limits) → Every IsByte input → (marks : (function point : ℕ) → Bool) → AllRemovable r (temporaries_of r) marks → (put : Put World) → Trusting put → main_marked source put marks r (first_world program input limits) ≡ run_main source r (first_world program input limits)
+
+-- each fact of a consistent annotation holds each time that the run of `main` comes to its point, of the values there
+abbrev pub FactsHold : Program → Type 0
+FactsHold program = let r = region_of_program program in (a : Annotation) → Consistent r (temporaries_of r) a → (input : List ℕ) (limits : Limits) → Every IsByte input → (function point : ℕ) (values : ℕ → Value) (heap : Heap) → Comes r (first_world program input limits) (At function point values heap) → AllHold (a.before function point) values heap

@@ -4,7 +4,7 @@
 
 ghost use Rattle.rc_core.specs.Programs.{Program};
 ghost use Rattle.rc_core.specs.WellTyped.{IsWellTyped};
-ghost use Rattle.rc_checks.specs.Laws.{TypesAgree, RunsMeet, RemovedChecksNeverFail};
+ghost use Rattle.rc_checks.specs.Laws.{TypesAgree, RunsMeet, RemovedChecksNeverFail, FactsHold};
 
 /// The region code of a program whose parts fit together meets what the laws of facts ask: its types
 /// agree (`types`), and each run of it, on an input of bytes and under any limits, from where `main`
@@ -13,6 +13,15 @@ ghost use Rattle.rc_checks.specs.Laws.{TypesAgree, RunsMeet, RemovedChecksNeverF
 pub fn programs_meet_what_facts_ask()
     ensures types { (program : Program) → IsWellTyped program → TypesAgree program }
     ensures runs { (program : Program) → IsWellTyped program → RunsMeet program }
+{}
+
+/// Facts are true of runs. In the region code of a program whose parts fit together each fact that a
+/// consistent annotation has before a point holds of the values of the region variables and the heap,
+/// each time that the run of `main` comes to the point (`Comes`), on every input of bytes and under all
+/// limits: of locals, hidden copies and temporaries, in calls inside one another, in each round of a
+/// loop, and within updates and struct copies.
+pub fn facts_hold_whenever_the_run_is_there()
+    ensures { (program : Program) → IsWellTyped program → FactsHold program }
 {}
 
 /// A check that may go never fails. The region code of a program whose parts fit together runs the

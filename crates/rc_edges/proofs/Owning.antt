@@ -7,7 +7,7 @@ use Rattle.rc_core.specs.declared.stmt.Change.{Change}
 use Rattle.rc_core.specs.declared.stmt.Change.TheVariants.{Compute, Step as Stepping}
 use Rattle.rc_core.specs.declared.ty.Signedness.{Signedness}
 use Rattle.rc_core.specs.Types.{Ty, int, unsigned, char, region, struct, pointer}
-use Rattle.rc_core.specs.Layout.{Layout}
+use Rattle.rc_core.specs.Layout.{Layout, note_of}
 use Rattle.rc_core.specs.Typing.{value_type}
 use Rattle.rc_rlang.specs.Points.{change_points, end_points}
 use Rattle.rc_rlang.specs.Variables.{end_temporaries, is_reference}
@@ -18,7 +18,7 @@ use Rattle.rc_rlang.specs.RegionPoints.{step_points, steps_points, act_points, b
 use Rattle.rc_rlang.specs.RegionVariables.{step_temporaries, steps_temporaries, act_temporaries, code_temporaries, codes_temporaries, routine_temporaries, routine_variables}
 use Rattle.rc_rlang.specs.RegionFits.{operands, pushed, dropped, step_types, steps_types, index_types, shift_types, place_types, test_types, StepFits, StepsFit, ActFits, CodeFits, CodesFit}
 use Rattle.rc_rlang.specs.RegionKinds.{kind_ty, OperationKinded, StepKinded, StepsKinded, CodeKinded, CodesKinded}
-use Rattle.rc_rlang.specs.RegionFlow.{Effect, nothing, nulled, moved, loaded, looked_at, stored, present, absent, called, entered, Edge, Node, Ends, going, forking, one_of, is_regional, note_in, if_regional, first_of, in_line, numbers_below, local_variable, temporary_variable, regional_arguments, operation_effect, yes_effect, no_effect, step_nodes, steps_nodes, stored_value, loaded_value, change_effects, cell_effects, act_nodes, test_nodes, code_nodes, codes_nodes, entry_pairs, end_nodes, routine_nodes, variables}
+use Rattle.rc_rlang.specs.RegionFlow.{Effect, nothing, nulled, moved, loaded, looked_at, stored, present, absent, called, entered, Edge, Node, Ends, going, forking, one_of, is_regional, is_regional_cell, note_in, if_regional, first_of, in_line, numbers_below, local_variable, temporary_variable, regional_arguments, operation_effect, yes_effect, no_effect, step_nodes, steps_nodes, stored_value, loaded_value, change_effects, cell_effects, act_nodes, test_nodes, code_nodes, codes_nodes, entry_pairs, end_nodes, routine_nodes, variables}
 use Rattle.rc_annotations.specs.Heights.{temporaries_in, temporaries_of}
 use Rattle.rc_annotations.proofs.Nodes.{act_count, nodes_are_points}
 use Rattle.rc_annotations.proofs.Variables.{count_first}
@@ -236,7 +236,11 @@ module _ (f : Routine) (temporaries points : ℕ) where
 
     cells_below : (value from : ℕ) (kinds : Layout) → value < temporaries → from < temporaries → AllEffects (cell_effects f value from kinds)
     cells_below v h [] l m = tt {0}
-    cells_below v h (kind ∷ kinds) l m = ((temporary_less v l, temporary_less h m), ((temporary_less v l, temporary_less 0 (omega (arith, l))), cells_below v h kinds l m))
+    cells_below v h (kind ∷ kinds) l m =
+        let z : 0 < temporaries = omega (arith, l) in (
+          either_below (is_regional_cell kind) (loaded (temporary_variable f v) (temporary_variable f h) (note_of kind)) (looked_at (temporary_variable f h)) (temporary_less v l, temporary_less h m) (temporary_less h m),
+          (either_below (is_regional_cell kind) (stored (temporary_variable f v) (temporary_variable f 0) (note_of kind)) (looked_at (temporary_variable f 0)) (temporary_less v l, temporary_less 0 z) (temporary_less 0 z), cells_below v h kinds l m),
+        )
 
     act_fine : (act : Act) (tys : List Ty) (here next : ℕ) → ActFits act tys → length tys ≤ temporaries → act_temporaries act ≤ temporaries → ActStands r f.locals f.result act → here + act_points act ≤ points → next < points → AllNodes Fine (act_nodes f act here next)
     act_fine drop tys here next b l m c n o = tt {0}

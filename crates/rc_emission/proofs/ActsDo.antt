@@ -17,7 +17,7 @@ use Rattle.rc_core.specs.Evaluation.{number_in, local_at, give_number, toward}
 use Rattle.rc_core.specs.Execution.{with_local}
 use Rattle.rc_rlang.specs.RegionCode as From
 use Rattle.rc_rlang.specs.RegionCode.{Index, Access, width, shift_width, Operation, Act}
-use Rattle.rc_rlang.specs.RegionRuns.{Temporaries, temporary, temporaries_from, chosen_from, target_shifted, target_at, at_kind, kept, kept_cell, kept_all, right_number, convert_value, Way, Next, Returned, pins_from, pinned, operation_value, new_value, cells_moved, act_run}
+use Rattle.rc_rlang.specs.RegionRuns.{Temporaries, set_kind, change_kind, with_cell, temporary, temporaries_from, chosen_from, target_shifted, target_at, at_kind, kept, kept_cell, kept_all, right_number, convert_value, Way, Next, Returned, pins_from, pinned, operation_value, new_value, cells_moved, act_run}
 use Rattle.rc_emission.specs.StackCode.{Instruction, Line, Onward, popped, value_at, chosen_values, target_of, last_of, given}
 use Rattle.rc_rlang.specs.RegionFits.{index_types, shift_types, place_types, pushed, act_types, ActFits}
 use Rattle.rc_emission.specs.OperationCode.{line_of, at, compared, count_code, convert_code, spills}
@@ -223,21 +223,22 @@ module _ {W : Type 0} (ops : Ops W) (turning : Turning ops) (deleting : ℕ → 
       let code1 = gets slot deleting types 0 (place_types a) ++ code2 in
       let vs = temporaries_from (place_types a) t 0 in
       let v = temporary ty t (width a) in
+      let left : Value → Temporaries = λ new. set_kind (change_kind change) t (suc (width a)) new in
       let new_run : Value → W → Run W Value = λ old w1. new_value ops deleting types line change ty old v w1 in
       let put_run : Value → W → Run W (Unit {0}) = λ new w2. ops.store line (target_at a t 0) (kept a.cell new) w2 in
       spill_does line tys (gets slot deleting types 0 (place_types a) ++ code1) t locals rest w
       ∙ gets_then line (place_types a) 0 code1 t [] locals1 rest w kept_both.0
       ∙ gets_then line (place_types a) 0 code2 t (pushed vs []) locals1 rest w kept_both.0
       ∙ load_does line a t 0 (pushed vs []) locals1 (at line (change1 ++ To.store a ∷ []) ++ rest) w
-      ∙ then_fine (ops.load line (target_at a t 0) w) _ (λ old w1. bind (bind (new_run old w1) (λ new w2. bind (put_run new w2) (λ _ w3. Go (Next env t) w3))) next) (turning.load line _ w p f.0) (turning.load line _ w q f.1) (λ old w1 f1.
+      ∙ then_fine (ops.load line (target_at a t 0) w) _ (λ old w1. bind (bind (new_run old w1) (λ new w2. bind (put_run new w2) (λ _ w3. Go (Next env (left new)) w3))) next) (turning.load line _ w p f.0) (turning.load line _ w q f.1) (λ old w1 f1.
       ap (λ c. go_on c (old ∷ pushed vs []) locals1 w1) (at_two ops deleting calls again line change1 (To.store a ∷ []) rest)
       ∙ change_does line change a.cell ty (slot (width a) ty) old v (pushed vs []) locals1 (line_of line (To.store a) ∷ rest) w1 kept_both.1.0
-      ∙ then_fine (new_run old w1) _ (λ new w2. bind (bind (put_run new w2) (λ _ w3. Go (Next env t) w3)) next) (new_within ops turning deleting types calls calls_fine line change ty old v w1 p f1.0) (new_within ops turning deleting types calls calls_fine line change ty old v w1 q f1.1) (λ new w2 f2.
+      ∙ then_fine (new_run old w1) _ (λ new w2. bind (bind (put_run new w2) (λ _ w3. Go (Next env (left new)) w3)) next) (new_within ops turning deleting types calls calls_fine line change ty old v w1 p f1.0) (new_within ops turning deleting types calls calls_fine line change ty old v w1 q f1.1) (λ new w2 f2.
       store_does line a t 0 new [] locals1 rest w2
-      ∙ then_fine (put_run new w2) (λ _ w3. go_on rest [] locals1 w3) (λ _ w3. next (Next env t) w3) (turning.store line _ _ w2 p f2.0) (turning.store line _ _ w2 q f2.1) (λ _ w3 f3. ends.goes env t locals1 w3 f3 m1)
-      ∙ sym (bind_bind (put_run new w2) (λ _ w3. Go (Next env t) w3) next))
-      ∙ sym (bind_bind (new_run old w1) (λ new w2. bind (put_run new w2) (λ _ w3. Go (Next env t) w3)) next))
-      ∙ sym (bind_bind (ops.load line (target_at a t 0) w) (λ old w1. bind (new_run old w1) (λ new w2. bind (put_run new w2) (λ _ w3. Go (Next env t) w3))) next)
+      ∙ then_fine (put_run new w2) (λ _ w3. go_on rest [] locals1 w3) (λ _ w3. next (Next env (left new)) w3) (turning.store line _ _ w2 p f2.0) (turning.store line _ _ w2 q f2.1) (λ _ w3 f3. ends.goes env (left new) locals1 w3 f3 m1)
+      ∙ sym (bind_bind (put_run new w2) (λ _ w3. Go (Next env (left new)) w3) next))
+      ∙ sym (bind_bind (new_run old w1) (λ new w2. bind (put_run new w2) (λ _ w3. Go (Next env (left new)) w3)) next))
+      ∙ sym (bind_bind (ops.load line (target_at a t 0) w) (λ old w1. bind (new_run old w1) (λ new w2. bind (put_run new w2) (λ _ w3. Go (Next env (left new)) w3))) next)
 
   same_cell : (a : Access) (ty : Ty) (t : Temporaries) (h : ℕ) → target_at (record a { cell = ty }) t h ≡ target_at a t h
   same_cell a ty t h = by a.shift
@@ -260,10 +261,10 @@ module _ {W : Type 0} (ops : Ops W) (turning : Turning ops) (deleting : ℕ → 
   kept_as region_cell v = refl
   kept_as (pointer_cell note target) v = refl
 
-  cells_do : (line : ℕ) (kinds : Layout) (left right : Access) (t : Temporaries) (locals : List Value) (rest : List Line) (next : Way → W → Run W Value) → Ends rest next → Kept (place_types left) 0 t locals → Kept (place_types right) (width left) t locals → (w : W) → Fine w → Mirrors env locals →
-      go_on (at line (cells_code slot deleting types kinds left right) ++ rest) [] locals w ≡ bind (cells_moved ops deleting types line kinds (target_at right t (width left)) (target_at left t 0) w) (λ _ w1. next (Next env t) w1)
-  cells_do line [] left right t locals rest next ends kl kr w f m = ends.goes env t locals w f m
-  cells_do line (kind ∷ kinds) left right t locals rest next ends kl kr w f m =
+  cells_do : (line h : ℕ) (kinds : Layout) (left right : Access) (t u : Temporaries) (locals : List Value) (rest : List Line) (next : Way → W → Run W Value) → Ends rest next → Kept (place_types left) 0 t locals → Kept (place_types right) (width left) t locals → (w : W) → Fine w → Mirrors env locals →
+      go_on (at line (cells_code slot deleting types kinds left right) ++ rest) [] locals w ≡ bind (cells_moved ops deleting types line h kinds (target_at right t (width left)) (target_at left t 0) u w) (λ u1 w1. next (Next env u1) w1)
+  cells_do line h [] left right t u locals rest next ends kl kr w f m = ends.goes env u locals w f m
+  cells_do line h (kind ∷ kinds) left right t u locals rest next ends kl kr w f m =
       let ty = cell_type kind in
       let from : Access = record right { cell = ty } in
       let to : Access = record left { cell = ty } in
@@ -272,21 +273,21 @@ module _ {W : Type 0} (ops : Ops W) (turning : Turning ops) (deleting : ℕ → 
       let more = cells_code slot deleting types kinds (further left) (further right) in
       let vs = temporaries_from (place_types left) t 0 in
       let put_run : Value → W → Run W (Unit {0}) = λ v w1. ops.store line goal (kept_cell kind v) w1 in
-      let go_run : W → Run W (Unit {0}) = λ w2. cells_moved ops deleting types line kinds (record source { offset = suc source.offset }) (record goal { offset = suc goal.offset }) w2 in
+      let go_run : Value → W → Run W Temporaries = λ v w2. cells_moved ops deleting types line h kinds (record source { offset = suc source.offset }) (record goal { offset = suc goal.offset }) (with_cell kind u h v) w2 in
       gets_then line (place_types left) 0 (gets slot deleting types (width left) (place_types right) ++ (To.load from ∷ To.store to ∷ more)) t [] locals rest w kl
       ∙ gets_then line (place_types right) (width left) (To.load from ∷ To.store to ∷ more) t (pushed vs []) locals rest w kr
       ∙ load_does line from t (width left) (pushed vs []) locals (line_of line (To.store to) ∷ (at line more ++ rest)) w
       ∙ ap (λ tg. bind (ops.load line tg w) (λ v w1. go_on (line_of line (To.store to) ∷ (at line more ++ rest)) (v ∷ pushed vs []) locals w1)) (same_cell right ty t (width left))
-      ∙ then_fine (ops.load line source w) _ (λ v w1. bind (bind (put_run v w1) (λ _ w2. go_run w2)) (λ _ w2. next (Next env t) w2)) (turning.load line _ w p f.0) (turning.load line _ w q f.1) (λ v w1 f1.
+      ∙ then_fine (ops.load line source w) _ (λ v w1. bind (bind (put_run v w1) (λ _ w2. go_run v w2)) (λ u1 w2. next (Next env u1) w2)) (turning.load line _ w p f.0) (turning.load line _ w q f.1) (λ v w1 f1.
       store_does line to t 0 v [] locals (at line more ++ rest) w1
       ∙ ap (λ tg. bind (ops.store line tg (kept ty v) w1) (λ _ w2. go_on (at line more ++ rest) [] locals w2)) (same_cell left ty t 0)
       ∙ ap (λ u. bind (ops.store line goal u w1) (λ _ w2. go_on (at line more ++ rest) [] locals w2)) (kept_as kind v)
-      ∙ then_fine (put_run v w1) (λ _ w2. go_on (at line more ++ rest) [] locals w2) (λ _ w2. bind (go_run w2) (λ _ w3. next (Next env t) w3)) (turning.store line _ _ w1 p f1.0) (turning.store line _ _ w1 q f1.1) (λ _ w2 f2.
-      cells_do line kinds (further left) (further right) t locals rest next ends kl kr w2 f2 m
-      ∙ ap (λ tg. bind (cells_moved ops deleting types line kinds tg (target_at (further left) t 0) w2) (λ _ w3. next (Next env t) w3)) (next_cell right t (width left))
-      ∙ ap (λ tg. bind (cells_moved ops deleting types line kinds (record source { offset = suc source.offset }) tg w2) (λ _ w3. next (Next env t) w3)) (next_cell left t 0))
-      ∙ sym (bind_bind (put_run v w1) (λ _ w2. go_run w2) (λ _ w2. next (Next env t) w2)))
-      ∙ sym (bind_bind (ops.load line source w) (λ v w1. bind (put_run v w1) (λ _ w2. go_run w2)) (λ _ w2. next (Next env t) w2))
+      ∙ then_fine (put_run v w1) (λ _ w2. go_on (at line more ++ rest) [] locals w2) (λ _ w2. bind (go_run v w2) (λ u1 w3. next (Next env u1) w3)) (turning.store line _ _ w1 p f1.0) (turning.store line _ _ w1 q f1.1) (λ _ w2 f2.
+      cells_do line h kinds (further left) (further right) t (with_cell kind u h v) locals rest next ends kl kr w2 f2 m
+      ∙ ap (λ tg. bind (cells_moved ops deleting types line h kinds tg (target_at (further left) t 0) (with_cell kind u h v) w2) (λ u1 w3. next (Next env u1) w3)) (next_cell right t (width left))
+      ∙ ap (λ tg. bind (cells_moved ops deleting types line h kinds (record source { offset = suc source.offset }) tg (with_cell kind u h v) w2) (λ u1 w3. next (Next env u1) w3)) (next_cell left t 0))
+      ∙ sym (bind_bind (put_run v w1) (λ _ w2. go_run v w2) (λ u1 w2. next (Next env u1) w2)))
+      ∙ sym (bind_bind (ops.load line source w) (λ v w1. bind (put_run v w1) (λ _ w2. go_run v w2)) (λ u1 w2. next (Next env u1) w2))
 
   move_does : (line : ℕ) (cells : Layout) (left right : Access) → AllKept Has types 0 (pushed (place_types left ++ place_types right) []) → ActDoes (From.move line cells left right) (pushed (place_types left ++ place_types right) [])
   move_does line cells left right all live rest next ends t locals w f m =
@@ -296,8 +297,8 @@ module _ {W : Type 0} (ops : Ops W) (turning : Turning ops) (deleting : ℕ → 
       let kept_both = kept_append (place_types left) (place_types right) 0 (width left) t locals1 (omega (arith, pw)) (stored_all xs t locals all m) in
       let m1 = mirrors_spilled ops deleting types slot calls again env n Has slot_behind slot_there slots_apart Fine operation_fine 0 (pushed xs []) t locals m in
       spill_does line (pushed xs []) (cells_code slot deleting types cells left right) t locals rest w
-      ∙ cells_do line cells left right t locals1 rest next ends kept_both.0 kept_both.1 w f m1
-      ∙ sym (bind_bind (cells_moved ops deleting types line cells (target_at right t (width left)) (target_at left t 0) w) (λ _ w1. Go (Next env t) w1) next)
+      ∙ cells_do line (width left + width right) cells left right t t locals1 rest next ends kept_both.0 kept_both.1 w f m1
+      ∙ sym (bind_bind (cells_moved ops deleting types line (width left + width right) cells (target_at right t (width left)) (target_at left t 0) t w) (λ t1 w1. Go (Next env t1) w1) next)
 
   store_acts : (line : ℕ) (a : Access) → ActDoes (From.store line a) (pushed (place_types a ++ value_type a.cell ∷ []) [])
   store_acts line a live rest next ends t locals w f m =

@@ -94,10 +94,10 @@ module _ {W : Type 0} (ops : Ops W) (turning : Turning ops) where
       step_within (set line h ty op) live env t w b le = next_within b _ _ (operation_within line op live env t h w b le) (λ v w1 h1. record { holds = h1 })
       step_within (fork line h ty to l r) live env t w b le = branch_within (holds ty (temporary ty t h)) (steps_run ops deleting types l calls live env t) (steps_run ops deleting types r calls live env t) w b (steps_within l live env t w b le) (steps_within r live env t w b le)
 
-    pub cells_within : (line : ℕ) (kinds : Layout) (from to : Target) (w : W) (b : ℕ) → ops.turns_left w ≤ b → Within ops b (cells_moved ops deleting types line kinds from to w)
-    cells_within line [] from to w b le = record { holds = le }
-    cells_within line (kind ∷ kinds) from to w b le =
-        next_within b _ _ (turning.load line _ w b le) (λ v w1 h1. next_within b _ _ (turning.store line _ _ w1 b h1) (λ _ w2 h2. cells_within line kinds _ _ w2 b h2))
+    pub cells_within : (line h : ℕ) (kinds : Layout) (from to : Target) (t : Temporaries) (w : W) (b : ℕ) → ops.turns_left w ≤ b → Within ops b (cells_moved ops deleting types line h kinds from to t w)
+    cells_within line h [] from to t w b le = record { holds = le }
+    cells_within line h (kind ∷ kinds) from to t w b le =
+        next_within b _ _ (turning.load line _ w b le) (λ v w1 h1. next_within b _ _ (turning.store line _ _ w1 b h1) (λ _ w2 h2. cells_within line h kinds _ _ _ w2 b h2))
 
     pub new_within : (line : ℕ) (change : Change) (ty : Ty) (old operand : Value) (w : W) (b : ℕ) → ops.turns_left w ≤ b → Within ops b (new_value ops deleting types line change ty old operand w)
     new_within line (Compute from operator s) ty old v w b le = number_within line (calculate operator s (number_in (convert_value from (type_of s) old)) (right_number operator ty v)) (λ n. convert_value (type_of s) from (Number n)) w b le
@@ -110,7 +110,7 @@ module _ {W : Type 0} (ops : Ops W) (turning : Turning ops) where
     act_within (From.store line a) live env t w b le = next_within b _ _ (turning.store line _ _ w b le) (λ _ w1 h1. record { holds = h1 })
     act_within (From.update line a change ty) live env t w b le =
         next_within b _ _ (turning.load line _ w b le) (λ old w1 h1. next_within b _ _ (new_within line change ty old _ w1 b h1) (λ new w2 h2. next_within b _ _ (turning.store line _ _ w2 b h2) (λ _ w3 h3. record { holds = h3 })))
-    act_within (From.move line cells left right) live env t w b le = next_within b _ _ (cells_within line cells _ _ w b le) (λ _ w1 h1. record { holds = h1 })
+    act_within (From.move line cells left right) live env t w b le = next_within b _ _ (cells_within line _ cells _ _ t w b le) (λ _ w1 h1. record { holds = h1 })
     act_within (From.delete line) live env t w b le = next_within b _ _ (turning.delete line _ _ w b le) (λ _ w1 h1. record { holds = h1 })
     act_within (From.leave line result) live env t w b le = record { holds = le }
 

@@ -10,7 +10,7 @@ use Rattle.rc_core.specs.Types.{Ty}
 use Rattle.rc_core.specs.Layout.{Layout, note_of}
 use Rattle.rc_rlang.specs.RegionCode.{Step, set, fork, Steps, more, Act, Test, Code, simple, branch, loop, repeat, Codes, then, Routine}
 use Rattle.rc_rlang.specs.RegionPoints.{steps_points, step_points, code_points, codes_points}
-use Rattle.rc_rlang.specs.RegionFlow.{Node, Effect, nulled, if_regional, returned_variable, returning, entered, entry_pairs, end_nodes, routine_nodes, one_of, numbers_below, nothing, looked_at, loaded, stored, going, forking, yes_effect, no_effect, Ends, first_of, step_nodes, steps_nodes, act_nodes, test_nodes, code_nodes, codes_nodes, in_line, cell_effects, temporary_variable}
+use Rattle.rc_rlang.specs.RegionFlow.{Node, Effect, nulled, if_regional, returned_variable, returning, entered, entry_pairs, end_nodes, routine_nodes, one_of, numbers_below, nothing, looked_at, is_regional_cell, loading, storing, going, forking, yes_effect, no_effect, Ends, first_of, step_nodes, steps_nodes, act_nodes, test_nodes, code_nodes, codes_nodes, in_line, cell_effects, temporary_variable}
 use Rattle.rc_plans.specs.declared.plans.ForkPlan.{ForkPlan}
 use Rattle.rc_plans.specs.declared.plans.ActPlan.{ActPlan}
 use Rattle.rc_plans.specs.declared.plans.BranchPlan.{BranchPlan}
@@ -90,17 +90,17 @@ module _ (f : Routine) where
   -- the cells of a struct copy
 
   cells_first : (v from : ℕ) (kind : _) (kinds : Layout) (at next : ℕ) → in_line (cell_effects f v from (kind ∷ kinds)) at next
-      ≡ going (loaded (temporary_variable f v) (temporary_variable f from) (note_of kind)) (suc at) ∷ (going (stored (temporary_variable f v) (temporary_variable f 0) (note_of kind)) (last_or kinds next (suc (suc at))) ∷ in_line (cell_effects f v from kinds) (suc (suc at)) next)
+      ≡ going (loading f (is_regional_cell kind) (note_of kind) v from) (suc at) ∷ (going (storing f (is_regional_cell kind) (note_of kind) v 0) (last_or kinds next (suc (suc at))) ∷ in_line (cell_effects f v from kinds) (suc (suc at)) next)
   cells_first v from kind [] at next = refl
   cells_first v from kind (x ∷ xs) at next = refl
 
   pub cells_more : (v from : ℕ) (kind : _) (kinds : Layout) (at to next : ℕ) (e d : Effect) (all mid m1 new : List Node) → all ≡ mid ++ in_line (cell_effects f v from (kind ∷ kinds)) at next → to ≡ last_or kinds next (suc (suc at)) →
-      e ≡ loaded (temporary_variable f v) (temporary_variable f from) (note_of kind) → d ≡ stored (temporary_variable f v) (temporary_variable f 0) (note_of kind) →
+      e ≡ loading f (is_regional_cell kind) (note_of kind) v from → d ≡ storing f (is_regional_cell kind) (note_of kind) v 0 →
       m1 ≡ mid ++ going e (suc at) ∷ [] → new ≡ m1 ++ going d to ∷ [] → all ≡ new ++ in_line (cell_effects f v from kinds) (suc (suc at)) next
   cells_more v from kind kinds at to next e d all mid m1 new is t le ls one last =
       let rest = in_line (cell_effects f v from kinds) (suc (suc at)) next in
       is ∙ ap (λ x. mid ++ x) (cells_first v from kind kinds at next)
-      ∙ ap (λ x. mid ++ (going x (suc at) ∷ (going (stored (temporary_variable f v) (temporary_variable f 0) (note_of kind)) (last_or kinds next (suc (suc at))) ∷ rest))) (sym le)
+      ∙ ap (λ x. mid ++ (going x (suc at) ∷ (going (storing f (is_regional_cell kind) (note_of kind) v 0) (last_or kinds next (suc (suc at))) ∷ rest))) (sym le)
       ∙ ap (λ x. mid ++ (going e (suc at) ∷ (going x (last_or kinds next (suc (suc at))) ∷ rest))) (sym ls)
       ∙ ap (λ x. mid ++ (going e (suc at) ∷ (going d x ∷ rest))) (sym t)
       ∙ sym (append_assoc mid (going e (suc at) ∷ going d to ∷ []) rest)

@@ -6,12 +6,12 @@ ghost use Rattle.rc_core.specs.Layout.{Layout, note_of, cells as cells_of_type};
 ghost use Rattle.rc_core.specs.Types.{CellKind, struct};
 ghost use Rattle.rc_core.specs.Laid.{kind_of};
 ghost use Rattle.rc_rlang.specs.RegionCode.{Routine, width};
-ghost use Rattle.rc_rlang.specs.RegionFlow.{act_nodes, cell_effects, change_effects, in_line, if_regional, nothing, beside, looked_at, moved, numbers_below, one_of, is_regional as is_regional_type, loaded_value, stored_value, local_variable, returned_variable, returning, temporary_variable};
+ghost use Rattle.rc_rlang.specs.RegionFlow.{act_nodes, cell_effects, change_effects, in_line, if_regional, nothing, beside, looked_at, moved, numbers_below, one_of, is_regional as is_regional_type, is_regional_cell, loading, storing, loaded_value, stored_value, local_variable, returned_variable, returning, temporary_variable};
 ghost use Rattle.rc_rlang.specs.Points.{change_points};
 ghost use Rattle.rc_rlang.specs.Shapes.{access_of, act_of};
 ghost use Rattle.rc_graph.specs.Nodes.{Serves, effect_of, nodes_of, idle_nodes};
 
-use crate::names::{cell_note, is_regional};
+use crate::names::{cell_note, is_regional, is_regional_kind};
 use crate::node::{Effect, Node};
 use crate::operations::{loaded, stored};
 use crate::output::{Context, either, go, leave};
@@ -92,6 +92,39 @@ fn note_at(kinds: &[Kind], i: usize) -> Note
     }
 }
 
+/// Whether a cell among those of a struct is a region or a pointer.
+#[tactic(auto, using(crate::proofs::Walking::mapped_get))]
+fn regional_at(kinds: &[Kind], i: usize) -> bool
+    ensures { (layout : Layout) (cell : CellKind) → kinds.now ≡ map kind_of layout → slice_get layout i ≡ Some cell → result ≡ is_regional_cell cell }
+{
+    match kinds.get(i) {
+        None => false,
+        Some(kind) => is_regional_kind(kind),
+    }
+}
+
+/// What a load does from a cell with this annotation.
+fn load_cell(regional: bool, note: Note, value: u32, holder: u32) -> Effect
+    ensures { (f : Routine) (v h : _) → value ≡ temporary_variable f v → holder ≡ temporary_variable f h → effect_of result ≡ loading f regional note v h }
+{
+    if regional {
+        Effect::Loaded(value, holder, note)
+    } else {
+        Effect::LookedAt(holder)
+    }
+}
+
+/// What a store does to a cell with this annotation.
+fn store_cell(regional: bool, note: Note, value: u32, holder: u32) -> Effect
+    ensures { (f : Routine) (v h : _) → value ≡ temporary_variable f v → holder ≡ temporary_variable f h → effect_of result ≡ storing f regional note v h }
+{
+    if regional {
+        Effect::Stored(value, holder, note)
+    } else {
+        Effect::LookedAt(holder)
+    }
+}
+
 /// Each cell of a struct is loaded and stored.
 fn cells(
     out: &mut Vec<Node>,
@@ -106,15 +139,14 @@ fn cells(
     let mut at = here;
     for i in 0..kinds.len() {
         let note = note_at(kinds, i);
+        let regional = regional_at(kinds, i);
+        let load = load_cell(regional, note, holders.value, holders.from);
+        let store = store_cell(regional, note, holders.value, holders.to);
         let second = add(at, 1)?;
         let behind = add(second, 1)?;
-        go(
-            out,
-            Effect::Loaded(holders.value, holders.from, note),
-            second,
-        )?;
+        go(out, load, second)?;
         let to = either(i + 1 == kinds.len(), next, behind);
-        go(out, Effect::Stored(holders.value, holders.to, note), to)?;
+        go(out, store, to)?;
         at = behind;
     }
     Ok(())

@@ -5,7 +5,7 @@ ghost use Rattle.rc_core.specs.Laid.{kind_of};
 ghost use Rattle.rc_core.specs.Shapes.{ty_of};
 ghost use Rattle.rc_core.specs.Types.{CellKind};
 ghost use Rattle.rc_rlang.specs.RegionCode.{Routine};
-ghost use Rattle.rc_rlang.specs.RegionFlow.{is_regional as is_regional_type, note_in as note_in_type, local_variable, temporary_variable, regional_arguments};
+ghost use Rattle.rc_rlang.specs.RegionFlow.{is_regional as is_regional_type, is_regional_cell, note_in as note_in_type, local_variable, temporary_variable, regional_arguments};
 ghost use Rattle.rc_graph.specs.Nodes.{Numbers};
 
 use rc_base::NoMemory;
@@ -64,6 +64,17 @@ pub fn cell_note(kind: &Kind) -> Note
         Kind::Number => Note::Plain,
         Kind::Region => Note::Plain,
         Kind::Pointer(note) => *note,
+    }
+}
+
+/// Whether a cell of this kind is a region or a pointer.
+pub fn is_regional_kind(kind: &Kind) -> bool
+    ensures { (cell : CellKind) → kind.now ≡ kind_of cell → result ≡ is_regional_cell cell }
+{
+    match kind {
+        Kind::Number => false,
+        Kind::Region => true,
+        Kind::Pointer(_) => true,
     }
 }
 

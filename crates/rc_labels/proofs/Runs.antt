@@ -18,7 +18,7 @@ use Rattle.rc_rlang.specs.RegionCode as From
 use Rattle.rc_rlang.specs.RegionCode.{width, Access, Operation, Step, set, fork, Steps, none, more, Act, drop, perform, assign, store, update, move, delete, leave, Test, Code, simple, clear, block, branch, loop, repeat, break, continue, Codes, done, then, Routine, Rlang}
 use Rattle.rc_rlang.specs.RegionPoints.{steps_points, branch_points, code_points}
 use Rattle.rc_rlang.specs.RegionLive.{before_steps, before_act, before_code, before_codes, loop_head, repeat_tail}
-use Rattle.rc_rlang.specs.RegionRuns.{Temporaries, temporary, temporaries_from, with_temporary, right_number, convert_value, blank_temporaries, kept, kept_cell, kept_all, holds, target_at, target_shifted, sized, test_value, Way, Next, Broke, Continued, Returned, behind, behind_body, held, operation_value, step_run, steps_run, cells_moved, new_value, act_run, rounds, rounds_first, code_run, codes_run, result_of, run_routine, deletes, calls_within, run_main}
+use Rattle.rc_rlang.specs.RegionRuns.{Temporaries, set_kind, change_kind, with_cell, temporary, temporaries_from, with_temporary, right_number, convert_value, blank_temporaries, kept, kept_cell, kept_all, holds, target_at, target_shifted, sized, test_value, Way, Next, Broke, Continued, Returned, behind, behind_body, held, operation_value, step_run, steps_run, cells_moved, new_value, act_run, rounds, rounds_first, code_run, codes_run, result_of, run_routine, deletes, calls_within, run_main}
 use Rattle.rc_along.specs.MarkedRuns.{before_store, Put, cells_marked, act_marked, code_marked, codes_marked, routine_marked, calls_marked, main_marked}
 use Rattle.rc_labels.specs.Labels.{Label, mark_at, Numbering, plain, line_in}
 use Rattle.rc_labels.specs.Labelled.{copy_marks, step_labelled, steps_labelled, test_labelled, act_labelled, code_labelled, codes_labelled, routine_labelled, labelled}
@@ -105,21 +105,21 @@ module _ (n : Numbering) {W : Type 0} (ops : Ops W) (put : Put W) where
     new_value_reads label line told (Stepping direction) ty old v w = reads_at n label line told (λ l. ops.step l old (toward direction (number_in v))) w
 
     module _ (marked : (point : ℕ) → Bool) where
-      cells_read : (l : Label) (kinds : Layout) (k : ℕ) (from to : Target) (here : ℕ) (w : W) → to.offset ≡ l.base + k → ((i : ℕ) → get_or l.marks (k + i) false ≡ get_or (copy_marks kinds marked here) i false) →
-          Reads n (cells_moved L deleting types (n.number l) kinds from to w) (cells_marked ops put deleting types marked l.line kinds from to here w)
-      cells_read l [] k from to here w at marks = refl
-      cells_read l (kind ∷ kinds) k from to here w at marks =
+      cells_read : (l : Label) (h : ℕ) (kinds : Layout) (k : ℕ) (from to : Target) (here : ℕ) (t : Temporaries) (w : W) → to.offset ≡ l.base + k → ((i : ℕ) → get_or l.marks (k + i) false ≡ get_or (copy_marks kinds marked here) i false) →
+          Reads n (cells_moved L deleting types (n.number l) h kinds from to t w) (cells_marked ops put deleting types marked l.line h kinds from to here t w)
+      cells_read l h [] k from to here t w at marks = refl
+      cells_read l h (kind ∷ kinds) k from to here t w at marks =
           let label = n.number l in
           let told = ap (λ (is : Label). is.line) (n.read l) in
           let from1 : Target = record from { offset = suc from.offset } in
           let to1 : Target = record to { offset = suc to.offset } in
-          reads_bind n (L.load label from w) (ops.load l.line from w) (λ v w1. bind (L.store label to (kept_cell kind v) w1) (λ _ w2. cells_moved L deleting types label kinds from1 to1 w2))
-          (λ v w1. bind (put (marked (suc here)) l.line to (kept_cell kind v) w1) (λ _ w2. cells_marked ops put deleting types marked l.line kinds from1 to1 (suc (suc here)) w2))
+          reads_bind n (L.load label from w) (ops.load l.line from w) (λ v w1. bind (L.store label to (kept_cell kind v) w1) (λ _ w2. cells_moved L deleting types label h kinds from1 to1 (with_cell kind t h v) w2))
+          (λ v w1. bind (put (marked (suc here)) l.line to (kept_cell kind v) w1) (λ _ w2. cells_marked ops put deleting types marked l.line h kinds from1 to1 (suc (suc here)) (with_cell kind t h v) w2))
           (reads_at n label l.line told (λ line. ops.load line from) w) (λ v w1.
-          reads_bind n (L.store label to (kept_cell kind v) w1) (put (marked (suc here)) l.line to (kept_cell kind v) w1) (λ _ w2. cells_moved L deleting types label kinds from1 to1 w2)
-          (λ _ w2. cells_marked ops put deleting types marked l.line kinds from1 to1 (suc (suc here)) w2)
+          reads_bind n (L.store label to (kept_cell kind v) w1) (put (marked (suc here)) l.line to (kept_cell kind v) w1) (λ _ w2. cells_moved L deleting types label h kinds from1 to1 (with_cell kind t h v) w2)
+          (λ _ w2. cells_marked ops put deleting types marked l.line h kinds from1 to1 (suc (suc here)) (with_cell kind t h v) w2)
           (reads_put n ops put l (marked (suc here)) to (kept_cell kind v) w1 (ap (λ i. get_or l.marks i false) (let e : to.offset - l.base ≡ k + 0 = omega (arith, at) in e) ∙ marks 0)) (λ u w2.
-          cells_read l kinds (suc k) from1 to1 (suc (suc here)) w2 (omega (arith, at)) (λ i. ap (λ j. get_or l.marks j false) (let e : suc k + i ≡ k + suc i = omega arith in e) ∙ marks (suc i))))
+          cells_read l h kinds (suc k) from1 to1 (suc (suc here)) (with_cell kind t h v) w2 (omega (arith, at)) (λ i. ap (λ j. get_or l.marks j false) (let e : suc k + i ≡ k + suc i = omega arith in e) ∙ marks (suc i))))
 
       act_reads : (act : Act) (here : ℕ) (live : ℕ → Bool) (env : List Value) (t : Temporaries) (w : W) → Reads n (act_run L deleting types (act_labelled n marked act here) calls' live env t w) (act_marked ops put deleting types marked act here calls live env t w)
       act_reads drop here live env t w = refl
@@ -139,18 +139,19 @@ module _ (n : Numbering) {W : Type 0} (ops : Ops W) (put : Put W) where
           let label = n.number l in
           let told = ap (λ (is : Label). is.line) (n.read l) in
           let to = target_at a t 0 in
-          let finish = λ (old : Value) (w1 : W). bind (new_value ops deleting types line change ty old (temporary ty t (width a)) w1) (λ new w2. bind (put mark line to (kept a.cell new) w2) (λ _ w3. Go (Next env t) w3)) in
-          let finish' = λ (old : Value) (w1 : W). bind (new_value L deleting types label change ty old (temporary ty t (width a)) w1) (λ new w2. bind (L.store label to (kept a.cell new) w2) (λ _ w3. Go (Next env t) w3)) in
+          let left = λ (new : Value). set_kind (change_kind change) t (suc (width a)) new in
+          let finish = λ (old : Value) (w1 : W). bind (new_value ops deleting types line change ty old (temporary ty t (width a)) w1) (λ new w2. bind (put mark line to (kept a.cell new) w2) (λ _ w3. Go (Next env (left new)) w3)) in
+          let finish' = λ (old : Value) (w1 : W). bind (new_value L deleting types label change ty old (temporary ty t (width a)) w1) (λ new w2. bind (L.store label to (kept a.cell new) w2) (λ _ w3. Go (Next env (left new)) w3)) in
           reads_bind n (L.load label to w) (ops.load line to w) finish' finish (reads_at n label line told (λ line. ops.load line to) w) (λ old w1.
-          reads_bind n (new_value L deleting types label change ty old (temporary ty t (width a)) w1) (new_value ops deleting types line change ty old (temporary ty t (width a)) w1) (λ new w2. bind (L.store label to (kept a.cell new) w2) (λ _ w3. Go (Next env t) w3)) (λ new w2. bind (put mark line to (kept a.cell new) w2) (λ _ w3. Go (Next env t) w3))
+          reads_bind n (new_value L deleting types label change ty old (temporary ty t (width a)) w1) (new_value ops deleting types line change ty old (temporary ty t (width a)) w1) (λ new w2. bind (L.store label to (kept a.cell new) w2) (λ _ w3. Go (Next env (left new)) w3)) (λ new w2. bind (put mark line to (kept a.cell new) w2) (λ _ w3. Go (Next env (left new)) w3))
           (new_value_reads label line told change ty old (temporary ty t (width a)) w1) (λ new w2.
-          reads_bind n (L.store label to (kept a.cell new) w2) (put mark line to (kept a.cell new) w2) (λ _ w3. Go (Next env t) w3) (λ _ w3. Go (Next env t) w3) (reads_put n ops put l mark to (kept a.cell new) w2 (first_mark line a.offset to.offset mark (offset_at a t 0))) (λ x w3. refl)))
+          reads_bind n (L.store label to (kept a.cell new) w2) (put mark line to (kept a.cell new) w2) (λ _ w3. Go (Next env (left new)) w3) (λ _ w3. Go (Next env (left new)) w3) (reads_put n ops put l mark to (kept a.cell new) w2 (first_mark line a.offset to.offset mark (offset_at a t 0))) (λ x w3. refl)))
       act_reads (move line cells left right) here live env t w =
           let l : Label = record { line = line; base = left.offset; marks = copy_marks cells marked here } in
           let from = target_at right t (width left) in
           let to = target_at left t 0 in
-          reads_bind n (cells_moved L deleting types (n.number l) cells from to w) (cells_marked ops put deleting types marked line cells from to here w) (λ _ w1. Go (Next env t) w1) (λ _ w1. Go (Next env t) w1)
-          (cells_read l cells 0 from to here w (offset_at left t 0 ∙ let e : left.offset ≡ left.offset + 0 = omega arith in e) (λ i. ap (λ j. get_or l.marks j false) (let e : 0 + i ≡ i = omega arith in e))) (λ x w1. refl)
+          reads_bind n (cells_moved L deleting types (n.number l) (width left + width right) cells from to t w) (cells_marked ops put deleting types marked line (width left + width right) cells from to here t w) (λ t1 w1. Go (Next env t1) w1) (λ t1 w1. Go (Next env t1) w1)
+          (cells_read l (width left + width right) cells 0 from to here t w (offset_at left t 0 ∙ let e : left.offset ≡ left.offset + 0 = omega arith in e) (λ i. ap (λ j. get_or l.marks j false) (let e : 0 + i ≡ i = omega arith in e))) (λ x w1. refl)
       act_reads (delete line) here live env t w =
           let kept_values = held L deleting types live env in
           reads_bind n (L.delete (plain n line) kept_values (t.regions 0) w) (ops.delete line kept_values (t.regions 0) w) (λ _ w1. Go (Next env t) w1) (λ _ w1. Go (Next env t) w1) (reads_at n (plain n line) line (line_back n line) (λ l. ops.delete l kept_values (t.regions 0)) w) (λ x w1. refl)

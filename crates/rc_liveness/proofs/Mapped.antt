@@ -12,7 +12,7 @@ use Rattle.rc_rlang.specs.LiveMaps.{Increases, IsIncreasing, point_in}
 use Rattle.rc_liveness.specs.Laws.{ListsAreMaps}
 use Rattle.rc_liveness.proofs.Behind.{loop_third, loop_body, loop_test, repeat_test}
 
-pins_increase : (types : List Ty) (base : ℕ) (live : ℕ → Bool) → Increases base (pins_from types base live)
+pub pins_increase : (types : List Ty) (base : ℕ) (live : ℕ → Bool) → Increases base (pins_from types base live)
 pins_increase [] base live = tt
 pins_increase (ty ∷ types) base live = by (kind_of ty) (live base) (pins_increase types (suc base) live)
   where

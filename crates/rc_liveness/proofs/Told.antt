@@ -264,18 +264,18 @@ module _ (deleting : ℕ → Bool) (types : List Ty) (R : ℕ → Live → Type 
         (code_heard c here k1 (front R here _ _ e)) (codes_heard r (here + code_points c) k (rest R here (code_points c) _ _ (code_lives c k1) e))
 
 -- the locals that are listed
-record Pinned (tys : List Ty) (base : ℕ) (live : Live) (x : ℕ) : Type 0 where
-  number : ℕ
-  is : x ≡ base + number
-  ty : Ty
-  typed : slice_get tys number ≡ Some ty
-  refers : kind_of ty ≡ regional
-  lives : IsTrue (live x)
+pub record Pinned (tys : List Ty) (base : ℕ) (live : Live) (x : ℕ) : Type 0 where
+  pub number : ℕ
+  pub is : x ≡ base + number
+  pub ty : Ty
+  pub typed : slice_get tys number ≡ Some ty
+  pub refers : kind_of ty ≡ regional
+  pub lives : IsTrue (live x)
 
 pin_later : (ty : Ty) (tys : List Ty) (base : ℕ) (live : Live) (x : ℕ) → Pinned tys (suc base) live x → Pinned (ty ∷ tys) base live x
 pin_later ty tys base live x p = let e = p.is in record { number = suc p.number; is = omega (arith, e); ty = p.ty; typed = p.typed; refers = p.refers; lives = p.lives }
 
-pins_are : (tys : List Ty) (base : ℕ) (live : Live) (x i : ℕ) → slice_get (pins_from tys base live) i ≡ Some x → Pinned tys base live x
+pub pins_are : (tys : List Ty) (base : ℕ) (live : Live) (x i : ℕ) → slice_get (pins_from tys base live) i ≡ Some x → Pinned tys base live x
 pins_are [] base live x i e = cc
 pins_are (ty ∷ tys) base live x i e = by (λ j d. pins_are tys (suc base) live x j d) (kind_of ty) (live base) refl refl i e
   where
@@ -285,7 +285,7 @@ pins_are (ty ∷ tys) base live x i e = by (λ j d. pins_are tys (suc base) live
     by others regional false p q i e = pin_later ty tys base live x (others i e)
     by others numeric b p q i e = pin_later ty tys base live x (others i e)
 
-abbrev Listed : ℕ → List ℕ → Type 0
+abbrev pub Listed : ℕ → List ℕ → Type 0
 Listed x xs = (i : ℕ) × (slice_get xs i ≡ Some x)
 
 listed_later : (k : Kind) (b : Bool) (y x : ℕ) (xs : List ℕ) → Listed x xs → Listed x (pin_when k b y xs)
@@ -293,7 +293,7 @@ listed_later regional true y x xs l = (suc l.0, l.1)
 listed_later regional false y x xs l = l
 listed_later numeric b y x xs l = l
 
-are_pins : (tys : List Ty) (base : ℕ) (live : Live) (number : ℕ) (ty : Ty) → slice_get tys number ≡ Some ty → kind_of ty ≡ regional → IsTrue (live (base + number)) → Listed (base + number) (pins_from tys base live)
+pub are_pins : (tys : List Ty) (base : ℕ) (live : Live) (number : ℕ) (ty : Ty) → slice_get tys number ≡ Some ty → kind_of ty ≡ regional → IsTrue (live (base + number)) → Listed (base + number) (pins_from tys base live)
 are_pins [] base live number ty e p u = cc
 are_pins (t ∷ tys) base live zero ty e p u =
     let q : base + 0 ≡ base = omega arith in

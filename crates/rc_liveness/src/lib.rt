@@ -11,8 +11,8 @@ pub fn lists_are_paths()
     ensures { ListsArePaths }
 {}
 
-/// The lists of any region code are a map: there is one at each point, in the order of the points, and
-/// each increases.
+/// The lists of any region code are a map: there is at most one at a point, they stand in the order of the
+/// points, and each increases.
 pub fn lists_are_maps()
     ensures { ListsAreMaps }
 {}

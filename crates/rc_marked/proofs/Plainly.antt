@@ -20,7 +20,7 @@ use Rattle.rc_core.specs.Live.{Ways}
 use Rattle.rc_rlang.specs.RegionCode.{Access, width, Step, set, fork, Steps, none, more, Act, drop, perform, assign, store, update, move, delete, leave, Test, Code, simple, clear, block, branch, loop, repeat, break, continue, Codes, done, then, Routine}
 use Rattle.rc_rlang.specs.RegionPoints.{steps_points, branch_points, code_points, codes_points}
 use Rattle.rc_rlang.specs.RegionFits.{place_types}
-use Rattle.rc_rlang.specs.RegionFlow.{temporary_variable, Effect, stored, Node, going, Ends, first_of, in_line, stored_value, change_effects, cell_effects, act_nodes, steps_nodes, test_nodes, code_nodes, codes_nodes}
+use Rattle.rc_rlang.specs.RegionFlow.{temporary_variable, Effect, stored, Node, going, Ends, first_of, in_line, stored_value, change_effects, cell_effects, act_nodes, steps_nodes, test_nodes, code_nodes, codes_nodes, one_of, looked_at, is_regional_cell}
 use Rattle.rc_annotations.specs.Annotations.{asked_of, asked_by}
 use Rattle.rc_annotations.proofs.Nodes.{steps_count, test_count, code_count}
 use Rattle.rc_emission.specs.StackCode.{Instruction, Line}
@@ -232,14 +232,15 @@ module _ (n : Numbering) where
           (past label (gets slot deleting types (width left) (place_types right)) _ (gets_no_store slot deleting types (width left) (place_types right)) (
             no_store_one label _ refl,
             (
-              stores label (record left { cell = cell_type kind }) (λ p. ap (mark_at (n.label label)) eo ∙ em 0 ∙ (let s = st 1 _ refl in unasked (suc here) _ ((let x : suc here ≡ here + 1 = omega arith in ap (slice_get all) x) ∙ s.1) (unasked_kind (note_of kind) (temporary_variable f value) (temporary_variable f 0) (sym (note_again kind) ∙ p)))),
+              stores label (record left { cell = cell_type kind }) (λ p. ap (mark_at (n.label label)) eo ∙ em 0 ∙ (let s = st 1 _ refl in unasked (suc here) _ ((let x : suc here ≡ here + 1 = omega arith in ap (slice_get all) x) ∙ s.1) (unasked_kind (is_regional_cell kind) (note_of kind) (temporary_variable f value) (temporary_variable f 0) (sym (note_again kind) ∙ p)))),
               cells_plainly label kinds (further left) (further right) base (suc j) (suc (suc here)) value from (omega (arith, el)) (λ k. (let e : base + (suc j + k) ≡ base + (j + suc k) = omega arith in ap (mark_at (n.label label)) e) ∙ em (suc k))
                   (λ i e q. let s = st (suc (suc i)) e q in (s.0, (let x : suc (suc here) + i ≡ here + suc (suc i) = omega arith in ap (slice_get all) x) ∙ s.1)),
             ),
           ))
         where
-          unasked_kind : (note : Note) (v h : ℕ) → note ≡ Plain → asked_of (stored v h note) ≡ None
-          unasked_kind note v h e = ap (λ m. asked_of (stored v h m)) e
+          unasked_kind : (regional : Bool) (note : Note) (v h : ℕ) → note ≡ Plain → asked_of (one_of regional (stored v h note) (looked_at h)) ≡ None
+          unasked_kind true note v h e = ap (λ m. asked_of (stored v h m)) e
+          unasked_kind false note v h e = refl
 
       act_plainly : (act : Act) (here next : ℕ) (tys : List Ty) (live : ℕ → Bool) → Stand all here (act_nodes f act here next) → Plainly (act_lines slot deleting types (act_labelled n marked act here) tys live)
       act_plainly drop here next tys live st = pops_plainly tys

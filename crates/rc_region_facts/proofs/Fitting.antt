@@ -4,13 +4,13 @@ use Rattle.std.specs.Prelude.{slice_get, count_by, drop as behind}
 use Rattle.rc_core.specs.declared.stmt.Change.{Change}
 use Rattle.rc_core.specs.declared.stmt.Change.TheVariants.{Compute, Step as Stepping}
 use Rattle.rc_core.specs.Types.{Ty}
-use Rattle.rc_core.specs.Layout.{Layout}
+use Rattle.rc_core.specs.Layout.{Layout, note_of}
 use Rattle.rc_rlang.specs.Points.{change_points}
 use Rattle.rc_rlang.specs.RegionCode.{Access, width, Operation, constant, null, static, copy, load, step, step_from, unary, binary, convert, not_zero, truth, is_null, same, call, new_region, new_subregion, region_of, allocate, allocate_array, putchar, getchar, Step, set, fork, Steps, none, more, Act, drop, perform, assign, store, update, move, delete, leave, Test, Code, simple, clear, block, branch, loop, repeat, break, continue, Codes, done, then, Routine, Rlang}
 use Rattle.rc_rlang.specs.IsRlang.{IsRlang}
 use Rattle.rc_rlang.specs.RegionNames.{IsCalled, OperationStands, StepStands, StepsStand, ActStands, CodeStands, CodesStand}
 use Rattle.rc_rlang.specs.RegionPoints.{step_points, steps_points, act_points, branch_points, code_points, codes_points}
-use Rattle.rc_rlang.specs.RegionFlow.{Effect, nothing, nulled, moved, loaded, looked_at, stored, present, absent, called, Edge, Node, Ends, going, forking, one_of, is_regional, note_in, if_regional, first_of, in_line, numbers_below, local_variable, temporary_variable, regional_arguments, operation_effect, yes_effect, no_effect, step_nodes, steps_nodes, stored_value, change_effects, cell_effects, returned_variable, act_nodes, test_nodes, code_nodes, codes_nodes, end_nodes, routine_nodes}
+use Rattle.rc_rlang.specs.RegionFlow.{Effect, nothing, nulled, moved, loaded, looked_at, stored, present, absent, called, Edge, Node, Ends, going, forking, one_of, is_regional, is_regional_cell, note_in, if_regional, first_of, in_line, numbers_below, local_variable, temporary_variable, regional_arguments, operation_effect, yes_effect, no_effect, step_nodes, steps_nodes, stored_value, change_effects, cell_effects, returned_variable, act_nodes, test_nodes, code_nodes, codes_nodes, end_nodes, routine_nodes}
 use Rattle.rc_annotations.proofs.Variables.{count_first}
 use Rattle.rc_region_facts.specs.Calls.{CallOf, CallsFit, ReturnsFit}
 
@@ -129,7 +129,10 @@ module _ (r : Rlang) (f : Routine) where
 
   cells_fit : (value from : ℕ) (kinds : Layout) → AllEffects (cell_effects f value from kinds)
   cells_fit v h [] = tt {0}
-  cells_fit v h (kind ∷ kinds) = (tt {0}, (tt {0}, cells_fit v h kinds))
+  cells_fit v h (kind ∷ kinds) = (
+    either_fits (is_regional_cell kind) (loaded (temporary_variable f v) (temporary_variable f h) (note_of kind)) (looked_at (temporary_variable f h)) (tt {0}) (tt {0}),
+    (either_fits (is_regional_cell kind) (stored (temporary_variable f v) (temporary_variable f 0) (note_of kind)) (looked_at (temporary_variable f 0)) (tt {0}) (tt {0}), cells_fit v h kinds),
+  )
 
   returned_fits : (o : Option Ty) → GivenFits (Some (returned_variable f o))
   returned_fits None = tt {0}

@@ -9,7 +9,7 @@ use Rattle.rc_core.specs.declared.ty.Note.{Note}
 use Rattle.rc_core.specs.declared.ty.Note.TheVariants.{Plain}
 use Rattle.rc_core.specs.declared.stmt.Change.{Change}
 use Rattle.rc_core.specs.declared.stmt.Change.TheVariants.{Compute, Step as Stepping}
-use Rattle.rc_core.specs.Types.{Ty, int, unsigned, char, region, struct, pointer}
+use Rattle.rc_core.specs.Types.{Ty, int, unsigned, char, region, struct, pointer, CellKind, int_cell, unsigned_cell, char_cell, region_cell, pointer_cell}
 use Rattle.rc_core.specs.Layout.{Layout, note_of}
 use Rattle.rc_rlang.specs.Points.{change_points}
 use Rattle.rc_rlang.specs.RegionCode.{Access, width, Operation, null, static, copy, load, step, step_from, call, new_region, new_subregion, region_of, allocate, allocate_array, Step, set, fork, Steps, none, more, Act, drop, perform, assign, store, update, move, delete, leave, Test, Code, simple, clear, block, branch, loop, repeat, break, continue, Codes, done, then, Routine}
@@ -83,6 +83,13 @@ is_regional region = true
 is_regional (struct k) = false
 is_regional (pointer note target) = true
 
+abbrev pub is_regional_cell : CellKind → Bool
+is_regional_cell int_cell = false
+is_regional_cell unsigned_cell = false
+is_regional_cell char_cell = false
+is_regional_cell region_cell = true
+is_regional_cell (pointer_cell note target) = true
+
 -- the annotation of a cell of a type
 abbrev pub note_in : Ty → Note
 note_in int = Plain
@@ -148,11 +155,18 @@ module _ (f : Routine) where
   regional_arguments [] h = []
   regional_arguments (ty ∷ tys) h = one_of (is_regional ty) (temporary_variable h ∷ regional_arguments tys (suc h)) (regional_arguments tys (suc h))
 
+  -- a value is loaded from a cell, or stored into it, whose pointer is the holder; of a number the effect is on the holder alone
+  abbrev pub loading : (regional : Bool) → Note → (value holder : ℕ) → Effect
+  loading regional note value holder = one_of regional (loaded (temporary_variable value) (temporary_variable holder) note) (looked_at (temporary_variable holder))
+
+  abbrev pub storing : (regional : Bool) → Note → (value holder : ℕ) → Effect
+  storing regional note value holder = one_of regional (stored (temporary_variable value) (temporary_variable holder) note) (looked_at (temporary_variable holder))
+
   abbrev pub operation_effect : (h : ℕ) → Ty → Operation → Effect
   operation_effect h ty null = nulled (temporary_variable h)
   operation_effect h ty (static object) = fixed (temporary_variable h)
   operation_effect h ty (copy x) = if_regional ty (moved (temporary_variable h) (local_variable x))
-  operation_effect h ty (load a) = one_of (is_regional ty) (loaded (temporary_variable h) (temporary_variable h) (note_in a.cell)) (looked_at (temporary_variable h))
+  operation_effect h ty (load a) = loading (is_regional ty) (note_in a.cell) h h
   operation_effect h ty (step direction pointed n) = beside (temporary_variable h) (temporary_variable h)
   operation_effect h ty (step_from n pointed) = beside (temporary_variable h) (temporary_variable (suc h))
   operation_effect h ty (region_of of) = beside (temporary_variable h) (temporary_variable h)
@@ -181,12 +195,12 @@ module _ (f : Routine) where
     steps_nodes none here next = []
     steps_nodes (more s rest) here next = step_nodes s here (first_of (steps_points rest) (here + step_points s) next) ++ steps_nodes rest (here + step_points s) next
 
-  -- a value is stored into a cell, or loaded from it, whose pointer is the holder
+  -- of a cell of a type
   abbrev pub stored_value : Ty → (value holder : ℕ) → Effect
-  stored_value cell value holder = one_of (is_regional cell) (stored (temporary_variable value) (temporary_variable holder) (note_in cell)) (looked_at (temporary_variable holder))
+  stored_value cell value holder = storing (is_regional cell) (note_in cell) value holder
 
   abbrev pub loaded_value : Ty → (value holder : ℕ) → Effect
-  loaded_value cell value holder = one_of (is_regional cell) (loaded (temporary_variable value) (temporary_variable holder) (note_in cell)) (looked_at (temporary_variable holder))
+  loaded_value cell value holder = loading (is_regional cell) (note_in cell) value holder
 
   -- a place's old value comes behind the operand, and so does its new one
   abbrev pub change_effects : Access → Change → List Effect
@@ -198,7 +212,7 @@ module _ (f : Routine) where
   -- each cell of a struct is loaded behind both places, and stored
   abbrev pub cell_effects : (value from : ℕ) → Layout → List Effect
   cell_effects value from [] = []
-  cell_effects value from (kind ∷ kinds) = loaded (temporary_variable value) (temporary_variable from) (note_of kind) ∷ stored (temporary_variable value) (temporary_variable 0) (note_of kind) ∷ cell_effects value from kinds
+  cell_effects value from (kind ∷ kinds) = loading (is_regional_cell kind) (note_of kind) value from ∷ storing (is_regional_cell kind) (note_of kind) value 0 ∷ cell_effects value from kinds
 
   abbrev pub returned_variable : Option Ty → Option ℕ
   returned_variable None = None

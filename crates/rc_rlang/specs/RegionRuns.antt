@@ -4,7 +4,7 @@
 -- pointers. A `char` local, cell or parameter keeps a byte. What a deletion holds are the live locals whose types are regions or
 -- pointers, in their order, whatever is in them; behind a call of a function that deletes they are held while it runs. A step back of a
 -- loop and a call take a turn each.
-use Rattle.std.specs.Prelude.{ℕ, zero, suc, ℤ, pos, Bool, true, false, not, ◌||◌, ◌&&◌, nat_eq, List, [], ◌∷◌, map, Option, Some, None, is_some, slice_get}
+use Rattle.std.specs.Prelude.{ℕ, zero, suc, ◌+◌, ℤ, pos, Bool, true, false, not, ◌||◌, ◌&&◌, nat_eq, List, [], ◌∷◌, map, Option, Some, None, is_some, slice_get}
 use Rattle.rc_core.specs.declared.ty.NumberType.{NumberType}
 use Rattle.rc_core.specs.declared.ty.NumberType.TheVariants.{Int, Unsigned, Char}
 use Rattle.rc_core.specs.declared.ty.Signedness.{Signedness}
@@ -49,6 +49,22 @@ set_kind regional t h v = record t { regions = changed_at t.regions h v }
 
 abbrev pub with_temporary : Ty → Temporaries → ℕ → Value → Temporaries
 with_temporary ty t h v = set_kind (kind_of ty) t h v
+
+-- of a cell's value
+abbrev pub cell_kind : CellKind → Kind
+cell_kind int_cell = numeric
+cell_kind unsigned_cell = numeric
+cell_kind char_cell = numeric
+cell_kind region_cell = regional
+cell_kind (pointer_cell note target) = regional
+
+-- an update changes a number, or steps a pointer
+abbrev pub change_kind : Change → Kind
+change_kind (Compute from operator s) = numeric
+change_kind (Stepping direction) = regional
+
+abbrev pub with_cell : CellKind → Temporaries → ℕ → Value → Temporaries
+with_cell kind t h v = set_kind (cell_kind kind) t h v
 
 abbrev pub temporaries_from : List Ty → Temporaries → ℕ → List Value
 temporaries_from [] t h = []
@@ -213,12 +229,12 @@ module _ {W : Type 0} (ops : Ops W) (deleting : ℕ → Bool) (types : List Ty) 
     steps_run none calls live env t w = Go t w
     steps_run (more s rest) calls live env t w = bind (step_run s calls (before_steps rest live) env t w) (steps_run rest calls live env)
 
-  -- cell by cell
-  abbrev pub cells_moved : (line : ℕ) → Layout → (from to : Target) → W → Run W (Unit {0})
-  cells_moved line [] from to w = Go tt w
-  cells_moved line (kind ∷ kinds) from to w =
+  -- cell by cell, each through the temporary h
+  abbrev pub cells_moved : (line h : ℕ) → Layout → (from to : Target) → Temporaries → W → Run W Temporaries
+  cells_moved line h [] from to t w = Go t w
+  cells_moved line h (kind ∷ kinds) from to t w =
       bind (ops.load line from w) (λ v w1. bind (ops.store line to (kept_cell kind v) w1) (λ _ w2.
-      cells_moved line kinds (record from { offset = suc from.offset }) (record to { offset = suc to.offset }) w2))
+      cells_moved line h kinds (record from { offset = suc from.offset }) (record to { offset = suc to.offset }) (with_cell kind t h v) w2))
 
   -- the new value of a place; the old value in its own type
   abbrev pub new_value : (line : ℕ) → Change → Ty → (old operand : Value) → W → Run W Value
@@ -240,9 +256,9 @@ module _ {W : Type 0} (ops : Ops W) (deleting : ℕ → Bool) (types : List Ty) 
   act_run (update line a change ty) calls live env t w =
       bind (ops.load line (target_at a t 0) w) (λ old w1.
       bind (new_value line change ty old (temporary ty t (width a)) w1) (λ new w2.
-      bind (ops.store line (target_at a t 0) (kept a.cell new) w2) (λ _ w3. Go (Next env t) w3)))
+      bind (ops.store line (target_at a t 0) (kept a.cell new) w2) (λ _ w3. Go (Next env (set_kind (change_kind change) t (suc (width a)) new)) w3)))
   act_run (move line cells left right) calls live env t w =
-      bind (cells_moved line cells (target_at right t (width left)) (target_at left t 0) w) (λ _ w1. Go (Next env t) w1)
+      bind (cells_moved line (width left + width right) cells (target_at right t (width left)) (target_at left t 0) t w) (λ t1 w1. Go (Next env t1) w1)
   act_run (delete line) calls live env t w = bind (ops.delete line (held live env) (t.regions 0) w) (λ _ w1. Go (Next env t) w1)
   act_run (leave line result) calls live env t w = Go (Returned (returned result t)) w
 

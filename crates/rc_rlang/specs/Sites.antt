@@ -1,8 +1,8 @@
 -- The sites of region code: its stores to cells whose types are annotated, each of which may have to check what it stores. A store and an
 -- update have one where their cell is annotated, and a struct copy one for each annotated cell, in the order of the cells. They are
--- numbered from 0 in the order of the text, a program's through its functions, one after another. A site stands at the point that stores:
--- an update's last one, and the second of the two that each cell of a copy has.
-use Rattle.std.specs.Prelude.{ℕ, suc, ◌+◌, List, [], ◌∷◌, ◌++◌, length}
+-- in the order of their points, so that those of a loop's body stand before those of its third part. A site stands at the point that
+-- stores: an update's last one, and the second of the two that each cell of a copy has.
+use Rattle.std.specs.Prelude.{ℕ, suc, ◌+◌, List, [], ◌∷◌, ◌++◌}
 use Rattle.rc_core.specs.declared.ty.Note.{Note}
 use Rattle.rc_core.specs.declared.ty.Note.TheVariants.{Plain, SameRegion, ParentPtr, Traditional}
 use Rattle.rc_core.specs.declared.stmt.Change.{Change}
@@ -10,9 +10,9 @@ use Rattle.rc_core.specs.declared.stmt.Change.TheVariants.{Compute, Step as Step
 use Rattle.rc_core.specs.Layout.{Layout, note_of}
 use Rattle.rc_core.specs.Arithmetic.{type_of}
 use Rattle.rc_rlang.specs.Points.{conversion_points}
-use Rattle.rc_rlang.specs.RegionCode.{Act, store, update, move, Code, simple, clear, block, branch, loop, repeat, break, continue, Codes, done, then, Routine, Rlang}
+use Rattle.rc_rlang.specs.RegionCode.{Act, store, update, move, Code, simple, clear, block, branch, loop, repeat, break, continue, Codes, done, then}
 use Rattle.rc_rlang.specs.RegionFlow.{note_in}
-use Rattle.rc_rlang.specs.RegionPoints.{steps_points, branch_points, code_points, routine_points}
+use Rattle.rc_rlang.specs.RegionPoints.{steps_points, branch_points, code_points}
 
 pub record Site : Type 0 where
   pub point : ℕ
@@ -59,13 +59,3 @@ abbrev mutual
   pub codes_sites : Codes → (here : ℕ) → List Site
   codes_sites done here = []
   codes_sites (then c rest) here = code_sites c here ++ codes_sites rest (here + code_points c)
-
-abbrev pub functions_sites : List Routine → (here : ℕ) → List Site
-functions_sites [] here = []
-functions_sites (f ∷ fs) here = code_sites f.body (suc here) ++ functions_sites fs (here + routine_points f)
-
-abbrev pub sites : Rlang → List Site
-sites r = functions_sites r.functions 0
-
-abbrev pub site_count : Rlang → ℕ
-site_count r = length (sites r)

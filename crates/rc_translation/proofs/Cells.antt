@@ -22,7 +22,7 @@ use Rattle.rc_kinds.proofs.Ledgers.{object_suits, object_changed, world_with}
 use Rattle.rc_kinds.proofs.Paths.{Aims, index_is_below}
 use Rattle.rc_kinds.proofs.Operations.{stands_fits}
 use Rattle.rc_rlang.specs.RegionRuns as R
-use Rattle.rc_rlang.specs.RegionRuns.{kept_cell}
+use Rattle.rc_rlang.specs.RegionRuns.{Temporaries, kept_cell}
 
 -- a value of the cell's kind is kept as it is
 pub kept_in_cell : (l : Ledger) (kind : CellKind) (v : Value) → CellSuits l kind v → kept_cell kind v ≡ v
@@ -139,32 +139,35 @@ module _ (program : Program) where
       (fitting_keeps l w.heap spot.region line (notes_from w.heap spot) (v ∷ []) w _
       (keeps_here program l Nothing tt (with_heap w (written spot (v ∷ []) w.heap)) (world_with program l l w (written spot (v ∷ []) w.heap) (grows_itself l) suits (written_suits l kind kinds w spot v suits is new)) tt)))
 
-  module _ (deleting : ℕ → Bool) (types : List Ty) (line : ℕ) where
-    abbrev moved : Layout → Target → Target → World → Run World (Unit {0})
-    moved kinds from to w = R.cells_moved source deleting types line kinds from to w
+  module _ (deleting : ℕ → Bool) (types : List Ty) (line h : ℕ) where
+    -- without the temporaries that are left
+    abbrev moved : Layout → Target → Target → Temporaries → World → Run World (Unit {0})
+    moved kinds from to t w = bind (R.cells_moved source deleting types line h kinds from to t w) (λ _ w1. Go tt w1)
 
     abbrev onward : Target → Target
     onward tg = record tg { offset = suc tg.offset }
 
     -- of the cells behind
     abbrev Rest : Layout → Target → Target → Type 0
-    Rest kinds from to = (l : Ledger) (w : World) → AimsAt l kinds (onward from) → AimsAt l kinds (onward to) → WorldSuits program l w → moved kinds (onward from) (onward to) w ≡ copied_by_cells line (length kinds) (onward from) (onward to) w
+    Rest kinds from to = (l : Ledger) (t : Temporaries) (w : World) → AimsAt l kinds (onward from) → AimsAt l kinds (onward to) → WorldSuits program l w → moved kinds (onward from) (onward to) t w ≡ copied_by_cells line (length kinds) (onward from) (onward to) w
 
     -- region code moves the cells as they are
-    pub moved_is : (kinds : Layout) (l : Ledger) (from to : Target) (w : World) → AimsAt l kinds from → AimsAt l kinds to → WorldSuits program l w → moved kinds from to w ≡ copied_by_cells line (length kinds) from to w
-    moved_is [] l from to w af at suits = refl
-    moved_is (kind ∷ kinds) l from to w af at suits = by_load (λ l2 w2 a b s. moved_is kinds l2 (onward from) (onward to) w2 a b s) (source.load line from w) (load_suits l line kind kinds from w af suits)
+    pub moved_is : (kinds : Layout) (l : Ledger) (from to : Target) (t : Temporaries) (w : World) → AimsAt l kinds from → AimsAt l kinds to → WorldSuits program l w → moved kinds from to t w ≡ copied_by_cells line (length kinds) from to w
+    moved_is [] l from to t w af at suits = refl
+    moved_is (kind ∷ kinds) l from to t w af at suits = by_load (λ l2 t2 w2 a b s. moved_is kinds l2 (onward from) (onward to) t2 w2 a b s) (source.load line from w) (load_suits l line kind kinds from w af suits)
       where
-        by_store : Rest kinds from to → (l1 : Ledger) → Grows l l1 → (m : Run World (Unit {0})) → Keeps program l1 Nothing m → bind m (λ _ w2. moved kinds (onward from) (onward to) w2) ≡ bind m (λ _ w2. copied_by_cells line (length kinds) (onward from) (onward to) w2)
-        by_store rest l1 g (Go u w2) k =
+        by_store : Rest kinds from to → (t1 : Temporaries) (l1 : Ledger) → Grows l l1 → (m : Run World (Unit {0})) → Keeps program l1 Nothing m → bind (bind m (λ _ w2. R.cells_moved source deleting types line h kinds (onward from) (onward to) t1 w2)) (λ _ w1. Go tt w1) ≡ bind m (λ _ w2. copied_by_cells line (length kinds) (onward from) (onward to) w2)
+        by_store rest t1 l1 g (Go u w2) k =
             let l2 = k.holds.ledger in
             let g2 = k.holds.grown in
-            rest l2 w2 (still_at l1 l2 kinds (onward from) g2 (next_at l1 kind kinds from (still_at l l1 (kind ∷ kinds) from g af))) (still_at l1 l2 kinds (onward to) g2 (next_at l1 kind kinds to (still_at l l1 (kind ∷ kinds) to g at))) k.holds.world
-        by_store rest l1 g (Stopped s w2) k = refl
+            rest l2 t1 w2 (still_at l1 l2 kinds (onward from) g2 (next_at l1 kind kinds from (still_at l l1 (kind ∷ kinds) from g af))) (still_at l1 l2 kinds (onward to) g2 (next_at l1 kind kinds to (still_at l l1 (kind ∷ kinds) to g at))) k.holds.world
+        by_store rest t1 l1 g (Stopped s w2) k = refl
 
-        by_load : Rest kinds from to → (m : Run World Value) → Keeps program l (λ l v. CellSuits l kind v) m → bind m (λ v w1. bind (source.store line to (kept_cell kind v) w1) (λ _ w2. moved kinds (onward from) (onward to) w2)) ≡ bind m (λ v w1. bind (source.store line to v w1) (λ _ w2. copied_by_cells line (length kinds) (onward from) (onward to) w2))
+        by_load : Rest kinds from to → (m : Run World Value) → Keeps program l (λ l v. CellSuits l kind v) m → bind (bind m (λ v w1. bind (source.store line to (kept_cell kind v) w1) (λ _ w2. R.cells_moved source deleting types line h kinds (onward from) (onward to) (R.with_cell kind t h v) w2))) (λ _ w1. Go tt w1)
+            ≡ bind m (λ v w1. bind (source.store line to v w1) (λ _ w2. copied_by_cells line (length kinds) (onward from) (onward to) w2))
         by_load rest (Go v w1) k =
             let l1 = k.holds.ledger in
-            ap (λ u. bind (source.store line to u w1) (λ _ w2. moved kinds (onward from) (onward to) w2)) (kept_in_cell l1 kind v k.holds.value)
-            ∙ by_store rest l1 k.holds.grown (source.store line to v w1) (store_suits l1 line kind kinds to v w1 (still_at l l1 (kind ∷ kinds) to k.holds.grown at) k.holds.value k.holds.world)
+            let t1 = R.with_cell kind t h v in
+            ap (λ u. bind (bind (source.store line to u w1) (λ _ w2. R.cells_moved source deleting types line h kinds (onward from) (onward to) t1 w2)) (λ _ w2. Go tt w2)) (kept_in_cell l1 kind v k.holds.value)
+            ∙ by_store rest t1 l1 k.holds.grown (source.store line to v w1) (store_suits l1 line kind kinds to v w1 (still_at l l1 (kind ∷ kinds) to k.holds.grown at) k.holds.value k.holds.world)
         by_load rest (Stopped s w1) k = refl

@@ -1,5 +1,5 @@
 -- A struct copy's code does what the copy does: it goes cell by cell, and a copy may.
-use Rattle.std.proofs.Common.{◌≡◌, ℕ, Bool, List, slice_get, Some, refl, sym, ap, ◌∙◌, subst, inl, inr, arith}
+use Rattle.std.proofs.Common.{◌≡◌, ℕ, ◌+◌, Bool, List, slice_get, Some, refl, sym, ap, ◌∙◌, subst, inl, inr, arith}
 use Rattle.rc_core.specs.Types.{Ty, struct}
 use Rattle.rc_core.specs.Layout.{cells, size}
 use Rattle.rc_core.specs.Programs.{Expr, Place, copy, Function, Program}
@@ -47,10 +47,12 @@ both_go P Q (Go x w) p q = (p, q)
 both_go P Q (Stopped stop w) p q = tt
 
 -- what is done behind a copy
-does_so : (env : List Value) (t : Temporaries) (m m' : Run World (Unit {0})) → DoesTheSame m m' → Same AllButHeap Meets (bind m (λ _ w. Go (Next env) w)) (bind m' (λ _ w. Go (R.Next env t) w))
-does_so env t (Go u w) m' d = subst (λ r. Same AllButHeap Meets (Go (Next env) w) (bind r (λ _ w1. Go (R.Next env t) w1))) (sym d) (refl, refl)
-does_so env t (Stopped (Ends end) w) m' d = subst (λ r. Same AllButHeap Meets (Stopped (Ends end) w) (bind r (λ _ w1. Go (R.Next env t) w1))) (sym d.1) (inr (refl, refl))
-does_so env t (Stopped (Stale line) w) m' d = inl tt
+does_so : (env : List Value) (m : Run World (Unit {0})) (m' : Run World Temporaries) → DoesTheSame m (bind m' (λ _ w. Go tt w)) → Same AllButHeap Meets (bind m (λ _ w. Go (Next env) w)) (bind m' (λ t w. Go (R.Next env t) w))
+does_so env (Go u w) (Go t w1) d = let e : w1 ≡ w = cc in subst (λ x. Same AllButHeap Meets (Go (Next env) w) (Go (R.Next env t) x)) (sym e) (refl, refl)
+does_so env (Go u w) (Stopped s w1) d = cc
+does_so env (Stopped (Ends end) w) (Go t w1) d = let e = d.1 in cc
+does_so env (Stopped (Ends end) w) (Stopped s w1) d = let e = d.1 in let e1 : s ≡ Ends end = cc in let e2 : w1 ≡ with_heap w d.0 = cc in subst (λ x. Same AllButHeap Meets (Stopped (Ends end) w) (Stopped x w1)) (sym e1) (subst (λ x. Same AllButHeap Meets (Stopped (Ends end) w) (Stopped (Ends end) x)) (sym e2) (inr (refl, refl)))
+does_so env (Stopped (Stale line) w) m' d = inl tt
 
 module _ (program : Program) (well : IsWellTyped program) (k : ℕ) (f : Function) (there : slice_get program.functions k ≡ Some f) (n : ℕ) (calls' : Calls World)
     (called : (h : ℕ) (ys : List Value) (w : World) → AllSuit (parameter_types program h) ys → Known program (parameter_types program h) ys w → Same AllButHeap Equal (calls_within source program n h ys w) (calls' h ys w)) where
@@ -110,8 +112,10 @@ module _ (program : Program) (well : IsWellTyped program) (k : ℕ) (f : Functio
       (both_go (λ from w2. Two (struct s) to from w2) (λ from w2. Copies s to from w2) (aimed_at right ways.next env w1) (two_aims ways.next right (struct s) env to w1 ht.1 p.1.0) p.1.1)
       (place_does AllButHeap here_too source program f.locals calls calls' (Known program) called (Good program f env) env ways.next (sd.arguments ways.next env) known held_so line right (width a) (struct s) ht.1 hp.1 live1 t1 w1 p.0.2)) (λ from t2 w2 q.
       let left_is : target_at a t2 0 ≡ to = target_lower a 0 (width a) t1 t2 q.0.1 (omega arith) ∙ p.0.0 in
-      subst (λ x. Same AllButHeap Meets (kk to from w2) (bind (R.cells_moved source (deletes program) f.locals line kinds x (target_at a t2 0) w2) (λ _ w4. Go (R.Next env t2) w4))) (sym q.0.0)
-      (subst (λ x. Same AllButHeap Meets (kk to from w2) (bind (R.cells_moved source (deletes program) f.locals line kinds from x w2) (λ _ w4. Go (R.Next env t2) w4))) (sym left_is)
-      (subst (λ r. Same AllButHeap Meets (kk to from w2) (bind r (λ _ w4. Go (R.Next env t2) w4))) (sym (moved_is program (deletes program) f.locals line kinds q.1.0.ledger from to w2 (aims_at program q.1.0.ledger (struct s) from q.1.0.from_aims) (aims_at program q.1.0.ledger (struct s) to q.1.0.to_aims) q.1.0.world))
-      (subst (λ r. Same AllButHeap Meets r (bind (copied_by_cells line m from to w2) (λ _ w4. Go (R.Next env t2) w4))) (bind_bind (source.load_all line from m w2) (λ vs w3. source.store_all line to vs w3) (λ _ w4. Go (Next env) w4))
-      (does_so env t2 (copied_at_once line m from to w2) (copied_by_cells line m from to w2) (q.1.1 line))))))))
+      let moved : Target → Target → Run World Temporaries = λ x y. R.cells_moved source (deletes program) f.locals line (width a + width b) kinds x y t2 w2 in
+      subst (λ x. Same AllButHeap Meets (kk to from w2) (bind (moved x (target_at a t2 0)) (λ t3 w4. Go (R.Next env t3) w4))) (sym q.0.0)
+      (subst (λ x. Same AllButHeap Meets (kk to from w2) (bind (moved from x) (λ t3 w4. Go (R.Next env t3) w4))) (sym left_is)
+      (subst (λ r. Same AllButHeap Meets r (bind (moved from to) (λ t3 w4. Go (R.Next env t3) w4))) (bind_bind (source.load_all line from m w2) (λ vs w3. source.store_all line to vs w3) (λ _ w4. Go (Next env) w4))
+      (does_so env (copied_at_once line m from to w2) (moved from to)
+      (subst (λ r. DoesTheSame (copied_at_once line m from to w2) r) (sym (moved_is program (deletes program) f.locals line (width a + width b) kinds q.1.0.ledger from to t2 w2 (aims_at program q.1.0.ledger (struct s) from q.1.0.from_aims) (aims_at program q.1.0.ledger (struct s) to q.1.0.to_aims) q.1.0.world))
+      (q.1.1 line))))))))

@@ -1,5 +1,5 @@
 -- An update's code does what the update does.
-use Rattle.std.proofs.Common.{◌≡◌, ℕ, ℤ, Bool, true, false, not, List, slice_get, Some, Result, Ok, Err, refl, sym, ap, ◌∙◌, subst, arith, inr}
+use Rattle.std.proofs.Common.{◌≡◌, ℕ, suc, ℤ, Bool, true, false, not, List, slice_get, Some, Result, Ok, Err, refl, sym, ap, ◌∙◌, subst, arith, inr}
 use Rattle.std.specs.Prelude.{IsTrue, pos, negsuc}
 use Rattle.std.proofs.Math.Nat.{mod-eq_of_lt}
 use Rattle.rc_base.specs.declared.ends.Trap.{Trap}
@@ -193,15 +193,15 @@ module _ (E : World → World → Type 0) (here_too : (w : World) → E w w) (pr
       (λ tg v w2. bind (source.load line tg w2) (λ old w3. bind (changed source program line change old v w3) (λ new w4. bind (source.store line tg new w4) (λ _ w5. Go (Next env) w5))))
       (λ t1. act_run source (deletes program) f.locals (To.update line a change ty) calls' ways.next env t1) ht.1.0 has.1 hp.0 hp.1 good (λ tg v t1 w1 e1 e2 va.
       subst (λ x. Same E Meets (bind (source.load line tg w1) (λ old w3. bind (changed source program line change old v w3) (λ new w4. bind (source.store line tg new w4) (λ _ w5. Go (Next env) w5))))
-      (bind (source.load line x w1) (λ old w2. bind (new_value source (deletes program) f.locals line change ty old (temporary ty t1 (width a)) w2) (λ new w3. bind (source.store line x (kept a.cell new) w3) (λ _ w4. Go (R.Next env t1) w4))))) (sym e1)
+      (bind (source.load line x w1) (λ old w2. bind (new_value source (deletes program) f.locals line change ty old (temporary ty t1 (width a)) w2) (λ new w3. bind (source.store line x (kept a.cell new) w3) (λ _ w4. Go (R.Next env (R.set_kind (R.change_kind change) t1 (suc (width a)) new)) w4))))) (sym e1)
       (subst (λ x. Same E Meets (bind (source.load line tg w1) (λ old w3. bind (changed source program line change old v w3) (λ new w4. bind (source.store line tg new w4) (λ _ w5. Go (Next env) w5))))
-      (bind (source.load line tg w1) (λ old w2. bind (new_value source (deletes program) f.locals line change ty old x w2) (λ new w3. bind (source.store line tg (kept a.cell new) w3) (λ _ w4. Go (R.Next env t1) w4))))) (sym e2)
+      (bind (source.load line tg w1) (λ old w2. bind (new_value source (deletes program) f.locals line change ty old x w2) (λ new w3. bind (source.store line tg (kept a.cell new) w3) (λ _ w4. Go (R.Next env (R.set_kind (R.change_kind change) t1 (suc (width a)) new)) w4))))) (sym e2)
       (same_bind E (λ old old' w2. (old ≡ old') × Loaded program f ht.0 env tg old w2) Meets (source.load line tg w1) (source.load line tg w1) _ _
       (same_with E Equal (λ old w2. Loaded program f ht.0 env tg old w2) (source.load line tg w1) (source.load line tg w1)
       (goes_on program va.ledger (Of ht.0) (λ old w2. Loaded program f ht.0 env tg old w2) (source.load line tg w1) (load_keeps program va.ledger line ht.0 tg w1 cell va.aims va.world) (λ old l2 w2 g s so. record { ledger = l2; world = s; aims = still_aims program va.ledger l2 ht.0 tg g va.aims; old_suits = so }))
       (same_refl (source.load line tg w1))) (λ old old' w2 p.
-      subst (λ x. Same E Meets (bind (changed source program line change old v w2) (λ new w4. bind (source.store line tg new w4) (λ _ w5. Go (Next env) w5))) (bind (new_value source (deletes program) f.locals line change ty x v w2) (λ new w3. bind (source.store line tg (kept a.cell new) w3) (λ _ w4. Go (R.Next env t1) w4)))) p.0
-      (subst (λ m. Same E Meets (bind (changed source program line change old v w2) (λ new w4. bind (source.store line tg new w4) (λ _ w5. Go (Next env) w5))) (bind m (λ new w3. bind (source.store line tg (kept a.cell new) w3) (λ _ w4. Go (R.Next env t1) w4))))
+      subst (λ x. Same E Meets (bind (changed source program line change old v w2) (λ new w4. bind (source.store line tg new w4) (λ _ w5. Go (Next env) w5))) (bind (new_value source (deletes program) f.locals line change ty x v w2) (λ new w3. bind (source.store line tg (kept a.cell new) w3) (λ _ w4. Go (R.Next env (R.set_kind (R.change_kind change) t1 (suc (width a)) new)) w4)))) p.0
+      (subst (λ m. Same E Meets (bind (changed source program line change old v w2) (λ new w4. bind (source.store line tg new w4) (λ _ w5. Go (Next env) w5))) (bind m (λ new w3. bind (source.store line tg (kept a.cell new) w3) (λ _ w4. Go (R.Next env (R.set_kind (R.change_kind change) t1 (suc (width a)) new)) w4))))
       (sym (new_same program f line ht.0 change e ht.1.1 old v p.1.ledger w2 p.1.old_suits (number_anywhere program f ht.0 change e ht.1.1 va.ledger p.1.ledger v va.value)))
       (same_bind E (λ new new' w3. (new ≡ new') × (kept a.cell new ≡ new)) Meets (changed source program line change old v w2) (changed source program line change old v w2) _ _
       (same_with E Equal (λ new w3. kept a.cell new ≡ new) (changed source program line change old v w2) (changed source program line change old v w2)
@@ -209,6 +209,6 @@ module _ (E : World → World → Type 0) (here_too : (w : World) → E w w) (pr
       (changed_keeps program well.structs f (well.functions k f there).locals calls (calls_keep program well n) line ht.0 change e old v p.1.ledger w2 ht.1.1 p.1.old_suits p.1.world)
       (λ new l3 w3 g s sn. kept_same a.cell new (subst (λ x. Suits (value_type x) new) (sym same_cell) (suits_so l3 (value_type ht.0) new (value_suits l3 ht.0 new sn)))))
       (same_refl (changed source program line change old v w2))) (λ new new' w3 q.
-      subst (λ x. Same E Meets (bind (source.store line tg new w3) (λ _ w5. Go (Next env) w5)) (bind (source.store line tg (kept a.cell x) w3) (λ _ w4. Go (R.Next env t1) w4))) q.0
-      (subst (λ x. Same E Meets (bind (source.store line tg new w3) (λ _ w5. Go (Next env) w5)) (bind (source.store line tg x w3) (λ _ w4. Go (R.Next env t1) w4))) (sym q.1)
+      subst (λ x. Same E Meets (bind (source.store line tg new w3) (λ _ w5. Go (Next env) w5)) (bind (source.store line tg (kept a.cell x) w3) (λ _ w4. Go (R.Next env (R.set_kind (R.change_kind change) t1 (suc (width a)) x)) w4))) q.0
+      (subst (λ x. Same E Meets (bind (source.store line tg new w3) (λ _ w5. Go (Next env) w5)) (bind (source.store line tg x w3) (λ _ w4. Go (R.Next env (R.set_kind (R.change_kind change) t1 (suc (width a)) new)) w4))) (sym q.1)
       (same_self E here_too Meets (source.store line tg new w3) _ _ (λ _ w4. (refl, refl)))))))))))

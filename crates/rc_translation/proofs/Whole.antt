@@ -22,7 +22,7 @@ use Rattle.rc_translation.proofs.ValueKinds.{AllSuit}
 use Rattle.rc_translation.proofs.Statements.{Meets, Equal, Sound, statement_meets}
 
 -- the same functions delete
-deletes_same : (program : Program) → R.deletes (region_of_program program) ≡ deletes program
+pub deletes_same : (program : Program) → R.deletes (region_of_program program) ≡ deletes program
 deletes_same program = fun_ext (λ f. ap routine_deletes (slice_get-map (routine_of program) program.functions f) ∙ by (slice_get program.functions f))
   where
     by : (o : Option Function) → routine_deletes (option_map (routine_of program) o) ≡ function_deletes o
