@@ -1,0 +1,3 @@
+pub mod Listed
+pub mod Flowing
+pub mod Items
