@@ -1,1 +1,1 @@
-pub mod Sited
+pub mod Told

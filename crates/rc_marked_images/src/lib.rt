@@ -5,4 +5,4 @@ mod images;
 mod laws;
 
 pub use images::marked;
-pub use laws::{marks_of_images_are_numbered, sites_are_the_stores};
+pub use laws::{marks_of_images_are_numbered, reports_tell_of_images};

@@ -1,5 +1,5 @@
--- The stores of region code to annotated cells, in the order of the text, each with its line and its annotation: a store and an update are
--- one where their cell is annotated, and a struct copy one for each annotated cell, in the order of the cells. And those of stack code.
+-- The stores of region code to annotated cells, in the order of their points, each with its line and its annotation: a store and an update
+-- are one where their cell is annotated, and a struct copy one for each annotated cell, in the order of the cells. And those of stack code.
 use Rattle.std.specs.Prelude.{◌≡◌, ℕ, List, [], ◌∷◌, ◌++◌, flat_map}
 use Rattle.rc_core.specs.declared.ty.Note.{Note}
 use Rattle.rc_core.specs.declared.ty.Note.TheVariants.{Plain, SameRegion, ParentPtr, Traditional}

@@ -10,7 +10,7 @@ use Rattle.rc_rlang.specs.RegionFlow.{note_in}
 use Rattle.rc_rlang.specs.RegionPoints.{steps_points, branch_points, code_points}
 use Rattle.rc_rlang.specs.Sites.{Site, store_sites, cells_sites, act_sites, code_sites, codes_sites, before_store}
 use Rattle.rc_marks.specs.Stores.{Store, note_on, annotated, cells_stores, act_stores, code_stores, codes_stores}
-use Rattle.rc_marked_images.specs.Sited.{store_of, SitesAreStores}
+use Rattle.rc_counted.proofs.SitedBy.{store_of, SitesAreStores}
 
 same_note : (ty : Ty) → note_in ty ≡ note_on ty
 same_note int = refl

@@ -1,0 +1,3 @@
+pub mod SitedBy
+pub mod Sited
+pub mod Counted
