@@ -1,14 +1,15 @@
 // Images of region code.
-ghost use Rattle.std.specs.Prelude.{◌≡◌, IfOk};
+ghost use Rattle.std.specs.Prelude.{◌≡◌, IfOk, map};
 ghost use Rattle.rc_code.specs.Soundness.{Sound};
 ghost use Rattle.rc_elim.specs.Masks.{marks_in};
 ghost use Rattle.rc_image_rules.specs.Small.{IsSmall};
 ghost use Rattle.rc_marks.specs.InOrder.{mask_of};
-ghost use Rattle.rc_marks.specs.Marked.{image_stores, marked_image, with_bits};
-ghost use Rattle.rc_marks.specs.Stores.{stores};
+ghost use Rattle.rc_marks.specs.Marked.{image_stores, marked_image};
+ghost use Rattle.rc_counted.specs.Counted.{all_sites, stored};
 ghost use Rattle.rc_numbering.specs.Numbered.{image_of};
 ghost use Rattle.rc_rlang.specs.LiveLists.{live_lists};
 ghost use Rattle.rc_rlang.specs.Shapes.{rlang_of};
+ghost use Rattle.rc_unchecked.specs.Regions.{DoesWhatItsCodeDoes};
 
 use rc_base::NoMemory;
 use rc_code::Image;
@@ -21,8 +22,13 @@ use rc_rlang::rlang::Rlang;
 use std::alloc::Global;
 
 /// The image of region code, where `live` has the lists of what is live at its deleting points, as
-/// rc_live's `live` gives them. It may be run. Its stores to annotated cells are those of the code, in
-/// the same order, and a store has a mark, and makes no check, just where the mask marks its point.
+/// rc_live's `live` gives them. It may be run. Its stores to annotated cells are the sites of the code,
+/// in the same order, and a store has a mark, and makes no check, just where the mask marks its point.
+///
+/// It does what the code does. Without a mark it means what the code means, on every input and under all
+/// limits, a dead region that is touched and its line included. With marks, which stand at stores alone
+/// whose checks ask for a fact, so does each run in which no marked check fails, and where all runs on
+/// bytes are so, no run comes to a marked store that would have failed its check.
 ///
 /// # Errors
 ///
@@ -32,7 +38,8 @@ pub fn emit(alloc: Global, code: &Rlang, live: &LiveMap, mask: &Mask) -> Result<
     ensures image { IfOk result (λ image. image ≡ marked_image (mask_of (marks_in mask.now) (rlang_of code.now)) (rlang_of code.now)) }
     ensures small { IfOk result (λ image. IsSmall (image_of (rlang_of code.now))) }
     ensures sound { IfOk result (λ image. Sound image) }
-    ensures stores { IfOk result (λ image. image_stores image ≡ with_bits (mask_of (marks_in mask.now) (rlang_of code.now)) 0 (stores (rlang_of code.now))) }
+    ensures stores { IfOk result (λ image. image_stores image ≡ map (stored (marks_in mask.now)) (all_sites (rlang_of code.now))) }
+    ensures does { IfOk result (DoesWhatItsCodeDoes (rlang_of code.now) (marks_in mask.now)) }
 {
     let _parts = code.parts();
     let functions = program_code(alloc, code, live)?;

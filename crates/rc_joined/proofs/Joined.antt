@@ -25,7 +25,10 @@ use Rattle.rc_translation.specs.Translation.{region_of_program}
 use Rattle.rc_region_rules.proofs.Theorem as Region
 use Rattle.rc_emission.specs.StackCode.{stack_main}
 use Rattle.rc_emission.specs.KeptOperands.{same_type, stack_code}
-use Rattle.rc_emission.proofs.Programs.{program_means, program_leaves}
+use Rattle.rc_emission.proofs.Theorem.{means}
+use Rattle.rc_emission.proofs.SourceTurns.{source_turns}
+use Rattle.rc_translation.proofs.Theorem.{region_code_means}
+use Rattle.rc_rlang.specs.RegionRuns as R
 use Rattle.rc_code.specs.declared.image.Initial.{Initial}
 use Rattle.rc_code.specs.declared.image.Initial.TheVariants as initial
 use Rattle.rc_code.specs.declared.image.Global.{Global as ImageGlobal}
@@ -53,6 +56,7 @@ use Rattle.rc_image_rules.specs.Small.{IsSmall}
 use Rattle.rc_image_rules.proofs.Sounds.{image_sound}
 use Rattle.rc_image_rules.proofs.TypesNamed.{globals_in, strings_in}
 use Rattle.rc_image_rules.proofs.Fields.{fields_fit}
+use Rattle.rc_joined.specs.Regions.{RegionMeansTheSame, RegionLeavesTheSame}
 use Rattle.rc_joined.specs.Programs.{image_of_program, ImageMeansTheSame, ImageLeavesTheSame}
 
 map_append : {A B : Type 0} (g : A → B) (xs ys : List A) → map g (xs ++ ys) ≡ map g xs ++ map g ys
@@ -84,7 +88,7 @@ module _ (r : Rlang) (fit : IsRlang r) (numberable : IsNumberable r) (small : Is
 
   -- the image with the source's layouts, beside a store that calls types by their numbers
   abbrev pub image : Compared
-  image = record { code = view_of r; marked = false; name = name; watching = true; ranged = false }
+  image = record { code = view_of r; marked = false; name = name; watching = true; apart = false; ranged = false }
 
   cell_same : (k : CellKind) → cell_kind (cell_of (type_in r) (path_in r) k) ≡ named_cell name k
   cell_same int_cell = refl
@@ -195,26 +199,22 @@ module _ (r : Rlang) (fit : IsRlang r) (numberable : IsNumberable r) (small : Is
   there_in (g ∷ gs) ss each all zero h e = let q : global_of (type_in r) (path_in r) g ≡ h = cc in ap Some (object_shape g ∙ ap (λ l. record { layout = l; count = elements g.count }) (sym (layout_found r g.ty (each 0 g refl)))) ∙ ap (λ (d : ImageGlobal). Some (shape_named d)) q
   there_in (g ∷ gs) ss each all (suc n) h e = there_in gs ss (λ k d q. each (suc k) d q) all n h e
 
-module _ (program : Program) (well : IsWellTyped program) (bounds : IsWithinBounds program) (small : IsSmall (image_of_program program)) where
-  abbrev pub r : Rlang
-  r = region_of_program program
-
-  pub fit : IsRlang r
-  fit = Region.fits_together program well bounds
-
-  pub numberable : IsNumberable r
-  numberable = program_is_numberable program well
+-- of region code by itself
+module _ (r : Rlang) (fit : IsRlang r) (numberable : IsNumberable r) (small : IsSmall (image_of r)) where
+  -- its structs, globals and strings are all that a first world is made of
+  abbrev bare : Program
+  bare = record { structs = r.structs; globals = r.globals; strings = r.strings; functions = []; main = 0 }
 
   abbrev pub compared : Compared
   compared = image r fit numberable small
 
-  pub globals_there : GlobalsAreThere compared (first_heap program)
+  pub globals_there : GlobalsAreThere compared (first_heap bare)
   globals_there n h e = there_in r fit numberable small r.globals r.strings (global_in r fit numberable small) (strings_in r fit numberable) n h e
 
-  begins : (input : List ℕ) (limits : Limits) → Good compared (first_world program input limits)
-  begins input limits = first_is_good compared refl program input limits globals_there
+  begins : (input : List ℕ) (limits : Limits) → Good compared (first_world bare input limits)
+  begins input limits = first_is_good compared refl bare input limits globals_there
 
-  pub first_is_model : (input : List ℕ) (limits : Limits) → model (name r fit numberable small) (first_world program input limits) ≡ first_held (reading_of (image_of r)) input limits
+  pub first_is_model : (input : List ℕ) (limits : Limits) → model (name r fit numberable small) (first_world bare input limits) ≡ first_held (reading_of (image_of r)) input limits
   first_is_model input limits = ap (λ os. record {
     turns = limits.turns;
     input = input;
@@ -223,17 +223,17 @@ module _ (program : Program) (well : IsWellTyped program) (bounds : IsWithinBoun
   }) (sym (objects_same r fit numberable small))
 
   abbrev source_run : (input : List ℕ) → Limits → Run World Value
-  source_run input limits = stack_main source (deletes r) (stack_code r) r.main (first_world program input limits)
+  source_run input limits = stack_main source (deletes r) (stack_code r) r.main (first_world bare input limits)
 
-  same_run : (input : List ℕ) (limits : Limits) → run_main (watched compared) (view_of r) (first_world program input limits) ≡ source_run input limits
-  same_run input limits = image_same (watched compared) (λ line t v w. refl) waiting source_waits r numberable (first_world program input limits)
+  same_run : (input : List ℕ) (limits : Limits) → run_main (watched compared) (view_of r) (first_world bare input limits) ≡ source_run input limits
+  same_run input limits = image_same (watched compared) (λ line t v w. refl) waiting source_waits r numberable (first_world bare input limits)
 
   runs : (input : List ℕ) (limits : Limits) → image_run (image_of r) input limits ≡ mapped compared (source_run input limits)
   runs input limits =
       ap (λ w. run_main stored (reading_of (image_of r)) w) (sym (first_is_model input limits))
-      ∙ ap (λ code. run_main stored code (model (name r fit numberable small) (first_world program input limits))) (sym (own_is_written r fit numberable small))
-      ∙ image_runs compared (λ ty. refl) (own_is_sound r fit numberable small) (first_world program input limits) (begins input limits)
-      (unmarked compared (view_is_sound compared (λ ty. refl) (own_is_sound r fit numberable small)) refl (run_main (watched compared) (view_of r) (first_world program input limits)))
+      ∙ ap (λ code. run_main stored code (model (name r fit numberable small) (first_world bare input limits))) (sym (own_is_written r fit numberable small))
+      ∙ image_runs compared (λ ty. refl) (own_is_sound r fit numberable small) (first_world bare input limits) (begins input limits)
+      (unmarked compared (view_is_sound compared (λ ty. refl) (own_is_sound r fit numberable small)) refl (run_main (watched compared) (view_of r) (first_world bare input limits)))
       ∙ ap (mapped compared) (same_run input limits)
 
   pub same_meaning : (input : List ℕ) (m : Run World Value) → Image.meaning_of_run input (mapped compared m) ≡ meaning_of_run input m
@@ -244,8 +244,18 @@ module _ (program : Program) (well : IsWellTyped program) (bounds : IsWithinBoun
   same_left (Go v w) = ap Some (regions_left (name r fit numberable small) w.heap)
   same_left (Stopped stop w) = refl
 
+  stack_is : (input : List ℕ) (limits : Limits) → source_run input limits ≡ R.run_main source r (first_world bare input limits)
+  stack_is input limits = means source source_turns r (λ k f e. ((numberable.functions k f e).in_order.0, (numberable.functions k f e).in_order.1)) (first_world bare input limits)
+
+  pub region_means : RegionMeansTheSame r
+  region_means input limits = ap (Image.meaning_of_run input) (runs input limits) ∙ same_meaning input (source_run input limits) ∙ ap (meaning_of_run input) (stack_is input limits)
+
+  pub region_leaves : RegionLeavesTheSame r
+  region_leaves input limits = ap Image.left_by_run (runs input limits) ∙ same_left (source_run input limits) ∙ ap left_by_run (stack_is input limits)
+
+module _ (program : Program) (well : IsWellTyped program) (bounds : IsWithinBounds program) (small : IsSmall (image_of_program program)) where
   pub image_means : ImageMeansTheSame program
-  image_means input limits bytes = ap (Image.meaning_of_run input) (runs input limits) ∙ same_meaning input (source_run input limits) ∙ program_means program well input limits bytes
+  image_means input limits bytes = region_means (region_of_program program) (Region.fits_together program well bounds) (program_is_numberable program well) small input limits ∙ (region_code_means program well input limits bytes).0
 
   pub image_leaves : ImageLeavesTheSame program
-  image_leaves input limits bytes = ap Image.left_by_run (runs input limits) ∙ same_left (source_run input limits) ∙ program_leaves program well input limits bytes
+  image_leaves input limits bytes = region_leaves (region_of_program program) (Region.fits_together program well bounds) (program_is_numberable program well) small input limits ∙ (region_code_means program well input limits bytes).1

@@ -1,11 +1,13 @@
--- Two reports of the same region code are the same.
+-- Region code has a report, and two reports of it are the same.
 use Rattle.std.proofs.Common.{◌≡◌, ℕ, suc, Bool, List, [], ◌∷◌, ◌++◌, map, refl, sym, ap, ◌∙◌}
 use Rattle.rc_rlang.specs.RegionCode.{Routine, Rlang}
+use Rattle.rc_rlang.specs.IsRlang.{IsRlang}
 use Rattle.rc_rlang.specs.Sites.{Site}
+use Rattle.rc_greatest.proofs.Marks.{marks_decided}
 use Rattle.rc_elim.proofs.OneMask.{one_mask}
 use Rattle.rc_reports.specs.declared.entry.Entry.{Entry}
 use Rattle.rc_reports.specs.Listed.{listed}
-use Rattle.rc_reports.specs.Reports.{entry_of, entries_from, IsReport}
+use Rattle.rc_reports.specs.Reports.{entry_of, entries_from, entries, IsReport}
 
 module _ (m n : (function point : ℕ) → Bool) (same : (g p : ℕ) → m g p ≡ n g p) where
   mapped : (g : ℕ) (sites : List Site) → map (entry_of (m g)) sites ≡ map (entry_of (n g)) sites
@@ -21,3 +23,7 @@ one_report r a b p q =
     p.are
     ∙ all_same p.marks q.marks (one_mask r p.marks q.marks p.removable q.removable) 0 r.functions
     ∙ sym q.are
+
+-- which checks may go is decided
+pub some_report : (r : Rlang) → IsRlang r → (all : List Entry) × IsReport r all
+some_report r fit = let decided = marks_decided r fit in (entries decided.0 r, record { marks = decided.0; removable = decided.1; are = refl })

@@ -3,6 +3,7 @@
 #![tactic(auto)]
 
 ghost use Rattle.std.specs.Prelude.{◌≡◌, List};
+ghost use Rattle.rc_rlang.specs.IsRlang.{IsRlang};
 ghost use Rattle.rc_rlang.specs.RegionCode.{Rlang};
 ghost use Rattle.rc_reports.specs.declared.entry.Entry.{Entry as AnEntry};
 ghost use Rattle.rc_reports.specs.Reports.{IsReport};
@@ -17,7 +18,9 @@ pub use listing::{sites, sites_by_points};
 pub use site::Site;
 pub use text::{removed_count, report_text};
 
-/// Region code has one report and no other.
+/// Region code whose parts fit together has a report (`some`), and any region code has at most one
+/// (`one`).
 pub fn region_code_has_one_report()
-    ensures { (r : Rlang) (a b : List AnEntry) → IsReport r a → IsReport r b → a ≡ b }
+    ensures some { (r : Rlang) → IsRlang r → (all : List AnEntry) × IsReport r all }
+    ensures one { (r : Rlang) (a b : List AnEntry) → IsReport r a → IsReport r b → a ≡ b }
 {}

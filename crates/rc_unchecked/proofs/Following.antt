@@ -1,7 +1,7 @@
 -- A run over the source's world in which no check that is left out fails: after each number of steps the store is what a store sees of it.
 use Rattle.std.proofs.Common.{◌≡◌, ◌⊎◌, inl, inr, ℕ, zero, suc, ◌+◌, [], Some, refl, sym, ap, ◌∙◌, subst, arith}
 use Rattle.rc_core.specs.Heap.{Value}
-use Rattle.rc_core.specs.Runs.{Run, Go, Stopped, Ends, Stale, bind}
+use Rattle.rc_core.specs.Runs.{Run, Go, Stopped, bind}
 use Rattle.rc_core.specs.Source.{World, source}
 use Rattle.rc_code.specs.Running.{run_main}
 use Rattle.rc_code.specs.StoreModel.{Held, store_model}
@@ -22,8 +22,7 @@ use Rattle.rc_code.specs.Running.{function_at}
 
 pub excused_behind : (image : Compared) {A B : Type 0} (m : Run World A) (next : A → World → Run World B) → Excused image m → Excused image (bind m next)
 excused_behind image (Go x w) next e = absurd e
-excused_behind image (Stopped (Ends end) w) next e = absurd e
-excused_behind image (Stopped (Stale line) w) next e = e
+excused_behind image (Stopped stop w) next e = e
 
 module _ (image : Compared) (sound : ImageIsSound image) where
   pub record Follows (m : Run World (Moved World)) (m' : Run Held (Moved Held)) : Type 0 where
@@ -85,9 +84,8 @@ module _ (image : Compared) (sound : ImageIsSound image) where
 
       by : (m : Run World (Moved World)) → first_steps (watched image) image.code k w ≡ m → Excused image m → ⊥
       by (Go x w1) is e = e
-      by (Stopped (Ends end) w1) is e = e
-      by (Stopped (Stale line) w1) is e =
-          let stopped : Run World Value = Stopped (Stale line) w1 in
+      by (Stopped stop w1) is e =
+          let stopped : Run World Value = Stopped stop w1 in
           let two : Some stopped ≡ Some (run_main (watched image) image.code w) =
           sym (stays_ended (watched image) image.code k (k + comes.enough) w stopped (omega arith) (ap ended is))
           ∙ stays_ended (watched image) image.code comes.enough (k + comes.enough) w (run_main (watched image) image.code w) (omega arith) comes.at_enough in

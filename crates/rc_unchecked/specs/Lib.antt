@@ -1,3 +1,4 @@
+pub mod Regions
 pub mod Unchecked
 pub mod Right
 pub mod Compiled

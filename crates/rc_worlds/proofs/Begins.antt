@@ -193,10 +193,10 @@ module _ (parts : Parts) (fields : FieldsFit parts) (input : List ℕ) (limits :
   by_watching false = record { root = refl; parents = parent_is_live heap heap_is_sound }
 
   pub begins_good : (marked watching ranged : Bool) → (ranged ≡ true → GlobalsHaveBytes parts × Every IsByte input)
-      → Good (record { code = reading_of parts; marked = marked; name = λ ty. ty; watching = watching; ranged = ranged }) (image_world (reading_of parts) input limits)
+      → Good (record { code = reading_of parts; marked = marked; name = λ ty. ty; watching = watching; apart = false; ranged = ranged }) (image_world (reading_of parts) input limits)
   begins_good marked watching ranged bytes = record {
     sound = by_watching watching;
-    typed = heap_is_typed (record { code = reading_of parts; marked = marked; name = λ ty. ty; watching = watching; ranged = ranged }) refl (λ e. (bytes e).0);
+    typed = heap_is_typed (record { code = reading_of parts; marked = marked; name = λ ty. ty; watching = watching; apart = false; ranged = ranged }) refl (λ e. (bytes e).0);
     globals = λ g global e. globals_there (reading_of parts) parts.globals g global e;
     waiting = tt;
     input = λ e. (bytes e).1;
@@ -231,5 +231,5 @@ first_is_model code input limits = ap (λ os. record {
   store = record { regions = Some (record { parent = 0; objects = os }) ∷ []; pins = []; spare = 0; region_limit = limits.regions; block_limit = limits.blocks };
 }) (objects_same (first_objects code))
 
-pub own_is_written : (parts : Parts) (marked watching ranged : Bool) → (own (record { code = reading_of parts; marked = marked; name = λ ty. ty; watching = watching; ranged = ranged })).code ≡ reading_of parts
+pub own_is_written : (parts : Parts) (marked watching ranged : Bool) → (own (record { code = reading_of parts; marked = marked; name = λ ty. ty; watching = watching; apart = false; ranged = ranged })).code ≡ reading_of parts
 own_is_written parts marked watching ranged = ap (λ ls. record { parts = parts; layouts = ls; numbered = pointee }) (layouts_same (map layout_of parts.types))

@@ -1,15 +1,15 @@
 -- A program's image over the store is the image over the source's world.
-use Rattle.std.proofs.Common.{◌≡◌, ℕ, List, Some, refl}
+use Rattle.std.proofs.Common.{◌≡◌, ℕ, List, Some, ap}
 use Rattle.std.specs.Prelude.{◌≢◌, true}
 use Rattle.rc_base.specs.declared.ends.Limits.{Limits}
 use Rattle.rc_core.specs.Heap.{Value}
 use Rattle.rc_core.specs.Programs.{Program}
 use Rattle.rc_core.specs.Laws.{stop_of}
 use Rattle.rc_core.specs.Meaning.{first_world}
-use Rattle.rc_core.specs.Runs.{Run, Go, Stopped, Ends, Stale}
+use Rattle.rc_core.specs.Runs.{Run, Go, Stopped}
 use Rattle.rc_core.specs.Source.{World}
 use Rattle.rc_code.specs.Running.{run_main}
-use Rattle.rc_worlds.specs.Worlds.{Compared, watched}
+use Rattle.rc_worlds.specs.Worlds.{Compared, failed, watched}
 use Rattle.rc_worlds.specs.Translated.{IsTranslated, IsCarried}
 use Rattle.rc_worlds.proofs.Does.{Excused}
 use Rattle.rc_worlds.proofs.Whole.{image_runs}
@@ -20,7 +20,6 @@ carried image p is input limits never =
     image_runs image is.numbers is.sound (first_world p input limits) (first_is_good image is.unranged p input limits is.globals)
     (none (run_main (watched image) image.code (first_world p input limits)) never)
   where
-    none : (m : Run World Value) → (image.marked ≡ true → (line : ℕ) → stop_of m ≢ Some (Stale line)) → Excused image m → ⊥
+    none : (m : Run World Value) → (image.marked ≡ true → (line : ℕ) → stop_of m ≢ Some (failed image.apart line)) → Excused image m → ⊥
     none (Go x w) never e = e
-    none (Stopped (Ends end) w) never e = e
-    none (Stopped (Stale line) w) never e = never e.0 line refl
+    none (Stopped stop w) never e = never e.0 e.2.0 (ap Some e.2.1)

@@ -4,19 +4,18 @@ use Rattle.std.specs.List.{AllByRecursion as Every, list_all}
 use Rattle.rc_base.specs.declared.ends.Trap.{Trap}
 use Rattle.rc_base.specs.declared.ends.Trap.TheVariants.{Bounds}
 use Rattle.rc_core.specs.Heap.{Value, Number, Null, Handle, Pointer, Address, Heap, live, objects, object_at, no_object}
-use Rattle.rc_core.specs.Runs.{Ends, Stale, Run, Go, Stopped, bind, branching, trap, tested, touching, Target}
+use Rattle.rc_core.specs.Runs.{Run, Go, Stopped, bind, branching, trap, tested, touching, Target}
 use Rattle.rc_core.specs.Source.{World, Spot, at_region, at_address, at_spot, is_index, chosen_in_range, cell_of}
 use Rattle.std.specs.Prelude.{◌+ℤ◌, pos, unsigned_abs, get_or}
 use Rattle.rc_code.specs.StoreModel.{Held, lives, on_region, on_address, on_spot}
-use Rattle.rc_worlds.specs.Worlds.{Compared, model, mapped}
+use Rattle.rc_worlds.specs.Worlds.{Compared, failed, model, mapped}
 use Rattle.rc_worlds.specs.Typed.{Good, Grows, AsFresh, Reaches}
 use Rattle.rc_worlds.proofs.Looks.{lives_same, in_view, counts_renamed}
 
--- a check with a mark failed where the source's world watches them: nothing is said of the store
+-- a check with a mark may have failed where the source's world watches them: nothing is said of the store
 abbrev pub Excused : Compared → {A : Type 0} → Run World A → Type 0
 Excused image (Go x w) = ⊥
-Excused image (Stopped (Ends end) w) = ⊥
-Excused image (Stopped (Stale line) w) = (image.marked ≡ true) × (image.watching ≡ true)
+Excused image (Stopped stop w) = (image.marked ≡ true) × (image.watching ≡ true) × ((line : ℕ) × (stop ≡ failed image.apart line))
 
 abbrev pub Same : Compared → {A : Type 0} → Run World A → Run Held A → Type 0
 Same image m m' = Excused image m ⊎ (m' ≡ mapped image m)
@@ -75,8 +74,7 @@ module _ (image : Compared) where
     where
       by : (m : Run World _) → Same image m m' → IfGoes (λ x w1. Reaches image w w1 × P x w1) m → Does image w Q (bind m next) (bind m' next')
       by (Go x w1) (inl e) goes = absurd e
-      by (Stopped (Ends end) w1) (inl e) goes = absurd e
-      by (Stopped (Stale line) w1) (inl e) goes = record { same = inl e; goes = tt }
+      by (Stopped stop w1) (inl e) goes = record { same = inl e; goes = tt }
       by (Go x w1) (inr same) goes = subst (λ m'. Does image w Q (next x w1) (bind m' next')) (sym same) (does_from w w1 Q (next x w1) (next' x (model image.name w1)) goes.0 (k x w1 goes.0 goes.1))
       by (Stopped s w1) (inr same) goes = subst (λ m'. Does image w Q (Stopped s w1) (bind m' next')) (sym same) (record { same = inr refl; goes = tt })
 

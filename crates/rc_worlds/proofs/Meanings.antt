@@ -3,7 +3,7 @@ use Rattle.std.proofs.Common.{◌≡◌, ℕ, Bool, true, false, List, [], ◌�
 use Rattle.rc_base.specs.declared.ends.Limits.{Limits}
 use Rattle.rc_core.specs.Heap.{Value, Heap, Object}
 use Rattle.rc_core.specs.Meaning.{object_left, region_left, left_by_run, meaning_of_run}
-use Rattle.rc_core.specs.Runs.{Run, Go, Stopped, Ends, Stale}
+use Rattle.rc_core.specs.Runs.{Run, Go, Stopped}
 use Rattle.rc_core.specs.Source.{World}
 use Rattle.rc_code.specs.declared.image.Parts.{Parts}
 use Rattle.rc_code.specs.Image.{FieldsFit}
@@ -33,7 +33,7 @@ regions_left (g ∷ heap) = ap (λ v. v ∷ map view_left (map (seen (λ ty. ty)
 
 module _ (parts : Parts) (fields : FieldsFit parts) (marked watching : Bool) (rules : ReadingIsSound marked (reading_of parts)) (input : List ℕ) (limits : Limits) where
   abbrev image : Compared
-  image = record { code = reading_of parts; marked = marked; name = λ ty. ty; watching = watching; ranged = false }
+  image = record { code = reading_of parts; marked = marked; name = λ ty. ty; watching = watching; apart = false; ranged = false }
 
   runs : (Excused image (world_run image input limits) → ⊥) → image_run parts input limits ≡ mapped image (world_run image input limits)
   runs none =
@@ -58,8 +58,7 @@ module _ (parts : Parts) (fields : FieldsFit parts) (marked watching : Bool) (ru
 
   not_excused : (m : Run World Value) → IsNotStale (meaning_of_run input m) → Excused image m → ⊥
   not_excused (Go v w) never e = e
-  not_excused (Stopped (Ends end) w) never e = e
-  not_excused (Stopped (Stale line) w) never e = never line refl
+  not_excused (Stopped stop w) never e = never e.2.0 e.2.1
 
 pub unmarked_same : (parts : Parts) → FieldsFit parts → SoundUnmarked parts → (input : List ℕ) (limits : Limits) → AreTheSame parts (looking false parts) input limits
 unmarked_same parts fields rules input limits = same parts fields false true rules input limits (unmarked (looking false parts) (image_is_sound parts fields (looking false parts) refl rules) refl (world_run (looking false parts) input limits))

@@ -13,7 +13,7 @@ use Rattle.rc_core.specs.Arithmetic.{type_of}
 use Rattle.rc_core.specs.Typing.{fits}
 use Rattle.rc_kinds.proofs.InRange.{IfOk, converted_fits, truth_fits, byte_of_fits}
 use Rattle.rc_core.specs.Heap.{Value, Number, Null, Handle, Pointer, Heap}
-use Rattle.rc_core.specs.Runs.{Run, Go, Ends, Stale, Stopped, bind, computed, Calls}
+use Rattle.rc_core.specs.Runs.{Run, Go, Stopped, bind, computed, Calls}
 use Rattle.rc_core.specs.Source.{World, source}
 use Rattle.rc_core.specs.Evaluation.{number_in, is_true, same_value, toward, region_named, give_number, local_at, static}
 use Rattle.rc_core.specs.Execution.{with_local}
@@ -297,8 +297,7 @@ module _ (image : Compared) where
       where
         by : (m : Run World Value) → Same image m m' → IfGoes (λ v w1. Reaches image (source.enter held w) w1 × P v w1) m → Does image w Q (bind m (λ v w1. go v (source.leave w w1))) (bind m' (λ v w1. go' v ((naming image.name).leave (model image.name w) w1)))
         by (Go v w1) (inl e) goes = absurd e
-        by (Stopped (Ends end) w1) (inl e) goes = absurd e
-        by (Stopped (Stale line) w1) (inl e) goes = record { same = inl e; goes = tt }
+        by (Stopped stop w1) (inl e) goes = record { same = inl e; goes = tt }
         by (Go v w1) (inr same) goes =
             let a = leave_reaches image held w w1 goes.0 in
             subst (λ m'. Does image w Q (go v (source.leave w w1)) (bind m' (λ v w1. go' v ((naming image.name).leave (model image.name w) w1)))) (sym same)

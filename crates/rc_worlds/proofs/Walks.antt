@@ -2,7 +2,7 @@
 use Rattle.std.proofs.Common.{◌≡◌, ℕ, zero, suc, ◌+◌, ◌<◌, ◌≤◌, false, List, [], ◌∷◌, length, map, take, slice_get, Some, None, refl, sym, ap, ◌∙◌, subst, ◌⊎◌, inl, inr, arith}
 use Rattle.std.proofs.lemmas.Option.{get_or_from_slice_get, slice_get_within}
 use Rattle.rc_core.specs.Heap.{Heap}
-use Rattle.rc_core.specs.Runs.{Run, Go, Stopped, Ends, Stale, bind, Calls}
+use Rattle.rc_core.specs.Runs.{Run, Go, Stopped, bind, Calls}
 use Rattle.rc_core.specs.Source.{World}
 use Rattle.rc_core.specs.declared.ty.NumberType.TheVariants.{Int}
 use Rattle.rc_code.specs.declared.kind.Storage.TheVariants as storage
@@ -103,7 +103,7 @@ module _ (image : Compared) (sound : ImageIsSound image) where
       nothing : parameter_kinds (function_at image.code image.code.parts.main) ≡ []
       nothing = ap (λ n. map kind_of (take n (function_at image.code image.code.parts.main).locals)) sound.rules.main_takes
 
-  -- without marks always, and with marks where the source's run is never Stale
+  -- without marks always, and with marks where no check that is left out fails in the source's run
   pub exact : (w : World) → Good image w → (Excused image (run_main (watched image) image.code w) → ⊥) → run_main (trusting image.name) image.code (model image.name w) ≡ mapped image (run_main (watched image) image.code w)
   exact w good none = by (change_of_world w good).same
     where
@@ -113,14 +113,12 @@ module _ (image : Compared) (sound : ImageIsSound image) where
 
   pub unmarked : image.marked ≡ false → {A : Type 0} → (m : Run World A) → Excused image m → ⊥
   unmarked none (Go x w) e = e
-  unmarked none (Stopped (Ends end) w) e = e
-  unmarked none (Stopped (Stale line) w) e = let marked = e.0 in cc
+  unmarked none (Stopped stop w) e = let marked = e.0 in cc
 
   -- and where it trusts them, always
   pub trusted : image.watching ≡ false → {A : Type 0} → (m : Run World A) → Excused image m → ⊥
   trusted none (Go x w) e = e
-  trusted none (Stopped (Ends end) w) e = e
-  trusted none (Stopped (Stale line) w) e = let watching = e.1 in cc
+  trusted none (Stopped stop w) e = let watching = e.1 in cc
 
   -- `main` has no parameters
   pub no_parameters : (heap : Heap) → AreKinds image heap (parameter_kinds (function_at image.code image.code.parts.main)) []

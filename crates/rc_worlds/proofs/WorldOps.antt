@@ -24,7 +24,7 @@ use Rattle.rc_kinds.proofs.InRange.{byte_fits}
 use Rattle.rc_code.specs.Running.{layout_at}
 use Rattle.rc_code.specs.StoreModel.{Held, lives, parent_in, with_objects_in, with_store, turn_in, byte_in, value_in, kind_in, put_in, stored_in, made_in, allocated_in, deleted_in}
 use Rattle.rc_code.specs.Soundness.{Kind, handles, pointers}
-use Rattle.rc_worlds.specs.Worlds.{Compared, model, naming, named_cell, renamed, seen, put_by, deleted_by, delete_by}
+use Rattle.rc_worlds.specs.Worlds.{Compared, model, naming, named_cell, renamed, seen, passing, put_by, deleted_by, delete_by}
 use Rattle.rc_worlds.specs.Typed.{Shape, shape_of, shape_there, LeadsTo, InRange, HasKind, Stored, ObjectIsTyped, RegionIsTyped, HeapIsTyped, IsMade, IsTree, IsSoundBy, Good, Grows, AsFresh, Reaches}
 use Rattle.rc_worlds.proofs.Looks.{lives_same, all_lives_same, in_view, parent_in_view, child_same, killed_seen, changed_seen, map_append, length_seen, filter_same, blank_renamed, counts_renamed, length_renamed, note_renamed, value_renamed, appended_renamed, put_renamed}
 use Rattle.rc_worlds.proofs.Counts.{decisions_agree, not_child, turned, waiting_apart}
@@ -393,7 +393,7 @@ module _ (image : Compared) where
 
   -- without the check over the store: where it fails over the source's world, nothing is said
   pub put_does : (b : Bool) → b ≡ image.watching → (proved : Bool) → (proved ≡ true → image.marked ≡ true) → (line : ℕ) (x : Target) (v : Value) (w : World) → Good image w → ((a : Address) (spot : Spot) → IsSpot image w x a spot → Stored image w.heap (get_or (object_of w.heap spot).layout spot.cell int_cell) v)
-      → Does image w Any (put_by b proved line x v w) (stored_in proved line x v (model image.name w))
+      → Does image w Any (put_by image.apart b proved line x v w) (stored_in proved line x v (model image.name w))
   put_does true watching false marked line x v w good each = store_does line x v w good each
   put_does false watching false marked line x v w good each = store_does line x v w good each
   put_does false watching true marked line x v w good each = does_spot image line x w Any _ _ (λ a spot is.
@@ -404,6 +404,6 @@ module _ (image : Compared) where
       by a spot is fresh (fits (parent w.heap) (note_of (get_or (object_of w.heap spot).layout spot.cell int_cell)) spot.region v) refl))
     where
       by : (a : Address) (spot : Spot) → IsSpot image w x a spot → IsFresh (live w.heap) v → (b : Bool) → fits (parent w.heap) (note_of (get_or (object_of w.heap spot).layout spot.cell int_cell)) spot.region v ≡ b
-          → Does image {A = Unit {0}} w (λ _ w1. Unit {0}) (touching b line w (Go tt (with_heap w (written spot (v ∷ []) w.heap)))) (Go tt (with_store (model image.name w) (put_in spot v (model image.name w).store)))
+          → Does image {A = Unit {0}} w (λ _ w1. Unit {0}) (passing image.apart b line w (Go tt (with_heap w (written spot (v ∷ []) w.heap)))) (Go tt (with_store (model image.name w) (put_in spot v (model image.name w).store)))
       by a spot is fresh true fit = writes x v w good a spot is (each a spot is) fresh (sound_written image.watching x v w a spot good.sound is fresh fit)
-      by a spot is fresh false fit = record { same = inl (marked refl, sym watching); goes = tt }
+      by a spot is fresh false fit = record { same = inl (marked refl, sym watching, (line, refl)); goes = tt }

@@ -29,10 +29,10 @@ image_world image input limits = record {
 -- an image as it is written: where the run over the source's world looks at each cell at a deletion and makes each check, and
 -- where it counts and trusts the marks
 abbrev pub looking : (marked : Bool) → Parts → Compared
-looking marked parts = record { code = reading_of parts; marked = marked; name = λ ty. ty; watching = true; ranged = false }
+looking marked parts = record { code = reading_of parts; marked = marked; name = λ ty. ty; watching = true; apart = false; ranged = false }
 
 abbrev pub counting : (ranged : Bool) → Parts → Compared
-counting ranged parts = record { code = reading_of parts; marked = true; name = λ ty. ty; watching = false; ranged = ranged }
+counting ranged parts = record { code = reading_of parts; marked = true; name = λ ty. ty; watching = false; apart = false; ranged = ranged }
 
 -- each byte that a global begins with is one
 abbrev pub AreBytes : Initial → Type 0

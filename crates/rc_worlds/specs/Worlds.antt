@@ -4,25 +4,28 @@
 -- the source's world there are two ways: it looks at each cell and makes the checks that a mark proved, or it counts and trusts
 -- the marks as the store does.
 use Rattle.std.specs.Prelude.{ℕ, Bool, true, false, not, nat_eq, List, [], ◌∷◌, ◌++◌, map, filter, get_or, Option, Some, None}
+use Rattle.rc_base.specs.declared.ends.End.TheVariants.{Spent}
 use Rattle.rc_base.specs.declared.ends.Trap.TheVariants.{Root, Subregion, Reference}
 use Rattle.rc_core.specs.Types.{Ty, CellKind, int_cell, unsigned_cell, char_cell, region_cell, pointer_cell}
 use Rattle.rc_core.specs.Layout.{note_of}
 use Rattle.rc_core.specs.Heap.{Value, Object, Region, is_fresh, fits, live, parent}
 use Rattle.rc_core.specs.Store.{View, refs}
-use Rattle.rc_core.specs.Runs.{Run, Go, Stopped, tested, touching, Target, Ops}
+use Rattle.rc_core.specs.Runs.{Stop, Ends, Stale, Run, Go, Stopped, tested, touching, Target, Ops}
 use Rattle.rc_core.specs.Source.{World, with_heap, object_of, at_region, at_spot, written, has_child, killed, deleted, source}
 use Rattle.rc_code.specs.Running.{Reading, Doing, pointee}
 use Rattle.rc_code.specs.StoreModel.{Held, store_model, stored_in}
 
 -- An image of which the run over the source's world and that over the store are compared. `marked` says whether a store may have
 -- the mark, `name` by what name the store keeps a type, and `watching` whether the run over the source's world looks and checks,
--- or counts and trusts the marks. `ranged` says whether each byte that a run is given is one: those of the input, and those that
--- a global begins with.
+-- or counts and trusts the marks. Where it checks, `apart` says how a check that a mark leaves out and that fails stops it: as one
+-- that has no turns left, so that it is told from one that touches a dead region; else as that one. `ranged` says whether each byte
+-- that a run is given is one: those of the input, and those that a global begins with.
 pub record Compared : Type 0 where
   pub code : Reading
   pub marked : Bool
   pub name : Ty → Ty
   pub watching : Bool
+  pub apart : Bool
   pub ranged : Bool
 
 -- the source's world as that of a store: the views of live regions, and the waiting values that name none that is dead; a
@@ -56,13 +59,22 @@ model name w = record {
 abbrev pub naming : (Ty → Ty) → Ops Held
 naming name = record store_model { allocate = λ line v count layout w. store_model.allocate line v count (map (named_cell name) layout) w }
 
--- the source's world where a check that was proved stops the run as a touched region does, and the store where it is omitted
-abbrev pub watched_put : (proved : Bool) → (line : ℕ) → Target → Value → World → Run World (Unit {0})
-watched_put false line t v w = source.store line t v w
-watched_put true line t v w =
+-- a check that was proved, where it is made and fails
+abbrev pub failed : (apart : Bool) → (line : ℕ) → Stop
+failed true line = Ends Spent
+failed false line = Stale line
+
+abbrev pub passing : {A : Type 0} → (apart fits : Bool) → (line : ℕ) → World → Run World A → Run World A
+passing apart true line w m = m
+passing apart false line w m = Stopped (failed apart line) w
+
+-- the source's world where such a check is made, and the store where it is omitted
+abbrev pub watched_put : (apart proved : Bool) → (line : ℕ) → Target → Value → World → Run World (Unit {0})
+watched_put apart false line t v w = source.store line t v w
+watched_put apart true line t v w =
     at_spot line t w (λ spot.
     touching (is_fresh (live w.heap) v) line w
-    (touching (fits (parent w.heap) (note_of (get_or (object_of w.heap spot).layout spot.cell int_cell)) spot.region v) line w
+    (passing apart (fits (parent w.heap) (note_of (get_or (object_of w.heap spot).layout spot.cell int_cell)) spot.region v) line w
     (Go tt (with_heap w (written spot (v ∷ []) w.heap)))))
 
 -- where it trusts, it does as the store does: the mark omits the check, and a deletion counts
@@ -70,9 +82,9 @@ abbrev pub trusted_put : (proved : Bool) → (line : ℕ) → Target → Value �
 trusted_put false line t v w = source.store line t v w
 trusted_put true line t v w = at_spot line t w (λ spot. touching (is_fresh (live w.heap) v) line w (Go tt (with_heap w (written spot (v ∷ []) w.heap))))
 
-abbrev pub put_by : (watching : Bool) → (proved : Bool) → (line : ℕ) → Target → Value → World → Run World (Unit {0})
-put_by true proved line t v w = watched_put proved line t v w
-put_by false proved line t v w = trusted_put proved line t v w
+abbrev pub put_by : (apart watching proved : Bool) → (line : ℕ) → Target → Value → World → Run World (Unit {0})
+put_by apart true proved line t v w = watched_put apart proved line t v w
+put_by apart false proved line t v w = trusted_put proved line t v w
 
 abbrev pub counted : (Ty → Ty) → (line : ℕ) → (held : List Value) → (r : ℕ) → World → Run World (Unit {0})
 counted name line held r w =
@@ -90,7 +102,7 @@ abbrev pub delete_by : Compared → (line : ℕ) → (held : List Value) → Val
 delete_by image line held v w = at_region line v w (λ r. deleted_by image.watching image.name line held r w)
 
 abbrev pub watched : Compared → Doing World
-watched image = record { ops = record source { delete = delete_by image }; put = put_by image.watching }
+watched image = record { ops = record source { delete = delete_by image }; put = put_by image.apart image.watching }
 
 abbrev pub trusting : (Ty → Ty) → Doing Held
 trusting name = record { ops = naming name; put = stored_in }

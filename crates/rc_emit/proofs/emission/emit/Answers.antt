@@ -1,15 +1,18 @@
-use Rattle.std.proofs.Common.{◌≡◌, sym, subst}
+use Rattle.std.proofs.Common.{◌≡◌, map, sym, subst}
 use Rattle.rc_code.specs.Soundness.{Sound}
 use Rattle.rc_code.specs.declared.image.Parts.{Parts}
 use Rattle.rc_elim.specs.Masks.{marks_in}
 use Rattle.rc_image_rules.specs.Small.{IsSmall}
 use Rattle.rc_marked_rules.proofs.Kept.{marked_sound}
 use Rattle.rc_marks.specs.InOrder.{mask_of}
-use Rattle.rc_marks.specs.Marked.{image_stores, with_bits}
-use Rattle.rc_marks.specs.Stores.{stores}
-use Rattle.rc_marks.proofs.MarksCounted.{has_its_marks}
+use Rattle.rc_marks.specs.Marked.{image_stores}
+use Rattle.rc_counted.specs.Counted.{all_sites, stored}
+use Rattle.rc_counted.proofs.Counted.{stores_are_sites}
 use Rattle.rc_numbering.proofs.Programs.{rlang_is_numberable}
+use Rattle.rc_numbering.specs.Numbered.{image_of}
 use Rattle.rc_rlang.specs.Shapes.{rlang_of}
+use Rattle.rc_unchecked.specs.Regions.{DoesWhatItsCodeDoes}
+use Rattle.rc_unchecked.proofs.Faithful.{does_what_its_code_does}
 use Rattle.rc_emit.proofs.Answered.{if_ok}
 use Rattle.rc_emit.proofs.emission.emit.Goals as goal
 
@@ -22,5 +25,12 @@ returns-clause-sound c = let r = rlang_of c.args.code.now in if_ok c.marked.resu
 pub returns-clause-stores : goal.returns-clause-stores
 returns-clause-stores c =
     let r = rlang_of c.args.code.now in
-    let mask = mask_of (marks_in c.args.mask.now) r in
-    if_ok c.marked.result (λ i e. subst (λ (image : Parts). image_stores image ≡ with_bits mask 0 (stores r)) (sym e) (has_its_marks r mask (rlang_is_numberable r c.parts-parts.ensures.fits))) c.marked.ensures
+    let marks = marks_in c.args.mask.now in
+    if_ok c.marked.result (λ i e. subst (λ (image : Parts). image_stores image ≡ map (stored marks) (all_sites r)) (sym e) (stores_are_sites r (rlang_is_numberable r c.parts-parts.ensures.fits) marks)) c.marked.ensures
+
+pub returns-clause-does : goal.returns-clause-does
+returns-clause-does c =
+    let r = rlang_of c.args.code.now in
+    let marks = marks_in c.args.mask.now in
+    let small : IsSmall (image_of r) = subst IsSmall c.in_ok-bare.ensures.image c.in_ok-bare.ensures.small in
+    if_ok c.marked.result (λ i e. subst (DoesWhatItsCodeDoes r marks) (sym e) (does_what_its_code_does r c.parts-parts.ensures.fits small marks)) c.marked.ensures
