@@ -91,15 +91,16 @@ pub fn pin_all<H: Heap>(heap: &mut H, pile: &Pile, pins: &[u32]) -> Result<(), N
     Ok(())
 }
 
-/// Takes the pins of these locals' values away, of those that name no dead region.
+/// Takes the pins of these locals' values away, of those that name no dead region: the last one first, as
+/// it was pinned last.
 #[inline(always)]
 pub fn unpin_all<H: Heap>(heap: &mut H, pile: &Pile, pins: &[u32])
     requires locals { AreLocals pins.now pile.now }
     requires held { AreHeld (pinned pins.now pile.now.locals) (H.store heap.old) }
     ensures { IsUnpinned (pinned pins.now pile.now.locals) (H.store heap.old) (H.store heap.new) }
 {
-    for local in pins {
-        let value = pile.local(*local).cell();
+    for i in (0..pins.len()).rev() {
+        let value = pile.local(pins[i]).cell();
         unpin_fresh(heap, value);
     }
 }
