@@ -19,12 +19,12 @@ use std::sync::ledger::Ledger;
 /// The objects of a region, in the order in which they were made. Contracts see what is kept of each
 /// and the codes of all cells; with the shapes, `specs/Areas.antt` says which objects these are.
 #[derive(Drop)]
-pub struct Area {
+pub struct Area<L: Ledger> {
     heads: Vec<Head>,
-    cells: Pages,
+    cells: Pages<L>,
 }
 
-impl Model for Area {
+impl<L: Ledger> Model for Area<L> {
     ghost use Rattle.std.specs.Prelude.{◌≤◌, length};
     ghost use Rattle.rc_areas.specs.Areas.{AreaState};
 
@@ -35,9 +35,9 @@ impl Model for Area {
     ghost invariant = { λ a. length a.cells ≤ 18446744073709551615 };
 }
 
-impl Area {
+impl<L: Ledger> Area<L> {
     /// No object. It takes no memory.
-    pub fn new(alloc: Global) -> Area
+    pub fn new(alloc: Global) -> Area<L>
         ensures { result ≡ record { heads = []; codes = [] } }
     {
         Area {
@@ -90,7 +90,7 @@ impl Area {
 
     /// The value of a cell.
     #[inline(always)]
-    pub fn get<L: Ledger>(
+    pub fn get(
         &self,
         object: u32,
         index: u32,
@@ -126,7 +126,7 @@ impl Area {
 
     /// Writes a cell, and answers what it held. The value is one of those that the cell may hold.
     #[inline(always)]
-    pub fn replace<L: Ledger>(
+    pub fn replace(
         &mut self,
         object: u32,
         index: u32,
@@ -165,7 +165,7 @@ impl Area {
         count: u32,
         size: u64,
         shapes: &Shapes,
-        bank: &mut Bank,
+        bank: &mut Bank<L>,
     ) -> Result<(), NoMemory>
         requires laid { IsLaid shapes.now self.old }
         requires shape { shape < length shapes.now }
@@ -199,7 +199,7 @@ impl Area {
     }
 
     /// The code of a cell, by its place among all.
-    pub fn code<L: Ledger>(&self, place: u64, steps: &mut Steps<L>) -> u128
+    pub fn code(&self, place: u64, steps: &mut Steps<L>) -> u128
         requires { place < length self.now.codes }
         ensures code { result ≡ slice_index self.now.codes place }
         ensures step { steps.new ≡ steps.old + 1 }
@@ -209,7 +209,7 @@ impl Area {
 
     /// Lets all objects go. Their pages go to the bank as far as it has free places. It takes no
     /// memory.
-    pub fn clear(&mut self, bank: &mut Bank)
+    pub fn clear(&mut self, bank: &mut Bank<L>)
         ensures { self.new ≡ record { heads = []; codes = [] } }
     {
         self.cells.give_back(bank);

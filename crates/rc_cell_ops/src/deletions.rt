@@ -20,7 +20,6 @@ use rc_heap_ops::live_region;
 use rc_ops::{Counter, Exit, Running, Setting};
 use rc_pile::Pile;
 use rc_store::{Denied, Heap};
-use std::sync::ledger::Ledger;
 
 /// The locals that the deletion at this place pins. None where there is no deletion.
 #[inline(always)]
@@ -65,12 +64,12 @@ fn names_any(pile: &Pile, pins: &[u32], region: u32) -> bool
 ///
 /// The trap of a region that must stay.
 #[inline(always)]
-fn free_unnamed<H: Heap, L: Ledger>(
+fn free_unnamed<H: Heap>(
     heap: &mut H,
     _pile: &Pile,
     _pins: &[u32],
     region: u32,
-    steps: &mut Steps<L>,
+    steps: &mut Steps<H::Counter>,
 ) -> Result<(), Exit>
     requires live { IsLive (H.store heap.old) region }
     requires unnamed { list_any (names region) (pinned _pins.now _pile.now.locals) ≡ false }
@@ -91,12 +90,12 @@ fn free_unnamed<H: Heap, L: Ledger>(
 ///
 /// The trap of a region that must stay. Or out of memory.
 #[inline(always)]
-fn free_pinned<H: Heap, L: Ledger>(
+fn free_pinned<H: Heap>(
     heap: &mut H,
     pile: &Pile,
     pins: &[u32],
     region: u32,
-    steps: &mut Steps<L>,
+    steps: &mut Steps<H::Counter>,
 ) -> Result<(), Exit>
     requires locals { AreLocals pins.now pile.now }
     requires live { IsLive (H.store heap.old) region }
@@ -122,12 +121,12 @@ fn free_pinned<H: Heap, L: Ledger>(
 ///
 /// The trap of a region that must stay. Or out of memory.
 #[inline(always)]
-fn free<H: Heap, L: Ledger>(
+fn free<H: Heap>(
     heap: &mut H,
     pile: &Pile,
     pins: &[u32],
     region: u32,
-    steps: &mut Steps<L>,
+    steps: &mut Steps<H::Counter>,
 ) -> Result<(), Exit>
     requires locals { AreLocals pins.now pile.now }
     requires live { IsLive (H.store heap.old) region }
@@ -142,14 +141,14 @@ fn free<H: Heap, L: Ledger>(
 
 /// Deletes the region on the stack.
 #[inline(always)]
-pub fn delete<H: Heap, L: Ledger>(
+pub fn delete<H: Heap>(
     setting: &Setting,
     heap: &mut H,
     running: Running,
     pile: &mut Pile,
     at: &mut Counter,
     _operand: u32,
-    steps: &mut Steps<L>,
+    steps: &mut Steps<H::Counter>,
 ) -> Option<Exit>
     requires inside { IsInside at.old }
     requires ready { IsReadyFor setting.now.image.now (at_of running at.old) pile.old (H.store heap.old) running.start (Other Delete _operand) }

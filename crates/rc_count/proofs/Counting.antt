@@ -1,22 +1,24 @@
 -- The counts stay the references, call by call.
-use Rattle.std.proofs.Common.{◌≡◌, ◌≢◌, ◌<◌, ◌≤◌, ◌+◌, ◌-◌, ◌*◌, ◌∙◌, inl, inr, ℕ, ℤ, zero, suc, Bool, true, false, cond, nat_eq, IsTrue, List, [], ◌∷◌, Option, Some, None, length, set, refl, sym, ap, arith, rules}
+use Rattle.std.proofs.Common.{◌≡◌, ◌≢◌, ◌<◌, ◌≤◌, ◌+◌, ◌-◌, ◌*◌, ◌∙◌, inl, inr, ℕ, ℤ, zero, suc, Bool, true, false, cond, nat_eq, IsTrue, List, [], ◌∷◌, ◌++◌, Option, Some, None, length, set, refl, sym, ap, arith, rules, length-append}
 use Rattle.std.specs.Prelude.{◌&&◌, IsPermutation}
 use Rattle.std.specs.List.{sum_by}
 use Rattle.std.proofs.lemmas.Bool.{cases_eq, false≢true}
 use Rattle.std.proofs.lemmas.List.Sorted.{length_permutation, sum_by-IsPermutation}
-use Rattle.std.proofs.lemmas.List.Sums.{sum_by-cons}
+use Rattle.std.proofs.lemmas.List.Sums.{sum_by-append, sum_by-cons}
 use Rattle.rc_core.specs.declared.ty.Note.TheVariants.{Plain, SameRegion, ParentPtr, Traditional}
 use Rattle.rc_core.specs.declared.layouts.Kind.{Kind}
 use Rattle.rc_core.specs.declared.layouts.Kind.TheVariants.{Number as NumberKind, Region as RegionKind, Pointer as PointerKind}
 use Rattle.rc_core.specs.Layout.{is_plain}
-use Rattle.rc_core.specs.Heap.{Value, Number, Null, Handle, Pointer, is_fresh, names}
+use Rattle.rc_core.specs.Heap.{Value, Number, Null, Handle, Pointer, fits, is_fresh, names}
+use Rattle.rc_base.specs.declared.ends.Limits.{Limits}
 use Rattle.rc_store.specs.declared.cell.Place.{Place}
 use Rattle.rc_store.specs.Kept.{KeptStore, KeptView, Regions, object_refs, refs, view_refs}
-use Rattle.rc_store.specs.Stores.{IsFresh, IsLive, all_cells, allocated, cells_in, deleted, kind_at, live_in, made, objects_in, or_none, region_at, value_at, written}
+use Rattle.rc_store.specs.Stores.{IsFresh, IsLive, MayStand, all_cells, allocated, cells_in, deleted, has_child, kind_at, limited, live_in, made, objects_in, or_none, parent_in, region_at, value_at, written}
 use Rattle.rc_store.specs.Values.{is_counted, note_of, suits}
 use Rattle.rc_counts.specs.Follow.{IsThere, cell_refs}
 use Rattle.rc_counts.proofs.Changes.{live_there, references_follow}
 use Rattle.rc_counts.proofs.Cells.{cells_follow}
+use Rattle.rc_whole.proofs.Whole.{stays_whole}
 use Rattle.rc_tally.specs.Tally.{held_refs, pin_refs, value_refs}
 use Rattle.rc_space.specs.Spaces.{SpaceState, count_of}
 use Rattle.rc_count.specs.Counted.{IsCounted}
@@ -68,6 +70,12 @@ number_cell r h NumberKind n v fit = none (nat_eq h r)
 number_cell r h RegionKind n v fit = absurd (false≢true fit)
 number_cell r h (PointerKind note) n v fit = absurd (false≢true fit)
 
+-- a cell that may hold a number isn't annotated
+number_plain : (k : Kind) (n : ℤ) → IsTrue (suits k (Number n)) → note_of k ≡ Plain
+number_plain NumberKind n fit = refl
+number_plain RegionKind n fit = refl
+number_plain (PointerKind note) n fit = absurd (false≢true fit)
+
 null_cell : (r h : ℕ) (k : Kind) → cell_refs r h k Null ≡ 0
 null_cell r h k = none (nat_eq h r) (is_counted k)
   where
@@ -81,15 +89,16 @@ module _ (before : SpaceState) (s : KeptStore) (cells : ℕ) (counted : IsCounte
   few_refs r = omega (arith, references_follow.few s r, counted.sum, counted.few)
 
   -- one region more
-  pub counted_made : (new : SpaceState) (parent : ℕ) → ((r : ℕ) → count_of new r ≡ count_of before r) → IsCounted new (made parent s) cells
-  counted_made new parent same = record {
+  pub counted_made : (new : SpaceState) (parent : ℕ) → IsLive s parent → ((r : ℕ) → count_of new r ≡ count_of before r) → IsCounted new (made parent s) cells
+  counted_made new parent live same = record {
     counts = λ r. same r ∙ counted.counts r ∙ sym (references_follow.made s parent r);
     sum = counted.sum ∙ sym (cells_follow.made s parent);
     few = counted.few;
+    whole = stays_whole.made s parent counted.whole live;
   }
 
   pub counted_same : (new : SpaceState) → ((r : ℕ) → count_of new r ≡ count_of before r) → IsCounted new s cells
-  counted_same new same = record { counts = λ r. same r ∙ counted.counts r; sum = counted.sum; few = counted.few }
+  counted_same new same = record { counts = λ r. same r ∙ counted.counts r; sum = counted.sum; few = counted.few; whole = counted.whole }
 
   -- one object more
   pub counted_allocated : (new : SpaceState) (q n : ℕ) (kinds : List Kind) (total : ℕ) → IsLive s q → ((r : ℕ) → count_of new r ≡ count_of before r) → total ≡ all_cells s + n * length kinds → total + length s.pins + s.spare ≤ 18446744073709551615
@@ -98,6 +107,7 @@ module _ (before : SpaceState) (s : KeptStore) (cells : ℕ) (counted : IsCounte
     counts = λ r. same r ∙ counted.counts r ∙ sym (references_follow.allocated s q n r kinds live);
     sum = is ∙ sym (cells_follow.allocated s q n kinds live);
     few = few;
+    whole = stays_whole.allocated s q n kinds counted.whole live;
   }
 
   -- a deletion
@@ -127,11 +137,12 @@ module _ (before : SpaceState) (s : KeptStore) (cells : ℕ) (counted : IsCounte
     pub cells_few : cells_in (region_at s.regions d) ≤ cells
     cells_few = omega (arith, cells_follow.deleted s d inside, counted.sum)
 
-    pub counted_deleted : (new : SpaceState) (fewer : ℕ) → ((r : ℕ) → count_of new r + held_refs r d (objects_in s.regions d) ≡ count_of before r) → fewer ≡ cells - cells_in (region_at s.regions d) → IsCounted new (deleted d s) fewer
-    counted_deleted new fewer taken is = record {
+    pub counted_deleted : (new : SpaceState) (fewer : ℕ) → d ≢ 0 → has_child s d ≡ false → refs s d ≡ 0 → ((r : ℕ) → count_of new r + held_refs r d (objects_in s.regions d) ≡ count_of before r) → fewer ≡ cells - cells_in (region_at s.regions d) → IsCounted new (deleted d s) fewer
+    counted_deleted new fewer below childless unnamed taken is = record {
       counts = λ r. omega (arith, taken r, counted.counts r, held_taken r);
       sum = omega (arith, is, cells_follow.deleted s d inside, counted.sum);
       few = omega (arith, is, counted.few);
+      whole = stays_whole.deleted s d counted.whole below childless unnamed;
     }
 
   -- a write
@@ -139,11 +150,12 @@ module _ (before : SpaceState) (s : KeptStore) (cells : ℕ) (counted : IsCounte
     written_few : (v : Value) (r : ℕ) → refs (written p v s) r + s.spare ≤ 18446744073709551615
     written_few v r = omega (arith, references_follow.few (written p v s) r, cells_follow.written s p v there.place, counted.sum, counted.few)
 
-    pub counted_kept : (v : Value) (new : SpaceState) → note_of (kind_at s p) ≢ Plain → ((r : ℕ) → count_of new r ≡ count_of before r) → IsCounted new (written p v s) cells
-    counted_kept v new noted same = record {
+    pub counted_kept : (v : Value) (new : SpaceState) → MayStand s p v → note_of (kind_at s p) ≢ Plain → IsTrue (fits (parent_in s.regions) (note_of (kind_at s p)) p.pointer.region v) → ((r : ℕ) → count_of new r ≡ count_of before r) → IsCounted new (written p v s) cells
+    counted_kept v new may noted fit same = record {
       counts = λ r. omega (arith, same r, counted.counts r, references_follow.written s p v r there, noted_cell r p.pointer.region (kind_at s p) (value_at s p) noted, noted_cell r p.pointer.region (kind_at s p) v noted);
       sum = counted.sum ∙ sym (cells_follow.written s p v there.place);
       few = counted.few;
+      whole = stays_whole.written s p v counted.whole may fit;
     }
 
     pub counted_number : (n : ℤ) (new : SpaceState) → IsTrue (suits (kind_at s p) (Number n)) → ((r : ℕ) → count_of new r ≡ count_of before r) → IsCounted new (written p (Number n) s) cells
@@ -151,6 +163,7 @@ module _ (before : SpaceState) (s : KeptStore) (cells : ℕ) (counted : IsCounte
       counts = λ r. omega (arith, same r, counted.counts r, references_follow.written s p (Number n) r there, number_cell r p.pointer.region (kind_at s p) n (value_at s p) fit, number_cell r p.pointer.region (kind_at s p) n (Number n) fit);
       sum = counted.sum ∙ sym (cells_follow.written s p (Number n) there.place);
       few = counted.few;
+      whole = stays_whole.plain s p (Number n) counted.whole (record { place = there.place; fresh = refl; kind = fit }) (number_plain (kind_at s p) n fit);
     }
 
     module _ (v old : Value) (is : old ≡ value_at s p) (plain : note_of (kind_at s p) ≡ Plain) (old_suits : IsTrue (suits (kind_at s p) (value_at s p))) (new_suits : IsTrue (suits (kind_at s p) v)) where
@@ -170,11 +183,12 @@ module _ (before : SpaceState) (s : KeptStore) (cells : ℕ) (counted : IsCounte
         pub new_few : (r : ℕ) → count_of mid r + value_refs r p.pointer.region v ≤ 18446744073709551615
         new_few r = omega (arith, taken r, counted.counts r, follows r, written_few v r)
 
-        pub counted_written : (new : SpaceState) → ((r : ℕ) → count_of new r ≡ count_of mid r + value_refs r p.pointer.region v) → IsCounted new (written p v s) cells
-        counted_written new given = record {
+        pub counted_written : (new : SpaceState) → IsFresh s v → ((r : ℕ) → count_of new r ≡ count_of mid r + value_refs r p.pointer.region v) → IsCounted new (written p v s) cells
+        counted_written new fresh given = record {
           counts = λ r. omega (arith, given r, taken r, counted.counts r, follows r);
           sum = counted.sum ∙ sym (cells_follow.written s p v there.place);
           few = counted.few;
+          whole = stays_whole.plain s p v counted.whole (record { place = there.place; fresh = fresh; kind = new_suits }) plain;
         }
 
   -- pins
@@ -188,12 +202,29 @@ module _ (before : SpaceState) (s : KeptStore) (cells : ℕ) (counted : IsCounte
   pub pin_few : (v : Value) (r : ℕ) → 0 < s.spare → count_of before r + pin_refs r v ≤ 18446744073709551615
   pin_few v r room = omega (arith, counted.counts r, few_refs r, at_most_one r v, room)
 
+  pub counted_pinned : (v : Value) (spare : ℕ) (new : SpaceState) → IsFresh s v → spare + 1 ≡ s.spare → ((r : ℕ) → count_of new r ≡ count_of before r + pin_refs r v)
+      → IsCounted new (record s { pins = s.pins ++ v ∷ []; spare = spare }) cells
+  counted_pinned v spare new fresh room given = record {
+    counts = λ r. omega (arith, given r, counted.counts r, sum_by-append (λ x. cond (names r x) 1 0) s.pins (v ∷ []), sum_by-cons (λ x. cond (names r x) 1 0) v []);
+    sum = counted.sum;
+    few = omega (arith, counted.few, room, length-append s.pins (v ∷ []));
+    whole = stays_whole.pinned s spare v counted.whole fresh;
+  }
+
+  -- as much room as there is
+  pub counted_spared : (spare : ℕ) → cells + length s.pins + spare ≤ 18446744073709551615 → IsCounted before (record s { spare = spare }) cells
+  counted_spared spare few = record { counts = counted.counts; sum = counted.sum; few = few; whole = stays_whole.spared s spare counted.whole }
+
+  pub counted_limited : (limits : Limits) → IsCounted before (limited limits s) cells
+  counted_limited limits = record { counts = counted.counts; sum = counted.sum; few = counted.few; whole = stays_whole.limited s limits counted.whole }
+
   pub counted_unpinned : (v : Value) (pins : List Value) (spare : ℕ) (new : SpaceState) → IsPermutation s.pins (v ∷ pins) → spare ≡ s.spare + 1 → ((r : ℕ) → count_of new r + pin_refs r v ≡ count_of before r)
       → IsCounted new (record s { pins = pins; spare = spare }) cells
   counted_unpinned v pins spare new moved room taken = record {
     counts = λ r. omega (arith, taken r, counted.counts r, sum_by-IsPermutation (λ x. cond (names r x) 1 0) s.pins (v ∷ pins) moved, sum_by-cons (λ x. cond (names r x) 1 0) v pins);
     sum = counted.sum;
     few = omega (arith, counted.few, room, length_permutation s.pins (v ∷ pins) moved);
+    whole = stays_whole.unpinned s spare v pins counted.whole moved;
   }
 
 -- a named region of a fresh value is live

@@ -1,14 +1,15 @@
 -- Several regions go at once: the counts stay the references.
-use Rattle.std.proofs.Common.{◌≡◌, ◌<◌, ◌≤◌, ◌+◌, ◌-◌, ◌∙◌, ℕ, zero, suc, true, cond, nat_eq, List, [], ◌∷◌, Option, Some, None, length, get_or, refl, sym, ap, subst, arith}
+use Rattle.std.proofs.Common.{◌≡◌, ◌<◌, ◌≤◌, ◌+◌, ◌-◌, ◌∙◌, ℕ, zero, suc, true, false, cond, nat_eq, List, [], ◌∷◌, Option, Some, None, length, get_or, refl, sym, ap, subst, arith}
 use Rattle.std.specs.Prelude.{All, Contains}
 use Rattle.std.specs.List.{sum_by}
 use Rattle.std.proofs.lemmas.List.Sums.{sum_by-cons}
 use Rattle.rc_store.specs.Kept.{KeptStore, KeptView, object_refs, refs, view_refs}
-use Rattle.rc_store.specs.Sets.{IsSet, deleted_all, is_member, refs_to, set_refs}
+use Rattle.rc_store.specs.Sets.{IsSet, deleted_all, has_child_outside, is_member, refs_to, set_refs}
 use Rattle.rc_store.specs.Stores.{objects_in, or_none, region_at}
 use Rattle.rc_counts.specs.Together.{held}
 use Rattle.rc_counts.proofs.Together.{place_of, sets_follow}
 use Rattle.rc_groups.proofs.Marked.{in_place}
+use Rattle.rc_whole.proofs.Whole.{stays_whole}
 use Rattle.rc_tally.specs.Tally.{held_refs}
 use Rattle.rc_space.specs.Spaces.{SpaceState, count_of}
 use Rattle.rc_count.specs.Counted.{IsCounted}
@@ -63,7 +64,7 @@ module _ (before : SpaceState) (s : KeptStore) (cells : ℕ) (counted : IsCounte
 
     -- they are given again
     pub counted_again : (new : SpaceState) → ((r : ℕ) → count_of new r ≡ count_of mid r + all_held s.regions set r) → IsCounted new s cells
-    counted_again new more = record { counts = λ r. omega (arith, more r, less r, counted.counts r); sum = counted.sum; few = counted.few }
+    counted_again new more = record { counts = λ r. omega (arith, more r, less r, counted.counts r); sum = counted.sum; few = counted.few; whole = counted.whole }
 
     to_member : (r : ℕ) → is_member set r ≡ true → refs_to s set r ≡ count_of mid r
     to_member r member = sets_follow.beside s set r member ∙ sym (left_counts r)
@@ -94,10 +95,18 @@ module _ (before : SpaceState) (s : KeptStore) (cells : ℕ) (counted : IsCounte
         by zero is = is
         by (suc n) is = absurd (none (get_or set k d, place_of set (get_or set k d) (in_place set k d inside), omega (arith, is)))
 
+    set_free : ¬ ((r : ℕ) × Contains set r × (0 < count_of mid r)) → set_refs s set ≡ 0
+    set_free none = by (set_refs s set) refl
+      where
+        by : (n : ℕ) → set_refs s set ≡ n → set_refs s set ≡ 0
+        by zero is = is
+        by (suc n) is = absurd (none (set_named (omega (arith, is))))
+
     -- and the set is gone
-    pub counted_set : (new : SpaceState) (fewer : ℕ) → ((r : ℕ) → count_of new r ≡ count_of mid r) → fewer ≡ cells - cells_among s.regions set → IsCounted new (deleted_all set s) fewer
-    counted_set new fewer same is = record {
+    pub counted_set : (new : SpaceState) (fewer : ℕ) → (¬ Contains set 0) → has_child_outside set 0 s.regions ≡ false → ¬ ((r : ℕ) × Contains set r × (0 < count_of mid r)) → ((r : ℕ) → count_of new r ≡ count_of mid r) → fewer ≡ cells - cells_among s.regions set → IsCounted new (deleted_all set s) fewer
+    counted_set new fewer below closed none same is = record {
       counts = λ r. same r ∙ left_counts r;
       sum = omega (arith, is, sets_follow.cells s set all, counted.sum);
       few = subst (λ (x : KeptStore). fewer + length x.pins + x.spare ≤ 18446744073709551615) (sym (sets_follow.left s set)) (omega (arith, is, counted.few));
+      whole = stays_whole.deleted_all s set counted.whole below closed (set_free none);
     }

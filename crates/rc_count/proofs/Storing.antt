@@ -19,4 +19,4 @@ module _ (before : SpaceState) (s : KeptStore) (cells : ℕ) (counted : IsCounte
       let there : IsThere s (place_from p shift cell) = record { place = m.place; kind = whole.kind; value = whole.value } in
       subst (λ rs. IsCounted new (record s { regions = rs }) cells) (sym stores.1) (counted_number before s cells counted (place_from p shift cell) there number new m.kind same)
   counted_stored p shift cell number new (Err missed) stores whole may same =
-      subst (λ rs. IsCounted new (record s { regions = rs }) cells) (sym stores.1) (record { counts = λ r. same r ∙ counted.counts r; sum = counted.sum; few = counted.few })
+      subst (λ rs. IsCounted new (record s { regions = rs }) cells) (sym stores.1) (record { counts = λ r. same r ∙ counted.counts r; sum = counted.sum; few = counted.few; whole = counted.whole })

@@ -22,8 +22,8 @@ use std::sync::ledger::Ledger;
 /// A heap that keeps a count for each live region: how many counted cells of other live regions, and
 /// how many pins, name it. Of a dead region nothing is kept.
 #[derive(Drop)]
-pub struct CountHeap {
-    space: Space,
+pub struct CountHeap<L: Ledger> {
+    space: Space<L>,
     pins: Pins,
     /// How many cells all live regions have.
     cells: u64,
@@ -31,7 +31,7 @@ pub struct CountHeap {
     block_limit: u32,
 }
 
-impl Model for CountHeap {
+impl<L: Ledger> Model for CountHeap<L> {
     ghost use Rattle.rc_store.specs.Kept.{KeptStore};
     ghost use Rattle.rc_count.specs.Counted.{IsCounted};
 
@@ -44,7 +44,7 @@ impl Model for CountHeap {
 
 /// Whether a region may be named in a cell with the annotation, in an object of the holder's region.
 fn suits<L: Ledger>(
-    space: &Space,
+    space: &Space<L>,
     note: Note,
     holder: u32,
     region: u32,
@@ -76,14 +76,14 @@ fn size_of(count: u32, width: usize) -> Result<u64, NoMemory>
     }
 }
 
-impl CountHeap {
+impl<L: Ledger> CountHeap<L> {
     /// Region 0 alone, without objects, and nothing pinned. Both limits are 0.
     ///
     /// # Errors
     ///
     /// Out of memory.
-    pub fn new(alloc: Global) -> Result<CountHeap, NoMemory>
-        ensures { IfOk result (λ heap. ⟦<CountHeap as Heap>⟧.store heap ≡ record { regions = Some no_view ∷ []; pins = []; spare = 0; region_limit = 0; block_limit = 0 }) }
+    pub fn new(alloc: Global) -> Result<CountHeap<L>, NoMemory>
+        ensures { IfOk result (λ heap. ⟦<CountHeap<L> as Heap>⟧.store heap ≡ record { regions = Some no_view ∷ []; pins = []; spare = 0; region_limit = 0; block_limit = 0 }) }
     {
         Ok(CountHeap {
             space: Space::new(alloc)?,
@@ -139,7 +139,7 @@ impl CountHeap {
     /// what the new one counts is given. It goes into its caller, so that place and value needn't pass through
     /// memory.
     #[inline(always)]
-    fn write_reference<L: Ledger>(&mut self, place: Place, value: Cell, steps: &mut Steps<L>)
+    fn write_reference(&mut self, place: Place, value: Cell, steps: &mut Steps<L>)
         requires may { MayStand self.old place (value_of value) }
         requires plain { note_of (kind_at self.old place) ≡ Plain }
         ensures written { self.new ≡ written place (value_of value) self.old }
@@ -152,7 +152,7 @@ impl CountHeap {
     }
 
     /// Lets a region go that isn't region 0, has no child and isn't named.
-    fn let_go<L: Ledger>(&mut self, region: u32, steps: &mut Steps<L>)
+    fn let_go(&mut self, region: u32, steps: &mut Steps<L>)
         requires live { IsLive self.old region }
         requires not_root { region ≢ 0 }
         requires childless { has_child self.old region ≡ false }
@@ -167,12 +167,20 @@ impl CountHeap {
     }
 }
 
-impl Heap for CountHeap {
+impl<L: Ledger> Heap for CountHeap<L> {
     ghost use Rattle.rc_store.specs.Stores.{cells_in, region_at};
 
     ghost store = { λ h. h };
 
     ghost most_reads = { λ h r. cells_in (region_at h.regions r) };
+
+    type Counter = L;
+
+    #[inline(always)]
+    fn stays_whole(&self) {
+        // Where a field is read, what holds of the value is known.
+        let _limit = self.block_limit;
+    }
 
     fn new_region(&mut self, parent: u32) -> Result<u32, MakeFault> {
         let number = self.space.len();
@@ -213,12 +221,12 @@ impl Heap for CountHeap {
     }
 
     #[inline(always)]
-    fn read<L: Ledger>(&self, place: Place, steps: &mut Steps<L>) -> Cell {
+    fn read(&self, place: Place, steps: &mut Steps<L>) -> Cell {
         self.space.read(place, steps)
     }
 
     #[inline(always)]
-    fn load<L: Ledger>(
+    fn load(
         &self,
         pointer: Pointer,
         shift: i64,
@@ -229,7 +237,7 @@ impl Heap for CountHeap {
     }
 
     #[inline(always)]
-    fn write_counted<L: Ledger>(&mut self, place: Place, value: Cell, steps: &mut Steps<L>) {
+    fn write_counted(&mut self, place: Place, value: Cell, steps: &mut Steps<L>) {
         match value {
             Cell::Number(_number) => self.space.write(place, value),
             _ => self.write_reference(place, value, steps),
@@ -237,7 +245,7 @@ impl Heap for CountHeap {
     }
 
     #[inline(always)]
-    fn store_number<L: Ledger>(
+    fn store_number(
         &mut self,
         pointer: Pointer,
         shift: i64,
@@ -253,7 +261,7 @@ impl Heap for CountHeap {
         self.space.write(place, value);
     }
 
-    fn fits<L: Ledger>(&self, note: Note, holder: u32, value: Cell, steps: &mut Steps<L>) -> bool {
+    fn fits(&self, note: Note, holder: u32, value: Cell, steps: &mut Steps<L>) -> bool {
         match value {
             Cell::Number(_) => true,
             Cell::Nothing => true,
@@ -284,7 +292,7 @@ impl Heap for CountHeap {
     ///
     /// For region 0, else where it has a live child, else where a counted cell of another live region
     /// or a pin names it. After an error nothing has changed.
-    fn delete<L: Ledger>(&mut self, region: u32, steps: &mut Steps<L>) -> Result<(), Denied>
+    fn delete(&mut self, region: u32, steps: &mut Steps<L>) -> Result<(), Denied>
         requires { IsLive self.old region }
         ensures ok { OnOk result (self.new ≡ deleted region self.old) }
         ensures err { OnErr result (self.new ≡ self.old) }
@@ -314,7 +322,7 @@ impl Heap for CountHeap {
     }
 }
 
-impl SetHeap for CountHeap {
+impl<L: Ledger> SetHeap for CountHeap<L> {
     /// Deletes live regions, each of which stands there once: all of them or none. It reads the cells of
     /// these regions alone, each at most twice, and looks at their children. It takes no memory.
     ///
@@ -323,7 +331,7 @@ impl SetHeap for CountHeap {
     /// Where region 0 is among them, else where a live region that isn't has a member as its parent,
     /// else where a counted cell of such a region, or a pin, names a member. After an error nothing has
     /// changed.
-    fn delete_set<L: Ledger>(&mut self, set: &[u32], steps: &mut Steps<L>) -> Result<(), Denied> {
+    fn delete_set(&mut self, set: &[u32], steps: &mut Steps<L>) -> Result<(), Denied> {
         if has_root(set) {
             return Err(Denied::Root);
         }

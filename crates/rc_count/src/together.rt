@@ -21,7 +21,7 @@ pub(crate) fn has_root(set: &[u32]) -> bool
 }
 
 /// Whether a reference to a region of a set is counted.
-pub(crate) fn is_named(space: &Space, set: &[u32]) -> bool
+pub(crate) fn is_named<L: Ledger>(space: &Space<L>, set: &[u32]) -> bool
     ensures { IsTrue result ↔ ((r : ℕ) × Contains set.now r × (0 < count_of space.now r)) }
 {
     for region in set {
@@ -33,7 +33,7 @@ pub(crate) fn is_named(space: &Space, set: &[u32]) -> bool
 }
 
 /// How many cells the regions of a set have, all of them live. They are few enough.
-pub(crate) fn cells_of(space: &Space, set: &[u32]) -> u64
+pub(crate) fn cells_of<L: Ledger>(space: &Space<L>, set: &[u32]) -> u64
     requires live { All (λ r. IsTrue (live_in space.now.regions r)) set.now }
     requires few { cells_among space.now.regions set.now ≤ 18446744073709551615 }
     ensures { result ≡ cells_among space.now.regions set.now }
@@ -47,7 +47,7 @@ pub(crate) fn cells_of(space: &Space, set: &[u32]) -> u64
 
 /// Takes back what the cells of a set's regions count, all of them live. Each cell that counts is read,
 /// which is a step.
-pub(crate) fn take_back_all<L: Ledger>(space: &mut Space, set: &[u32], steps: &mut Steps<L>)
+pub(crate) fn take_back_all<L: Ledger>(space: &mut Space<L>, set: &[u32], steps: &mut Steps<L>)
     requires live { All (λ r. IsTrue (live_in space.old.regions r)) set.now }
     requires enough { (r : ℕ) → all_held space.old.regions set.now r ≤ count_of space.old r }
     ensures counts { (r : ℕ) → count_of space.new r + all_held space.old.regions set.now r ≡ count_of space.old r }
@@ -63,7 +63,7 @@ pub(crate) fn take_back_all<L: Ledger>(space: &mut Space, set: &[u32], steps: &m
 
 /// Gives again what the cells of a set's regions count, all of them live. Each cell that counts is read,
 /// which is a step.
-pub(crate) fn give_all<L: Ledger>(space: &mut Space, set: &[u32], steps: &mut Steps<L>)
+pub(crate) fn give_all<L: Ledger>(space: &mut Space<L>, set: &[u32], steps: &mut Steps<L>)
     requires live { All (λ r. IsTrue (live_in space.old.regions r)) set.now }
     requires targets { (r : ℕ) → 0 < all_held space.old.regions set.now r → IsTrue (live_in space.old.regions r) }
     requires few { (r : ℕ) → count_of space.old r + all_held space.old.regions set.now r ≤ 18446744073709551615 }

@@ -1,5 +1,5 @@
 // Runs the image of a file.
-ghost use Rattle.std.specs.Prelude.{◌≡◌, ◌<◌, Option};
+ghost use Rattle.std.specs.Prelude.{◌≡◌, Option};
 ghost use Rattle.rc_base.specs.Sinks.{SinkState};
 ghost use Rattle.rc_exec.specs.Executing.{Executed, ExecutesOf, TellsBytes, as_done, comes_of};
 ghost use Rattle.rc_first_heap.specs.First.{IsUnused};
@@ -20,8 +20,6 @@ use rc_machine::{ImageEnd, run};
 use rc_outcomes::flush_behind;
 use rc_store::Heap;
 use std::alloc::Global;
-use std::marker::Brand;
-use std::sync::ledger::{Blank, Ledger};
 
 /// The refusal of an image that breaks a rule first there.
 fn refusal_of(violation: Violation) -> ImageRefusal
@@ -48,26 +46,6 @@ fn as_done(ended: Result<ImageEnd, RunFault>) -> Result<Done, RunFault>
     }
 }
 
-/// Runs a loaded image over an unused heap. Nobody reads the count of its steps.
-fn run_uncounted<H: Heap, S: Source, O: Sink, L: Ledger>(
-    alloc: Global,
-    code: &Loaded,
-    limits: &Limits,
-    heap: &mut H,
-    input: &mut S,
-    out: &mut O,
-    blank: Blank,
-) -> Result<ImageEnd, RunFault>
-    requires name { blank.name ≡ L.name }
-    requires parts { blank.parts ≡ L.parts }
-    requires some { 0 < L.parts }
-    requires heap { IsUnused limits.now (H.store heap.old) }
-    ensures { RunsImage code.now limits.now (S.state input.old) (O.state out.old) (H.store heap.new) (S.state input.new) (O.state out.new) result }
-{
-    let mut steps = Steps::<L>::start(blank);
-    run(alloc, code, limits, heap, input, out, &mut steps)
-}
-
 /// Runs a loaded image over the heap, which is given the limits, and flushes the output, but for one
 /// that a byte could not be written to.
 pub fn run_loaded<H: Heap, S: Source, O: Sink>(
@@ -77,20 +55,13 @@ pub fn run_loaded<H: Heap, S: Source, O: Sink>(
     heap: &mut H,
     input: &mut S,
     out: &mut O,
+    steps: &mut Steps<H::Counter>,
 ) -> Result<Done, Fault>
     requires { IsNew (H.store heap.old) }
     ensures { Ran (TellsBytes (S.state input.old)) (comes_of code.now limits.now) (S.state input.old) (S.state input.new) (O.state out.old) (O.state out.new) (H.store heap.new) result }
 {
     heap.limit(limits);
-    let ended = run_uncounted::<H, S, O, Brand>(
-        alloc,
-        code,
-        limits,
-        heap,
-        input,
-        out,
-        Blank::new(1),
-    );
+    let ended = run(alloc, code, limits, heap, input, out, steps);
     flush_behind(out, as_done(ended))
 }
 
@@ -102,12 +73,13 @@ fn execute<H: Heap, S: Source, O: Sink>(
     heap: &mut H,
     input: &mut S,
     out: &mut O,
+    steps: &mut Steps<H::Counter>,
 ) -> Result<Done, Fault>
     requires { IsNew (H.store heap.old) }
     ensures { Executed image limits.now (S.state input.old) (S.state input.new) (O.state out.old) (O.state out.new) (H.store heap.old) (H.store heap.new) result }
 {
     match load(alloc, image) {
-        Ok(code) => run_loaded(alloc, &code, limits, heap, input, out),
+        Ok(code) => run_loaded(alloc, &code, limits, heap, input, out, steps),
         Err(LoadFault::Broken(violation)) => Ok(Done::ImageRefused(refusal_of(violation))),
         Err(LoadFault::Memory) => Err(Fault::Memory),
     }
@@ -123,12 +95,13 @@ pub fn exec_image<F: Shelf, S: Source, O: Sink, H: Heap>(
     input: &mut S,
     out: &mut O,
     heap: &mut H,
+    steps: &mut Steps<H::Counter>,
 ) -> Result<Done, Fault>
     requires { IsNew (H.store heap.old) }
     ensures { (request : Option Request) (err : SinkState) → ExecutesOf request name.now limits → Performs request (outside (F.state files.old) (S.state input.old) (O.state out.old) err (H.store heap.old)) (outside (F.state files.new) (S.state input.new) (O.state out.new) err (H.store heap.new)) result }
 {
     match load_image(alloc, name, files) {
-        Ok(image) => execute(alloc, image, &limits, heap, input, out),
+        Ok(image) => execute(alloc, image, &limits, heap, input, out, steps),
         Err(NoImage::Refused(refusal)) => Ok(Done::ImageRefused(refusal)),
         Err(NoImage::Failed(fault)) => Err(fault),
     }

@@ -10,7 +10,6 @@ use rc_base::Steps;
 use rc_core::as_int;
 use rc_core::layout::CellKind;
 use rc_store::{Cell, Heap, Place, Pointer};
-use std::sync::ledger::Ledger;
 
 /// The number that a cell begins with: an image has it modulo 2^32.
 pub(crate) fn first_number(cell: &CellKind, n: u32) -> i64
@@ -23,12 +22,12 @@ pub(crate) fn first_number(cell: &CellKind, n: u32) -> i64
 }
 
 /// Writes an element of a global whose elements are numbers.
-pub(crate) fn write_number<H: Heap, L: Ledger>(
+pub(crate) fn write_number<H: Heap>(
     heap: &mut H,
     object: u32,
     element: u32,
     value: i64,
-    steps: &mut Steps<L>,
+    steps: &mut Steps<H::Counter>,
 )
     requires { HasNumber (H.store heap.old) object element }
     ensures written { H.store heap.new ≡ written (place_of object element) (Number value) (H.store heap.old) }

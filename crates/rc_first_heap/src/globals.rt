@@ -16,18 +16,17 @@ use rc_code::{Global, Image, Initial, Parts};
 use rc_core::layout::Layout;
 use rc_store::Heap;
 use std::alloc::Global as Alloc;
-use std::sync::ledger::Ledger;
 
 /// Appends an object of one number cell, which begins with this number.
 ///
 /// # Errors
 ///
 /// Out of memory.
-fn add_number<H: Heap, L: Ledger>(
+fn add_number<H: Heap>(
     heap: &mut H,
     layout: &Layout,
     n: u32,
-    steps: &mut Steps<L>,
+    steps: &mut Steps<H::Counter>,
 ) -> Result<(), NoMemory>
     requires numbers { IsNumber (kinds_in layout.now) }
     requires alone { IsAlone (H.store heap.old) }
@@ -45,12 +44,12 @@ fn add_number<H: Heap, L: Ledger>(
 /// # Errors
 ///
 /// Out of memory.
-fn add_bytes<H: Heap, L: Ledger>(
+fn add_bytes<H: Heap>(
     heap: &mut H,
     layout: &Layout,
     n: u32,
     bytes: &[u8],
-    steps: &mut Steps<L>,
+    steps: &mut Steps<H::Counter>,
 ) -> Result<(), NoMemory>
     requires numbers { IsNumber (kinds_in layout.now) }
     requires all { length bytes.now ≡ n }
@@ -72,12 +71,12 @@ fn add_bytes<H: Heap, L: Ledger>(
 /// # Errors
 ///
 /// Out of memory.
-fn add_global<H: Heap, L: Ledger>(
+fn add_global<H: Heap>(
     alloc: Alloc,
     parts: &Parts,
     global: &Global,
     heap: &mut H,
-    steps: &mut Steps<L>,
+    steps: &mut Steps<H::Counter>,
 ) -> Result<(), NoMemory>
     requires fits { GlobalFits parts.now.types global.now }
     requires alone { IsAlone (H.store heap.old) }
@@ -105,11 +104,11 @@ fn add_global<H: Heap, L: Ledger>(
 /// # Errors
 ///
 /// Out of memory.
-pub fn add_globals<H: Heap, L: Ledger>(
+pub fn add_globals<H: Heap>(
     alloc: Alloc,
     image: &Image,
     heap: &mut H,
-    steps: &mut Steps<L>,
+    steps: &mut Steps<H::Counter>,
 ) -> Result<(), NoMemory>
     requires { IsNew (H.store heap.old) }
     ensures heap { OnOk result (H.store heap.new ≡ holding (kept_globals image.now) (H.store heap.old)) }

@@ -3,19 +3,20 @@ ghost use Rattle.std.specs.Prelude.{◌≡◌, ◌↔◌, ◌+◌, ◌<◌, ◌�
 ghost use Rattle.rc_pages.specs.Cells.{Popped, zero_page};
 
 use crate::page::Page;
-use rc_base::NoMemory;
+use rc_base::{NoMemory, Steps};
 use std::alloc::Global;
 use std::marker::Model;
+use std::sync::ledger::Ledger;
 
 /// Pages in order. The first stands beside the others, so that one page alone needs no memory but its
 /// own. Contracts see the cells of each page, and how many more pages have room.
 #[derive(Drop)]
-pub(crate) struct PageList {
-    first: Option<Page>,
-    more: Vec<Page>,
+pub(crate) struct PageList<L: Ledger> {
+    first: Option<Page<L>>,
+    more: Vec<Page<L>>,
 }
 
-impl Model for PageList {
+impl<L: Ledger> Model for PageList<L> {
     ghost use Rattle.std.specs.Prelude.{◌≡◌, None, length, vec_capacity};
     ghost use Rattle.rc_pages.specs.Cells.{PagesState, pages_in, room_beside};
 
@@ -26,9 +27,9 @@ impl Model for PageList {
     ghost invariant = { λ l. l.first ≡ None → length l.more.items ≡ 0 };
 }
 
-impl PageList {
+impl<L: Ledger> PageList<L> {
     /// No page. It takes no memory.
-    pub(crate) fn new(alloc: Global) -> PageList
+    pub(crate) fn new(alloc: Global) -> PageList<L>
         ensures { result.pages ≡ [] }
     {
         PageList {
@@ -80,7 +81,7 @@ impl PageList {
     }
 
     /// Appends a page. There is room for it.
-    pub(crate) fn push(&mut self, page: Page)
+    pub(crate) fn push(&mut self, page: Page<L>)
         requires { 0 < self.old.room }
         ensures pages { self.new.pages ≡ self.old.pages ++ page ∷ [] }
         ensures room { self.old.room ≤ self.new.room + 1 }
@@ -92,7 +93,7 @@ impl PageList {
     }
 
     /// Takes the last page out.
-    pub(crate) fn pop(&mut self) -> Option<Page>
+    pub(crate) fn pop(&mut self) -> Option<Page<L>>
         ensures { Popped result self.old.pages self.new.pages }
     {
         match self.more.pop() {
@@ -115,17 +116,18 @@ impl PageList {
 
     /// A cell of a page.
     #[inline(always)]
-    pub(crate) fn read(&self, page: usize, place: usize) -> u128
+    pub(crate) fn read(&self, page: usize, place: usize, steps: &mut Steps<L>) -> u128
         requires page { page < length self.now.pages }
         requires place { place < length (slice_index_or self.now.pages page []) }
-        ensures { result ≡ slice_index (slice_index_or self.now.pages page []) place }
+        ensures value { result ≡ slice_index (slice_index_or self.now.pages page []) place }
+        ensures step { steps.new ≡ steps.old + 1 }
     {
         if page > 0 {
-            return self.more[page - 1].read(place);
+            return self.more[page - 1].read(place, steps);
         }
         match &self.first {
             None => unreachable!(),
-            Some(first) => first.read(place),
+            Some(first) => first.read(place, steps),
         }
     }
 

@@ -16,15 +16,15 @@ const CELLS: u64 = PAGE_CELLS as u64;
 
 /// A list of cells, over pages of its own. Contracts see the list of their values.
 #[derive(Drop)]
-pub struct Pages {
+pub struct Pages<L: Ledger> {
     alloc: Global,
-    pages: PageList,
+    pages: PageList<L>,
     len: u64,
     /// Up to here the cells behind the list's own are zero already.
     clean: u64,
 }
 
-impl Model for Pages {
+impl<L: Ledger> Model for Pages<L> {
     ghost use Rattle.std.specs.Prelude.{List, ℕ, take};
     ghost use Rattle.std.specs.List.{concat};
     ghost use Rattle.rc_pages.specs.Cells.{Holds, IsClean};
@@ -44,7 +44,7 @@ fn pages_for(cells: u64) -> usize
 }
 
 /// Appends new pages.
-fn add_new(alloc: Global, pages: &mut PageList, count: usize) -> Result<(), NoMemory>
+fn add_new<L: Ledger>(alloc: Global, pages: &mut PageList<L>, count: usize) -> Result<(), NoMemory>
     requires room { count ≤ pages.old.room }
     ensures ok { OnOk result (IsLonger pages.old.pages pages.new.pages count) }
     ensures left { OnOk result (pages.old.room ≤ pages.new.room + count) }
@@ -64,7 +64,7 @@ fn add_new(alloc: Global, pages: &mut PageList, count: usize) -> Result<(), NoMe
 }
 
 /// Appends pages out of the bank, with what they hold.
-fn add_spare(pages: &mut PageList, count: usize, bank: &mut Bank)
+fn add_spare<L: Ledger>(pages: &mut PageList<L>, count: usize, bank: &mut Bank<L>)
     requires room { count ≤ pages.old.room }
     requires kept { count ≤ bank.old.kept }
     ensures pages { IsLonger pages.old.pages pages.new.pages count }
@@ -78,11 +78,11 @@ fn add_spare(pages: &mut PageList, count: usize, bank: &mut Bank)
 /// Appends pages: spare ones as far as the bank has them. The new ones are asked for before the bank
 /// is touched, so that a refusal leaves both as they were.
 #[inline(never)]
-fn add_pages(
+fn add_pages<L: Ledger>(
     alloc: Global,
-    pages: &mut PageList,
+    pages: &mut PageList<L>,
     count: usize,
-    bank: &mut Bank,
+    bank: &mut Bank<L>,
 ) -> Result<(), NoMemory>
     ensures ok { OnOk result (IsLonger pages.old.pages pages.new.pages count) }
     ensures err { OnErr result (pages.new.pages ≡ pages.old.pages) }
@@ -98,11 +98,11 @@ fn add_pages(
 
 /// Appends so many pages, which mostly are none, or the first one alone.
 #[inline(always)]
-fn add_missing(
+fn add_missing<L: Ledger>(
     alloc: Global,
-    pages: &mut PageList,
+    pages: &mut PageList<L>,
     count: usize,
-    bank: &mut Bank,
+    bank: &mut Bank<L>,
 ) -> Result<(), NoMemory>
     ensures ok { OnOk result (IsLonger pages.old.pages pages.new.pages count) }
     ensures err { OnErr result (pages.new.pages ≡ pages.old.pages) }
@@ -120,7 +120,7 @@ fn add_missing(
 }
 
 /// Makes the cells from one on up to another zero, whatever they held: a whole page at once.
-fn clear(pages: &mut PageList, from: u64, to: u64)
+fn clear<L: Ledger>(pages: &mut PageList<L>, from: u64, to: u64)
     requires whole { AreWhole pages.old.pages }
     requires order { from ≤ to }
     requires inside { to ≤ 256 * length pages.old.pages }
@@ -165,11 +165,11 @@ fn clean_to(len: u64, total: u64) -> u64
 /// Appends the pages that a list needs to grow, and makes its new cells zero, with some behind them.
 /// Answers up to where.
 #[inline(never)]
-fn add_clean(
+fn add_clean<L: Ledger>(
     alloc: Global,
-    pages: &mut PageList,
+    pages: &mut PageList<L>,
     growth: Growth,
-    bank: &mut Bank,
+    bank: &mut Bank<L>,
 ) -> Result<u64, NoMemory>
     requires holds { Holds pages.old.pages growth.len }
     requires clean { IsClean pages.old.pages growth.len growth.clean }
@@ -189,9 +189,9 @@ fn add_clean(
     Ok(clean)
 }
 
-impl Pages {
+impl<L: Ledger> Pages<L> {
     /// An empty list. It takes no memory.
-    pub fn new(alloc: Global) -> Pages
+    pub fn new(alloc: Global) -> Pages<L>
         ensures { result ≡ [] }
     {
         Pages {
@@ -211,7 +211,7 @@ impl Pages {
 
     /// Appends so many zeros. The pages that are missing come out of the bank as far as it has some.
     #[inline(always)]
-    pub fn push_zeros(&mut self, n: u64, bank: &mut Bank) -> Result<(), NoMemory>
+    pub fn push_zeros(&mut self, n: u64, bank: &mut Bank<L>) -> Result<(), NoMemory>
         ensures ok { OnOk result (self.new ≡ self.old ++ replicate n 0) }
         ensures err { OnErr result (self.new ≡ self.old) }
         ensures spare { OnOk result (bank.new ≡ record bank.old { kept = bank.old.kept - more_pages (length self.old) n }) }
@@ -235,16 +235,16 @@ impl Pages {
         Ok(())
     }
 
-    /// The cell at a place. It is the only call that reads one, and is a step.
+    /// The cell at a place. It is the only call that reads one, and is a step on the one counter of the list's
+    /// ledger.
     #[inline(always)]
-    pub fn get<L: Ledger>(&self, at: u64, steps: &mut Steps<L>) -> u128
+    pub fn get(&self, at: u64, steps: &mut Steps<L>) -> u128
         requires { at < length self.now }
         ensures value { result ≡ slice_index self.now at }
         ensures step { steps.new ≡ steps.old + 1 }
     {
-        steps.tick();
         self.pages
-            .read((at / CELLS) as usize, (at % CELLS) as usize)
+            .read((at / CELLS) as usize, (at % CELLS) as usize, steps)
     }
 
     /// Writes the cell at a place. No cell is read.
@@ -259,7 +259,7 @@ impl Pages {
 
     /// Lets all cells go. Their pages go to the bank as far as it has free places, and the others are
     /// freed.
-    pub fn give_back(&mut self, bank: &mut Bank)
+    pub fn give_back(&mut self, bank: &mut Bank<L>)
         ensures cells { self.new ≡ [] }
         ensures bank { bank.new ≡ record bank.old { kept = min bank.old.places (bank.old.kept + pages_for (length self.old)) } }
     {

@@ -13,18 +13,19 @@ use rc_core::Kind;
 use rc_core::layout::Layout;
 use rc_store::{Cell, blank_of, is_counted, kinds_of};
 use std::alloc::Global;
-use std::marker::Model;
+use std::marker::{Model, PhantomData};
 use std::sync::ledger::Ledger;
 
 /// An array of elements of one layout. The cells of an element lie together.
 #[derive(Drop)]
-pub struct Object {
+pub struct Object<L: Ledger> {
     count: u32,
     size: usize,
     slots: Vec<Slot>,
+    ledger: PhantomData<L>,
 }
 
-impl Model for Object {
+impl<L: Ledger> Model for Object<L> {
     ghost use Rattle.std.specs.Prelude.{◌≡◌, ◌*◌, map, length};
     ghost use Rattle.rc_store.specs.Kept.{KeptObject};
     ghost use Rattle.rc_plain_objects.specs.Slots.{slot_kind, slot_value};
@@ -93,9 +94,9 @@ fn any_names<L: Ledger>(slots: &[Slot], region: u32, steps: &mut Steps<L>) -> bo
     false
 }
 
-impl Object {
+impl<L: Ledger> Object<L> {
     /// So many elements of this layout, all zero or null.
-    pub fn blank(alloc: Global, layout: &Layout, count: u32) -> Result<Object, NoMemory>
+    pub fn blank(alloc: Global, layout: &Layout, count: u32) -> Result<Object<L>, NoMemory>
         ensures { IfOk result (λ o. o ≡ blank (map kind_of (kinds_in layout.now)) count) }
     {
         let kinds = kinds_of(alloc, layout)?;
@@ -104,6 +105,7 @@ impl Object {
             count,
             size: kinds.len(),
             slots,
+            ledger: PhantomData,
         })
     }
 
@@ -122,10 +124,13 @@ impl Object {
         index as usize * self.size + cell as usize
     }
 
-    pub fn get(&self, index: u32, cell: u32) -> Cell
+    /// The value of a cell. Whoever reads it counts it on the ledger's counter, of which there is one.
+    pub fn get(&self, index: u32, cell: u32, steps: &mut Steps<L>) -> Cell
         requires { HasCell self.now index cell }
-        ensures { value_of result ≡ cell_value self.now index cell }
+        ensures value { value_of result ≡ cell_value self.now index cell }
+        ensures step { steps.new ≡ steps.old + 1 }
     {
+        steps.tick();
         self.slots[self.place(index, cell)].value
     }
 
@@ -139,7 +144,7 @@ impl Object {
     }
 
     /// Whether a counted cell names the region. Each cell that is read is a step.
-    pub fn names<L: Ledger>(&self, region: u32, steps: &mut Steps<L>) -> bool
+    pub fn names(&self, region: u32, steps: &mut Steps<L>) -> bool
         ensures found { IsTrue result ↔ (0 < object_refs region self.now) }
         ensures cost { steps.new ≤ steps.old + length self.now.values }
         ensures never_falls { steps.old ≤ steps.new }

@@ -273,7 +273,7 @@ impl Registry {
     /// a step. A region to which references are counted is live.
     pub fn take_back_area<L: Ledger>(
         &mut self,
-        area: &Area,
+        area: &Area<L>,
         shapes: &Shapes,
         holder: u32,
         steps: &mut Steps<L>,
@@ -292,7 +292,7 @@ impl Registry {
     /// is a step.
     pub fn give_area<L: Ledger>(
         &mut self,
-        area: &Area,
+        area: &Area<L>,
         shapes: &Shapes,
         holder: u32,
         steps: &mut Steps<L>,

@@ -53,37 +53,38 @@ fn count_left(input: &mut Bytes, calls: usize) -> u64 {
 }
 
 /// Runs an image over a new heap, and answers what that comes to, as `{:?}` prints it.
-fn run_in<H: Heap, L: Ledger>(
+fn run_in<H: Heap>(
     alloc: Global,
     limits: &Limits,
     code: &Loaded,
     heap: &mut H,
     input: &mut Bytes,
     out: &mut Buffer,
-    blank: Blank,
+    steps: &mut Steps<H::Counter>,
 ) -> io::Result<String>
-    requires heap { IsNew (H.store heap.old) }
-    requires name { blank.name ≡ L.name }
-    requires parts { blank.parts ≡ L.parts }
-    requires some { 0 < L.parts }
+    requires { IsNew (H.store heap.old) }
 {
     heap.limit(limits);
-    let mut steps = Steps::<L>::start(blank);
-    let answer = run(alloc, code, limits, heap, input, out, &mut steps);
+    let answer = run(alloc, code, limits, heap, input, out, steps);
     Ok(format!(in alloc; "{answer:?}")?)
 }
 
-/// Runs an image over a new heap, and counts no steps.
-fn came_in<H: Heap>(alloc: Global, row: &Row, code: &Loaded, heap: &mut H) -> io::Result<Came>
+/// Runs the image of a row over a new heap.
+fn came_in<H: Heap>(
+    alloc: Global,
+    row: &Row,
+    code: &Loaded,
+    heap: &mut H,
+    steps: &mut Steps<H::Counter>,
+) -> io::Result<Came>
     requires { IsNew (H.store heap.old) }
 {
     let mut input = Bytes::new(row.input.clone()?, row.reads.clone()?);
     let Ok(mut out) = Buffer::new(alloc, row.room, row.writes.clone()?) else {
         return no_memory();
     };
-    let blank = Blank::new(1);
     let limits = row.limits;
-    let answer = run_in::<H, Brand>(alloc, &limits, code, heap, &mut input, &mut out, blank)?;
+    let answer = run_in(alloc, &limits, code, heap, &mut input, &mut out, steps)?;
     let calls = row.input.len().saturating_add(row.reads.len());
     let left = count_left(&mut input, calls);
     Ok(Came {
@@ -93,16 +94,36 @@ fn came_in<H: Heap>(alloc: Global, row: &Row, code: &Loaded, heap: &mut H) -> io
     })
 }
 
-fn came_in_scan_heap(alloc: Global, row: &Row, code: &Loaded) -> io::Result<Came> {
-    match ScanHeap::new(alloc) {
-        Ok(mut heap) => came_in(alloc, row, code, &mut heap),
+fn came_in_scan_heap<L: Ledger>(
+    alloc: Global,
+    row: &Row,
+    code: &Loaded,
+    blank: Blank,
+) -> io::Result<Came>
+    requires name { blank.name ≡ L.name }
+    requires parts { blank.parts ≡ L.parts }
+    requires some { 0 < L.parts }
+{
+    let mut steps = Steps::<L>::start(blank);
+    match ScanHeap::<L>::new(alloc) {
+        Ok(mut heap) => came_in(alloc, row, code, &mut heap, &mut steps),
         Err(NoMemory) => no_memory(),
     }
 }
 
-fn came_in_count_heap(alloc: Global, row: &Row, code: &Loaded) -> io::Result<Came> {
-    match CountHeap::new(alloc) {
-        Ok(mut heap) => came_in(alloc, row, code, &mut heap),
+fn came_in_count_heap<L: Ledger>(
+    alloc: Global,
+    row: &Row,
+    code: &Loaded,
+    blank: Blank,
+) -> io::Result<Came>
+    requires name { blank.name ≡ L.name }
+    requires parts { blank.parts ≡ L.parts }
+    requires some { 0 < L.parts }
+{
+    let mut steps = Steps::<L>::start(blank);
+    match CountHeap::<L>::new(alloc) {
+        Ok(mut heap) => came_in(alloc, row, code, &mut heap, &mut steps),
         Err(NoMemory) => no_memory(),
     }
 }
@@ -126,12 +147,12 @@ fn is_other(rt: &HostRuntime, file: &str, row: &Row, heap: &str, came: &Came) ->
 }
 
 fn differs_looking(rt: &HostRuntime, file: &str, row: &Row, code: &Loaded) -> io::Result<bool> {
-    let came = came_in_scan_heap(rt.alloc(), row, code)?;
+    let came = came_in_scan_heap::<Brand>(rt.alloc(), row, code, Blank::new(1))?;
     is_other(rt, file, row, "looking", &came)
 }
 
 fn differs_counting(rt: &HostRuntime, file: &str, row: &Row, code: &Loaded) -> io::Result<bool> {
-    let came = came_in_count_heap(rt.alloc(), row, code)?;
+    let came = came_in_count_heap::<Brand>(rt.alloc(), row, code, Blank::new(1))?;
     is_other(rt, file, row, "counting", &came)
 }
 

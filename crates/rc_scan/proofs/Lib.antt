@@ -1,3 +1,4 @@
 pub mod Beside
 pub mod Above
 pub mod Refs
+pub mod Keeping

@@ -2,6 +2,7 @@
 #![tactic(auto)]
 
 mod region;
+mod regions;
 mod scan;
 mod together;
 

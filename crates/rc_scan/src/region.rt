@@ -16,12 +16,12 @@ use std::sync::ledger::Ledger;
 
 /// Its parent and its objects.
 #[derive(Drop)]
-pub(crate) struct Region {
+pub(crate) struct Region<L: Ledger> {
     parent: u32,
-    objects: Vec<Object>,
+    objects: Vec<Object<L>>,
 }
 
-impl Model for Region {
+impl<L: Ledger> Model for Region<L> {
     ghost use Rattle.rc_store.specs.Kept.{KeptView};
 
     ghost Value = { KeptView };
@@ -30,7 +30,7 @@ impl Model for Region {
 }
 
 /// Whether a counted cell of an object names the region. Each cell that is read is a step.
-fn any_names<L: Ledger>(objects: &[Object], region: u32, steps: &mut Steps<L>) -> bool
+fn any_names<L: Ledger>(objects: &[Object<L>], region: u32, steps: &mut Steps<L>) -> bool
     ensures found { IsTrue result ↔ (0 < sum_by (object_refs region) objects.now) }
     ensures cost { steps.new ≤ steps.old + sum_by size_of objects.now }
     ensures never_falls { steps.old ≤ steps.new }
@@ -43,7 +43,7 @@ fn any_names<L: Ledger>(objects: &[Object], region: u32, steps: &mut Steps<L>) -
     false
 }
 
-fn set_cell(objects: &mut [Object], object: usize, index: u32, cell: u32, value: Cell)
+fn set_cell<L: Ledger>(objects: &mut [Object<L>], object: usize, index: u32, cell: u32, value: Cell)
     requires object { object < length objects.old }
     requires cell { HasCell (slice_index_or objects.old object no_object) index cell }
     ensures { objects.new ≡ objects_with object index cell (value_of value) objects.old }
@@ -51,9 +51,9 @@ fn set_cell(objects: &mut [Object], object: usize, index: u32, cell: u32, value:
     objects[object].set(index, cell, value);
 }
 
-impl Region {
+impl<L: Ledger> Region<L> {
     /// A region without an object.
-    pub(crate) fn new(alloc: Global, parent: u32) -> Region
+    pub(crate) fn new(alloc: Global, parent: u32) -> Region<L>
         ensures { result ≡ record { parent = parent; objects = [] } }
     {
         Region {
@@ -106,12 +106,14 @@ impl Region {
         }
     }
 
-    pub(crate) fn get(&self, object: u32, index: u32, cell: u32) -> Cell
+    /// The value of a cell, whose reading is a step.
+    pub(crate) fn get(&self, object: u32, index: u32, cell: u32, steps: &mut Steps<L>) -> Cell
         requires object { object < length self.now.objects }
         requires cell { HasCell (slice_index_or self.now.objects object no_object) index cell }
-        ensures { value_of result ≡ cell_value (slice_index_or self.now.objects object no_object) index cell }
+        ensures value { value_of result ≡ cell_value (slice_index_or self.now.objects object no_object) index cell }
+        ensures step { steps.new ≡ steps.old + 1 }
     {
-        self.objects[object as usize].get(index, cell)
+        self.objects[object as usize].get(index, cell, steps)
     }
 
     pub(crate) fn set(&mut self, object: u32, index: u32, cell: u32, value: Cell)
@@ -123,7 +125,7 @@ impl Region {
     }
 
     /// Whether a counted cell names the region. Each cell that is read is a step.
-    pub(crate) fn names<L: Ledger>(&self, region: u32, steps: &mut Steps<L>) -> bool
+    pub(crate) fn names(&self, region: u32, steps: &mut Steps<L>) -> bool
         ensures found { IsTrue result ↔ (0 < sum_by (object_refs region) self.now.objects) }
         ensures cost { steps.new ≤ steps.old + sum_by size_of self.now.objects }
         ensures never_falls { steps.old ≤ steps.new }
@@ -134,7 +136,7 @@ impl Region {
 
 /// Whether a counted cell of a region, if it is live, names this one. Each cell that is read is a step.
 pub(crate) fn slot_names<L: Ledger>(
-    slot: &Option<Region>,
+    slot: &Option<Region<L>>,
     region: u32,
     steps: &mut Steps<L>,
 ) -> bool

@@ -9,28 +9,40 @@ ghost use Rattle.rc_store.specs.Stores.{HasCell, cell_value, cells_in, is_child,
 ghost use Rattle.rc_store.specs.Values.{value_of};
 
 use crate::region::{Region, slot_names};
-use crate::together::{any_beside_names, clear_all, has_child_outside};
+use crate::regions::Regions;
+use crate::together::{any_beside_names, has_child_outside};
 use rc_base::{Limits, NoMemory, Steps};
 use rc_core::layout::Layout;
 use rc_core::ty::Note;
 use rc_store::{Cell, Denied, Heap, MakeFault, Pins, Place, SetHeap};
 use std::alloc::Global;
+use std::marker::Model;
 use std::sync::ledger::Ledger;
 
 /// A heap that keeps no counts: a deletion looks at the cells of all live regions. It is plain, so
 /// that others can be compared with it.
 #[derive(Drop)]
-pub struct ScanHeap {
+pub struct ScanHeap<L: Ledger> {
     alloc: Global,
-    /// By number; none where it is dead.
-    regions: Vec<Option<Region>>,
+    regions: Regions<L>,
     pins: Pins,
     region_limit: u32,
     block_limit: u32,
 }
 
+impl<L: Ledger> Model for ScanHeap<L> {
+    ghost use Rattle.rc_store.specs.Kept.{KeptStore};
+    ghost use Rattle.rc_store.specs.Whole.{IsWhole};
+
+    ghost Value = { KeptStore };
+
+    ghost view = { λ h. record { regions = h.regions; pins = h.pins.pins; spare = h.pins.spare; region_limit = h.region_limit; block_limit = h.block_limit } };
+
+    ghost invariant = { λ h. IsWhole (record { regions = h.regions; pins = h.pins.pins; spare = h.pins.spare; region_limit = h.region_limit; block_limit = h.block_limit }) };
+}
+
 /// The region with this number, where it is live.
-fn region_at(regions: &[Option<Region>], number: u32) -> Option<&Region>
+fn region_at<L: Ledger>(regions: &[Option<Region<L>>], number: u32) -> Option<&Region<L>>
     ensures { option_map (λ r. r.now) result ≡ region_at regions.now number }
 {
     match regions.get(number as usize) {
@@ -42,7 +54,7 @@ fn region_at(regions: &[Option<Region>], number: u32) -> Option<&Region>
     }
 }
 
-fn is_live(regions: &[Option<Region>], number: u32) -> bool
+fn is_live<L: Ledger>(regions: &[Option<Region<L>>], number: u32) -> bool
     ensures { result ≡ live_in regions.now number }
 {
     match region_at(regions, number) {
@@ -51,7 +63,7 @@ fn is_live(regions: &[Option<Region>], number: u32) -> bool
     }
 }
 
-fn parent(regions: &[Option<Region>], number: u32) -> u32
+fn parent<L: Ledger>(regions: &[Option<Region<L>>], number: u32) -> u32
     ensures { result ≡ parent_in regions.now number }
 {
     match region_at(regions, number) {
@@ -61,7 +73,7 @@ fn parent(regions: &[Option<Region>], number: u32) -> u32
 }
 
 /// How many objects a region has.
-fn object_count(regions: &[Option<Region>], number: u32) -> usize
+fn object_count<L: Ledger>(regions: &[Option<Region<L>>], number: u32) -> usize
     ensures { result ≡ length (objects_in regions.now number) }
 {
     match region_at(regions, number) {
@@ -71,7 +83,7 @@ fn object_count(regions: &[Option<Region>], number: u32) -> usize
 }
 
 /// How many elements an object has.
-fn elements(regions: &[Option<Region>], number: u32, object: u32) -> u32
+fn elements<L: Ledger>(regions: &[Option<Region<L>>], number: u32, object: u32) -> u32
     requires { object < length (objects_in regions.now number) }
     ensures { result ≡ (object_in regions.now number object).count }
 {
@@ -81,49 +93,21 @@ fn elements(regions: &[Option<Region>], number: u32, object: u32) -> u32
     }
 }
 
-fn read_cell(regions: &[Option<Region>], place: Place) -> Cell
+/// Reads a cell, which is a step.
+fn read_cell<L: Ledger>(regions: &[Option<Region<L>>], place: Place, steps: &mut Steps<L>) -> Cell
     requires object { place.pointer.object < length (objects_in regions.now place.pointer.region) }
     requires cell { HasCell (object_in regions.now place.pointer.region place.pointer.object) place.pointer.index place.cell }
-    ensures { value_of result ≡ cell_value (object_in regions.now place.pointer.region place.pointer.object) place.pointer.index place.cell }
+    ensures value { value_of result ≡ cell_value (object_in regions.now place.pointer.region place.pointer.object) place.pointer.index place.cell }
+    ensures step { steps.new ≡ steps.old + 1 }
 {
     match region_at(regions, place.pointer.region) {
         None => unreachable!(),
-        Some(region) => region.get(place.pointer.object, place.pointer.index, place.cell),
-    }
-}
-
-fn write_cell(regions: &mut [Option<Region>], place: Place, value: Cell)
-    requires object { place.pointer.object < length (objects_in regions.old place.pointer.region) }
-    requires cell { HasCell (object_in regions.old place.pointer.region place.pointer.object) place.pointer.index place.cell }
-    ensures { regions.new ≡ with_objects place.pointer.region (objects_with place.pointer.object place.pointer.index place.cell (value_of value) (objects_in regions.old place.pointer.region)) regions.old }
-{
-    let pointer = place.pointer;
-    match &mut regions[pointer.region as usize] {
-        None => unreachable!(),
-        Some(region) => region.set(pointer.object, pointer.index, place.cell, value),
-    }
-}
-
-/// Appends an object of n elements, all zero or null.
-fn push_object(
-    alloc: Global,
-    regions: &mut [Option<Region>],
-    number: u32,
-    layout: &Layout,
-    n: u32,
-) -> Result<(), NoMemory>
-    requires { IsTrue (live_in regions.old number) }
-    ensures ok { OnOk result (regions.new ≡ with_objects number (objects_in regions.old number ++ blank (map kind_of (kinds_in layout.now)) n ∷ []) regions.old) }
-    ensures err { OnErr result (regions.new ≡ regions.old) }
-{
-    match &mut regions[number as usize] {
-        None => unreachable!(),
-        Some(region) => region.push(alloc, layout, n),
+        Some(region) => { region.get(place.pointer.object, place.pointer.index, place.cell, steps) }
     }
 }
 
 /// Whether region a is b, or above b's parent. A parent has the smaller number.
-fn is_above(regions: &[Option<Region>], a: u32, b: u32) -> bool
+fn is_above<L: Ledger>(regions: &[Option<Region<L>>], a: u32, b: u32) -> bool
     ensures { result ≡ is_above (parent_in regions.now) a b }
 {
     let mut at = b;
@@ -140,7 +124,7 @@ fn is_above(regions: &[Option<Region>], a: u32, b: u32) -> bool
 }
 
 /// Whether a region may be named in a cell with the annotation, in an object of the holder's region.
-fn suits(regions: &[Option<Region>], note: Note, holder: u32, region: u32) -> bool
+fn suits<L: Ledger>(regions: &[Option<Region<L>>], note: Note, holder: u32, region: u32) -> bool
     ensures { result ≡ fits (parent_in regions.now) note holder (Handle region) }
 {
     match note {
@@ -152,7 +136,7 @@ fn suits(regions: &[Option<Region>], note: Note, holder: u32, region: u32) -> bo
 }
 
 /// Whether a value may stand in a cell with the annotation, in an object of the holder's region.
-fn fits(regions: &[Option<Region>], note: Note, holder: u32, value: Cell) -> bool
+fn fits<L: Ledger>(regions: &[Option<Region<L>>], note: Note, holder: u32, value: Cell) -> bool
     ensures { result ≡ fits (parent_in regions.now) note holder (value_of value) }
 {
     match value {
@@ -164,7 +148,7 @@ fn fits(regions: &[Option<Region>], note: Note, holder: u32, value: Cell) -> boo
 }
 
 /// Whether a live region has this one as its parent.
-fn any_child(regions: &[Option<Region>], region: u32) -> bool
+fn any_child<L: Ledger>(regions: &[Option<Region<L>>], region: u32) -> bool
     ensures { result ≡ list_any (is_child region) regions.now }
 {
     for child in regions {
@@ -180,7 +164,7 @@ fn any_child(regions: &[Option<Region>], region: u32) -> bool
 /// Whether a counted cell of the region i, if it is live and another one, names this one. Each cell that
 /// is read is a step.
 fn other_names<L: Ledger>(
-    regions: &[Option<Region>],
+    regions: &[Option<Region<L>>],
     i: usize,
     region: u32,
     steps: &mut Steps<L>,
@@ -197,7 +181,11 @@ fn other_names<L: Ledger>(
 }
 
 /// Whether a counted cell of another live region names this one. Each cell that is read is a step.
-fn any_other_names<L: Ledger>(regions: &[Option<Region>], region: u32, steps: &mut Steps<L>) -> bool
+fn any_other_names<L: Ledger>(
+    regions: &[Option<Region<L>>],
+    region: u32,
+    steps: &mut Steps<L>,
+) -> bool
     ensures found { IsTrue result ↔ (0 < sum_by (view_refs region) (slice_set regions.now region None)) }
     ensures cost { steps.new ≤ steps.old + sum_by cells_in regions.now }
     ensures never_falls { steps.old ≤ steps.new }
@@ -210,7 +198,7 @@ fn any_other_names<L: Ledger>(regions: &[Option<Region>], region: u32, steps: &m
     false
 }
 
-impl ScanHeap {
+impl<L: Ledger> ScanHeap<L> {
     ghost use Rattle.rc_store.specs.Kept.{refs};
     ghost use Rattle.rc_store.specs.Sets.{refs_to, set_refs};
 
@@ -219,50 +207,46 @@ impl ScanHeap {
     /// # Errors
     ///
     /// Out of memory.
-    pub fn new(alloc: Global) -> Result<ScanHeap, NoMemory>
-        ensures { IfOk result (λ heap. ⟦<ScanHeap as Heap>⟧.store heap ≡ record { regions = Some no_view ∷ []; pins = []; spare = 0; region_limit = 0; block_limit = 0 }) }
+    pub fn new(alloc: Global) -> Result<ScanHeap<L>, NoMemory>
+        ensures { IfOk result (λ heap. ⟦<ScanHeap<L> as Heap>⟧.store heap ≡ record { regions = Some no_view ∷ []; pins = []; spare = 0; region_limit = 0; block_limit = 0 }) }
     {
-        let mut regions = Vec::new(alloc);
-        match regions.push(Some(Region::new(alloc, 0))) {
-            Ok(()) => Ok(ScanHeap {
-                alloc,
-                regions,
-                pins: Pins::new(alloc),
-                region_limit: 0,
-                block_limit: 0,
-            }),
-            Err(_) => Err(NoMemory),
-        }
+        Ok(ScanHeap {
+            alloc,
+            regions: Regions::new(alloc)?,
+            pins: Pins::new(alloc),
+            region_limit: 0,
+            block_limit: 0,
+        })
     }
 
     /// Whether a counted cell of another live region, or a pin, names this one.
-    fn is_named<L: Ledger>(&self, region: u32, steps: &mut Steps<L>) -> bool
-        ensures found { IsTrue result ↔ (0 < refs (⟦<ScanHeap as Heap>⟧.store self.now) region) }
-        ensures cost { steps.new ≤ steps.old + sum_by cells_in self.now.regions.items }
+    fn is_named(&self, region: u32, steps: &mut Steps<L>) -> bool
+        ensures found { IsTrue result ↔ (0 < refs (self.now) region) }
+        ensures cost { steps.new ≤ steps.old + sum_by cells_in self.now.regions }
         ensures never_falls { steps.old ≤ steps.new }
     {
-        if any_other_names(&self.regions, region, steps) {
+        if any_other_names(self.regions.slots(), region, steps) {
             return true;
         }
         self.pins.name(region)
     }
 
     /// Whether a counted cell of a live region that isn't of the set, or a pin, names this one.
-    fn is_named_beside<L: Ledger>(&self, set: &[u32], member: u32, steps: &mut Steps<L>) -> bool
-        ensures found { IsTrue result ↔ (0 < refs_to (⟦<ScanHeap as Heap>⟧.store self.now) set.now member) }
-        ensures cost { steps.new ≤ steps.old + sum_by cells_in self.now.regions.items }
+    fn is_named_beside(&self, set: &[u32], member: u32, steps: &mut Steps<L>) -> bool
+        ensures found { IsTrue result ↔ (0 < refs_to (self.now) set.now member) }
+        ensures cost { steps.new ≤ steps.old + sum_by cells_in self.now.regions }
         ensures never_falls { steps.old ≤ steps.new }
     {
-        if any_beside_names(&self.regions, set, member, steps) {
+        if any_beside_names(self.regions.slots(), set, member, steps) {
             return true;
         }
         self.pins.name(member)
     }
 
     /// Whether a counted cell of a live region that isn't of the set, or a pin, names one of the set.
-    fn is_set_named<L: Ledger>(&self, set: &[u32], steps: &mut Steps<L>) -> bool
-        ensures found { IsTrue result ↔ (0 < set_refs (⟦<ScanHeap as Heap>⟧.store self.now) set.now) }
-        ensures cost { steps.new ≤ steps.old + sum_by (⟦<ScanHeap as Heap>⟧.most_reads self.now) set.now }
+    fn is_set_named(&self, set: &[u32], steps: &mut Steps<L>) -> bool
+        ensures found { IsTrue result ↔ (0 < set_refs (self.now) set.now) }
+        ensures cost { steps.new ≤ steps.old + sum_by (⟦<ScanHeap<L> as Heap>⟧.most_reads self.now) set.now }
         ensures never_falls { steps.old ≤ steps.new }
     {
         for member in set {
@@ -274,65 +258,71 @@ impl ScanHeap {
     }
 }
 
-impl Heap for ScanHeap {
+impl<L: Ledger> Heap for ScanHeap<L> {
     ghost use Rattle.std.specs.Prelude.{sum_by};
     ghost use Rattle.rc_store.specs.Stores.{cells_in};
 
-    ghost store = { λ h. record { regions = h.regions.items; pins = h.pins.pins; spare = h.pins.spare; region_limit = h.region_limit; block_limit = h.block_limit } };
+    ghost store = { λ h. h };
 
-    ghost most_reads = { λ h r. sum_by cells_in h.regions.items };
+    ghost most_reads = { λ h r. sum_by cells_in h.regions };
+
+    type Counter = L;
+
+    fn stays_whole(&self) {
+        // Where a field is read, what holds of the value is known.
+        let _limit = self.block_limit;
+    }
 
     fn new_region(&mut self, parent: u32) -> Result<u32, MakeFault> {
-        let number = self.regions.len();
+        let number = self.regions.slots().len();
         if number > self.region_limit as usize {
             return Err(MakeFault::Full);
         }
-        match self.regions.push(Some(Region::new(self.alloc, parent))) {
+        match self.regions.add(self.alloc, parent) {
             Ok(()) => Ok(number as u32),
-            Err(_) => Err(MakeFault::Memory),
+            Err(NoMemory) => Err(MakeFault::Memory),
         }
     }
 
     fn add_global(&mut self, kind: &Layout, n: u32) -> Result<u32, NoMemory> {
-        let number = object_count(&self.regions, 0);
-        push_object(self.alloc, &mut self.regions, 0, kind, n)?;
+        let number = object_count(self.regions.slots(), 0);
+        self.regions.push_object(self.alloc, 0, kind, n)?;
         Ok(number as u32)
     }
 
     fn allocate(&mut self, region: u32, kind: &Layout, n: u32) -> Result<u32, MakeFault> {
-        let number = object_count(&self.regions, region);
+        let number = object_count(self.regions.slots(), region);
         if number >= self.block_limit as usize {
             return Err(MakeFault::Full);
         }
-        match push_object(self.alloc, &mut self.regions, region, kind, n) {
+        match self.regions.push_object(self.alloc, region, kind, n) {
             Ok(()) => Ok(number as u32),
             Err(NoMemory) => Err(MakeFault::Memory),
         }
     }
 
     fn is_live(&self, region: u32) -> bool {
-        is_live(&self.regions, region)
+        is_live(self.regions.slots(), region)
     }
 
     fn elements(&self, region: u32, object: u32) -> u32 {
-        elements(&self.regions, region, object)
+        elements(self.regions.slots(), region, object)
     }
 
-    fn read<L: Ledger>(&self, place: Place, steps: &mut Steps<L>) -> Cell {
-        steps.tick();
-        read_cell(&self.regions, place)
+    fn read(&self, place: Place, steps: &mut Steps<L>) -> Cell {
+        read_cell(self.regions.slots(), place, steps)
     }
 
-    fn write_counted<L: Ledger>(&mut self, place: Place, value: Cell, _steps: &mut Steps<L>) {
-        write_cell(&mut self.regions, place, value);
+    fn write_counted(&mut self, place: Place, value: Cell, _steps: &mut Steps<L>) {
+        self.regions.write(place, value);
     }
 
     fn write_kept(&mut self, place: Place, value: Cell) {
-        write_cell(&mut self.regions, place, value);
+        self.regions.write(place, value);
     }
 
-    fn fits<L: Ledger>(&self, note: Note, holder: u32, value: Cell, _steps: &mut Steps<L>) -> bool {
-        fits(&self.regions, note, holder, value)
+    fn fits(&self, note: Note, holder: u32, value: Cell, _steps: &mut Steps<L>) -> bool {
+        fits(self.regions.slots(), note, holder, value)
     }
 
     fn reserve_pins(&mut self, n: u32) -> Result<(), NoMemory> {
@@ -347,17 +337,17 @@ impl Heap for ScanHeap {
         self.pins.unpin(value);
     }
 
-    fn delete<L: Ledger>(&mut self, region: u32, steps: &mut Steps<L>) -> Result<(), Denied> {
+    fn delete(&mut self, region: u32, steps: &mut Steps<L>) -> Result<(), Denied> {
         if region == 0 {
             return Err(Denied::Root);
         }
-        if any_child(&self.regions, region) {
+        if any_child(self.regions.slots(), region) {
             return Err(Denied::Subregion);
         }
         if self.is_named(region, steps) {
             return Err(Denied::Reference);
         }
-        self.regions[region as usize] = None;
+        self.regions.let_go(region);
         Ok(())
     }
 
@@ -367,7 +357,7 @@ impl Heap for ScanHeap {
     }
 }
 
-impl SetHeap for ScanHeap {
+impl<L: Ledger> SetHeap for ScanHeap<L> {
     /// Deletes live regions, each of which stands there once: all of them or none. It takes no memory.
     /// For each of them it reads at most all cells, each once.
     ///
@@ -376,17 +366,17 @@ impl SetHeap for ScanHeap {
     /// Where region 0 is among them, else where a live region that isn't has a member as its parent,
     /// else where a counted cell of such a region, or a pin, names a member. After an error nothing has
     /// changed.
-    fn delete_set<L: Ledger>(&mut self, set: &[u32], steps: &mut Steps<L>) -> Result<(), Denied> {
+    fn delete_set(&mut self, set: &[u32], steps: &mut Steps<L>) -> Result<(), Denied> {
         if set.contains(&0) {
             return Err(Denied::Root);
         }
-        if has_child_outside(&self.regions, set) {
+        if has_child_outside(self.regions.slots(), set) {
             return Err(Denied::Subregion);
         }
         if self.is_set_named(set, steps) {
             return Err(Denied::Reference);
         }
-        clear_all(&mut self.regions, set);
+        self.regions.let_all_go(set);
         Ok(())
     }
 }

@@ -21,7 +21,7 @@ fn is_member(set: &[u32], region: usize) -> bool
 }
 
 /// Whether a region is live and has one of the set as its parent.
-fn is_child_of(slot: &Option<Region>, set: &[u32]) -> bool
+fn is_child_of<L: Ledger>(slot: &Option<Region<L>>, set: &[u32]) -> bool
     ensures { result ≡ is_child_of set.now slot.now }
 {
     match slot {
@@ -31,7 +31,7 @@ fn is_child_of(slot: &Option<Region>, set: &[u32]) -> bool
 }
 
 /// Whether the region i is live, isn't of the set, and has one of the set as its parent.
-fn is_child_outside(regions: &[Option<Region>], i: usize, set: &[u32]) -> bool
+fn is_child_outside<L: Ledger>(regions: &[Option<Region<L>>], i: usize, set: &[u32]) -> bool
     requires { i < length regions.now }
     ensures { result ≡ not (is_member set.now i) && is_child_of set.now (slice_index_or regions.now i None) }
 {
@@ -39,7 +39,7 @@ fn is_child_outside(regions: &[Option<Region>], i: usize, set: &[u32]) -> bool
 }
 
 /// Whether a live region that isn't of the set has one of the set as its parent.
-pub(crate) fn has_child_outside(regions: &[Option<Region>], set: &[u32]) -> bool
+pub(crate) fn has_child_outside<L: Ledger>(regions: &[Option<Region<L>>], set: &[u32]) -> bool
     ensures { result ≡ has_child_outside set.now 0 regions.now }
 {
     for i in 0..regions.len() {
@@ -53,7 +53,7 @@ pub(crate) fn has_child_outside(regions: &[Option<Region>], set: &[u32]) -> bool
 /// Whether a counted cell of the region i, if it is live and not of the set, names this one. Each cell
 /// that is read is a step.
 fn beside_names<L: Ledger>(
-    regions: &[Option<Region>],
+    regions: &[Option<Region<L>>],
     i: usize,
     set: &[u32],
     region: u32,
@@ -73,7 +73,7 @@ fn beside_names<L: Ledger>(
 /// Whether a counted cell of a live region that isn't of the set names this one. Each cell that is read
 /// is a step.
 pub(crate) fn any_beside_names<L: Ledger>(
-    regions: &[Option<Region>],
+    regions: &[Option<Region<L>>],
     set: &[u32],
     region: u32,
     steps: &mut Steps<L>,
@@ -91,7 +91,7 @@ pub(crate) fn any_beside_names<L: Ledger>(
 }
 
 /// Lets the regions of a set go.
-pub(crate) fn clear_all(regions: &mut [Option<Region>], set: &[u32])
+pub(crate) fn clear_all<L: Ledger>(regions: &mut [Option<Region<L>>], set: &[u32])
     requires { All (λ r. r < length regions.old) set.now }
     ensures { (s : KeptStore) → s.regions ≡ regions.old → deleted_all set.now s ≡ record s { regions = regions.new } }
 {

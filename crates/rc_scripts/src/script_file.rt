@@ -1,5 +1,5 @@
 // Runs the script of a file.
-ghost use Rattle.std.specs.Prelude.{◌≡◌, ◌<◌, Option};
+ghost use Rattle.std.specs.Prelude.{◌≡◌, Option};
 ghost use Rattle.rc_base.specs.Sinks.{SinkState};
 ghost use Rattle.rc_base.specs.Sources.{SourceState};
 ghost use Rattle.rc_outcomes.specs.Outside.{outside};
@@ -17,8 +17,6 @@ use rc_sets::{ScriptFault, script};
 use rc_store::SetHeap;
 use rc_text_files::{NoText, load_text};
 use std::alloc::Global;
-use std::marker::Brand;
-use std::sync::ledger::{Blank, Ledger};
 
 /// What was done, or the fault, of a script.
 fn as_done(ended: Result<(), ScriptFault>) -> Result<Done, RunFault>
@@ -31,24 +29,6 @@ fn as_done(ended: Result<(), ScriptFault>) -> Result<Done, RunFault>
     }
 }
 
-/// Runs a script over an unused heap. Nobody reads the count of its steps.
-fn run_uncounted<H: SetHeap, O: Sink, L: Ledger>(
-    alloc: Global,
-    text: &[u8],
-    heap: &mut H,
-    out: &mut O,
-    blank: Blank,
-) -> Result<(), ScriptFault>
-    requires name { blank.name ≡ L.name }
-    requires parts { blank.parts ≡ L.parts }
-    requires some { 0 < L.parts }
-    requires heap { IsNew (H.store heap.old) }
-    ensures { RanScript text.now (limits_of (H.store heap.old)) (O.state out.old) (O.state out.new) (H.store heap.new) result }
-{
-    let mut steps = Steps::<L>::start(blank);
-    script(alloc, text, heap, out, &mut steps)
-}
-
 /// Runs a script over the heap, which is given the limits, and flushes the output, but for one that a
 /// byte could not be written to.
 fn run_text<H: SetHeap, O: Sink>(
@@ -57,12 +37,13 @@ fn run_text<H: SetHeap, O: Sink>(
     limits: &Limits,
     heap: &mut H,
     out: &mut O,
+    steps: &mut Steps<H::Counter>,
 ) -> Result<Done, Fault>
     requires { IsNew (H.store heap.old) }
     ensures { AnsweredScript text.now limits.now (O.state out.old) (O.state out.new) (H.store heap.new) result }
 {
     heap.limit(limits);
-    let ended = run_uncounted::<H, O, Brand>(alloc, text, heap, out, Blank::new(1));
+    let ended = script(alloc, text, heap, out, steps);
     flush_behind(out, as_done(ended))
 }
 
@@ -73,6 +54,7 @@ fn run_or_refuse<H: SetHeap, O: Sink>(
     limits: &Limits,
     heap: &mut H,
     out: &mut O,
+    steps: &mut Steps<H::Counter>,
 ) -> Result<Done, Fault>
     requires { IsNew (H.store heap.old) }
     ensures { AnsweredText text.now limits.now (O.state out.old) (O.state out.new) (H.store heap.old) (H.store heap.new) result }
@@ -80,7 +62,7 @@ fn run_or_refuse<H: SetHeap, O: Sink>(
     if text.len() > MOST_TEXT_BYTES as usize {
         return Ok(Done::Refused(Refusal::TooLong));
     }
-    run_text(alloc, text, limits, heap, out)
+    run_text(alloc, text, limits, heap, out, steps)
 }
 
 /// Loads the script of a file and runs it over an unused heap, for a request that asks that.
@@ -91,12 +73,13 @@ pub fn run_script<F: Shelf, O: Sink, H: SetHeap>(
     files: &mut F,
     out: &mut O,
     heap: &mut H,
+    steps: &mut Steps<H::Counter>,
 ) -> Result<Done, Fault>
     requires { IsNew (H.store heap.old) }
     ensures { (request : Option Request) (input : SourceState) (err : SinkState) → ScriptOf request name.now limits → Performs request (outside (F.state files.old) input (O.state out.old) err (H.store heap.old)) (outside (F.state files.new) input (O.state out.new) err (H.store heap.new)) result }
 {
     match load_text(alloc, name, files) {
-        Ok(text) => run_or_refuse(alloc, text.as_slice(), &limits, heap, out),
+        Ok(text) => run_or_refuse(alloc, text.as_slice(), &limits, heap, out, steps),
         Err(NoText::TooLong) => Ok(Done::Refused(Refusal::TooLong)),
         Err(NoText::Failed(fault)) => Err(fault),
     }

@@ -18,7 +18,6 @@ use rc_replies::Reply;
 use rc_store::{Denied, Heap, SetHeap};
 use std::alloc::{AllocError, Global};
 use std::collections::BTreeSet;
-use std::sync::ledger::Ledger;
 
 fn are_live<H: Heap>(heap: &H, regions: &[u32]) -> bool
     ensures { result ≡ list_all (live_in (H.store heap.now).regions) regions.now }
@@ -45,7 +44,7 @@ fn are_distinct(alloc: Global, regions: &[u32]) -> Result<bool, NoMemory>
     Ok(set.len() == regions.len())
 }
 
-fn delete<H: SetHeap, L: Ledger>(heap: &mut H, regions: &[u32], steps: &mut Steps<L>) -> Reply
+fn delete<H: SetHeap>(heap: &mut H, regions: &[u32], steps: &mut Steps<H::Counter>) -> Reply
     requires { IsSet (H.store heap.old) regions.now }
     ensures { Deletes regions.now (H.store heap.old) (H.store heap.new) result }
 {
@@ -58,12 +57,12 @@ fn delete<H: SetHeap, L: Ledger>(heap: &mut H, regions: &[u32], steps: &mut Step
 }
 
 /// Deletes all these regions, or none.
-pub(crate) fn drop_all<H: SetHeap, L: Ledger>(
+pub(crate) fn drop_all<H: SetHeap>(
     alloc: Global,
     heap: &mut H,
     records: &Records,
     regions: &[u32],
-    steps: &mut Steps<L>,
+    steps: &mut Steps<H::Counter>,
 ) -> Result<Reply, NoMemory>
     requires { IsKeptBy records.now (H.store heap.old) }
     ensures { MayObey (Drop regions.now) (H.store heap.old) (H.store heap.new) records.now result }

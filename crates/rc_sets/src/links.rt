@@ -10,7 +10,6 @@ use crate::records::Records;
 use rc_base::Steps;
 use rc_replies::Reply;
 use rc_store::{Cell, Heap, Place, Pointer};
-use std::sync::ledger::Ledger;
 
 fn has_cell<H: Heap>(heap: &H, records: &Records, element: Pointer) -> bool
     requires { IsKeptBy records.now (H.store heap.now) }
@@ -45,12 +44,12 @@ fn target_cell(target: Option<u32>) -> Cell
 }
 
 /// Writes a region, or none, into a cell.
-pub(crate) fn link<H: Heap, L: Ledger>(
+pub(crate) fn link<H: Heap>(
     heap: &mut H,
     records: &Records,
     element: Pointer,
     target: Option<u32>,
-    steps: &mut Steps<L>,
+    steps: &mut Steps<H::Counter>,
 ) -> Reply
     requires { IsKeptBy records.now (H.store heap.old) }
     ensures { DidLine (Some (Link element.region element.object element.index target)) (H.store heap.old) (H.store heap.new) records.now result }

@@ -15,14 +15,13 @@ use rc_commands::{Command, NoCommand, command_of};
 use rc_replies::Reply;
 use rc_store::{Pointer, SetHeap};
 use std::alloc::Global;
-use std::sync::ledger::Ledger;
 
-fn obey<H: SetHeap, L: Ledger>(
+fn obey<H: SetHeap>(
     alloc: Global,
     command: &Command,
     heap: &mut H,
     records: &mut Records,
-    steps: &mut Steps<L>,
+    steps: &mut Steps<H::Counter>,
 ) -> Result<Reply, NoMemory>
     requires { IsKeptBy records.old (H.store heap.old) }
     ensures { MayObey (asked command.now) (H.store heap.old) (H.store heap.new) records.new result }
@@ -45,12 +44,12 @@ fn obey<H: SetHeap, L: Ledger>(
 }
 
 /// Obeys a line.
-pub(crate) fn obey_line<H: SetHeap, L: Ledger>(
+pub(crate) fn obey_line<H: SetHeap>(
     alloc: Global,
     line: &[u8],
     heap: &mut H,
     records: &mut Records,
-    steps: &mut Steps<L>,
+    steps: &mut Steps<H::Counter>,
 ) -> Result<Reply, NoMemory>
     requires { IsKeptBy records.old (H.store heap.old) }
     ensures { MayDoLine (command_of line.now) (H.store heap.old) (H.store heap.new) records.new result }

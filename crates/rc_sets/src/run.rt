@@ -13,7 +13,6 @@ use rc_commands::next_line;
 use rc_replies::write_reply;
 use rc_store::SetHeap;
 use std::alloc::Global;
-use std::sync::ledger::Ledger;
 
 /// What cut a script short.
 #[derive(Clone, Copy, Debug, PartialEq, Eq)]
@@ -31,12 +30,12 @@ pub enum ScriptFault {
 ///
 /// `WriteFault` where a byte of an answer could not be put: those before it were. `Memory`: a front of
 /// the output was written. The heap is then what some of the lines made it, from the first on.
-pub fn script<H: SetHeap, O: Sink, L: Ledger>(
+pub fn script<H: SetHeap, O: Sink>(
     alloc: Global,
     text: &[u8],
     heap: &mut H,
     out: &mut O,
-    steps: &mut Steps<L>,
+    steps: &mut Steps<H::Counter>,
 ) -> Result<(), ScriptFault>
     requires { IsNew (H.store heap.old) }
     ensures text { PutText (heap_text text.now (limits_of (H.store heap.old))) (O.state out.old) (O.state out.new) result }

@@ -5,7 +5,7 @@ ghost use Rattle.rc_soaks.specs.Soaking.{RanAlone};
 ghost use Rattle.rc_store.specs.Stores.{IsNew};
 
 use rc_answers::{Done, Fault};
-use rc_base::{Bytes, Discard, End, Limits, NoMemory};
+use rc_base::{Bytes, Discard, End, Limits, NoMemory, Steps};
 use rc_code::Loaded;
 use rc_exec::run_loaded;
 use rc_store::Heap;
@@ -33,11 +33,12 @@ pub(crate) fn run_alone<H: Heap>(
     code: &Loaded,
     limits: &Limits,
     heap: &mut H,
+    steps: &mut Steps<H::Counter>,
 ) -> Result<End, NoMemory>
     requires { IsNew (H.store heap.old) }
     ensures { IfOk result (λ end. RanAlone code.now limits.now end (H.store heap.new)) }
 {
     let mut input = Bytes::new(Vec::new(alloc), Vec::new(alloc));
     let mut out = Discard::new();
-    end_of(run_loaded(alloc, code, limits, heap, &mut input, &mut out))
+    end_of(run_loaded(alloc, code, limits, heap, &mut input, &mut out, steps))
 }

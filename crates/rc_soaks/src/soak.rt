@@ -15,7 +15,7 @@ ghost use Rattle.rc_store.specs.Stores.{IsNew};
 use crate::made::{Made, make};
 use crate::running::run_alone;
 use rc_answers::{Done, Fault};
-use rc_base::{End, Limits, MOST_BLOCKS, MOST_REGIONS, Sink, USUAL_TURNS};
+use rc_base::{End, Limits, MOST_BLOCKS, MOST_REGIONS, Sink, Steps, USUAL_TURNS};
 use rc_compile::{CompileFault, program};
 use rc_gen::generate;
 use rc_outcomes::report;
@@ -52,11 +52,12 @@ fn soak_program<O: Sink, H: Heap>(
     limits: &Limits,
     out: &mut O,
     heap: &mut H,
+    steps: &mut Steps<H::Counter>,
 ) -> Result<Done, Fault>
     requires { IsNew (H.store heap.old) }
     ensures { (program : AProgram) (end : AnEnd) → IsMadeOf program made.now → EndsSo program limits.now end → Soaked number program limits.now made.now.entries.items end (O.state out.old) (O.state out.new) (H.store heap.new) result }
 {
-    let Ok(end) = run_alone(alloc, &made.code, limits, heap) else {
+    let Ok(end) = run_alone(alloc, &made.code, limits, heap, steps) else {
         return Err(Fault::Memory);
     };
     report(out, summary_text(alloc, &summary_of(number, made, end)))
@@ -70,6 +71,7 @@ fn soak_text<O: Sink, H: Heap>(
     limits: &Limits,
     out: &mut O,
     heap: &mut H,
+    steps: &mut Steps<H::Counter>,
 ) -> Result<Done, Fault>
     requires { IsNew (H.store heap.old) }
     ensures { SoakedText number text.now limits.now (O.state out.old) (O.state out.new) (H.store heap.old) (H.store heap.new) result }
@@ -82,7 +84,7 @@ fn soak_text<O: Sink, H: Heap>(
     let Ok(made) = make(alloc, &program) else {
         return Err(Fault::Memory);
     };
-    soak_program(alloc, number, &made, limits, out, heap)
+    soak_program(alloc, number, &made, limits, out, heap, steps)
 }
 
 /// Makes the program of this number, compiles it, runs it over the heap within the usual limits, without
@@ -92,6 +94,7 @@ pub fn soak_number<O: Sink, H: Heap>(
     number: u64,
     out: &mut O,
     heap: &mut H,
+    steps: &mut Steps<H::Counter>,
 ) -> Result<Done, Fault>
     requires { IsNew (H.store heap.old) }
     ensures { (request : Option Request) (files : ShelfState) (input : SourceState) (err : SinkState) → SoaksOf request number → Performs request (outside files input (O.state out.old) err (H.store heap.old)) (outside files input (O.state out.new) err (H.store heap.new)) result }
@@ -99,5 +102,13 @@ pub fn soak_number<O: Sink, H: Heap>(
     let Ok(text) = generate(alloc, number) else {
         return Err(Fault::Memory);
     };
-    soak_text(alloc, number, text.as_slice(), &USUAL_LIMITS, out, heap)
+    soak_text(
+        alloc,
+        number,
+        text.as_slice(),
+        &USUAL_LIMITS,
+        out,
+        heap,
+        steps,
+    )
 }

@@ -16,14 +16,14 @@ use rc_store::{Cell, Place};
 use std::sync::ledger::Ledger;
 
 /// Appends an object of so many elements of a shape, all zero or null.
-pub(crate) fn push_object(
-    areas: &mut [Area],
+pub(crate) fn push_object<L: Ledger>(
+    areas: &mut [Area<L>],
     slot: usize,
     shape: u32,
     count: u32,
     size: u64,
     shapes: &Shapes,
-    bank: &mut Bank,
+    bank: &mut Bank<L>,
 ) -> Result<(), NoMemory>
     requires slot { slot < length areas.old }
     requires laid { IsLaid shapes.now (area_at areas.old slot) }
@@ -39,8 +39,8 @@ pub(crate) fn push_object(
 
 /// Writes a cell.
 #[inline(always)]
-pub(crate) fn write_cell(
-    areas: &mut [Area],
+pub(crate) fn write_cell<L: Ledger>(
+    areas: &mut [Area<L>],
     slot: usize,
     place: Place,
     value: Cell,
@@ -62,7 +62,7 @@ pub(crate) fn write_cell(
 /// Writes a cell, and answers what it held.
 #[inline(always)]
 pub(crate) fn replace_cell<L: Ledger>(
-    areas: &mut [Area],
+    areas: &mut [Area<L>],
     slot: usize,
     place: Place,
     value: Cell,
@@ -92,7 +92,7 @@ pub(crate) fn replace_cell<L: Ledger>(
 }
 
 /// Lets the objects go.
-pub(crate) fn clear(areas: &mut [Area], slot: usize, bank: &mut Bank)
+pub(crate) fn clear<L: Ledger>(areas: &mut [Area<L>], slot: usize, bank: &mut Bank<L>)
     requires { slot < length areas.old }
     ensures empty { area_at areas.new slot ≡ no_area }
     ensures beside { IsBeside slot areas.old areas.new }
@@ -101,7 +101,12 @@ pub(crate) fn clear(areas: &mut [Area], slot: usize, bank: &mut Bank)
 }
 
 /// Lets the objects of all regions of a set go, all of them live.
-pub(crate) fn clear_all(registry: &Registry, set: &[u32], areas: &mut [Area], bank: &mut Bank)
+pub(crate) fn clear_all<L: Ledger>(
+    registry: &Registry,
+    set: &[u32],
+    areas: &mut [Area<L>],
+    bank: &mut Bank<L>,
+)
     requires live { All (IsMember registry.now.members) set.now }
     requires areas { length areas.old ≡ registry.now.slots }
     ensures { areas.new ≡ at_slots registry.now.members no_area set.now areas.old }

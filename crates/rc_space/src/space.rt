@@ -32,18 +32,18 @@ const BANK_PLACES: u32 = 1024;
 /// The live regions with their objects, and a count for each. Contracts see the regions as a heap keeps
 /// them, none for a dead one, and the counts.
 #[derive(Drop)]
-pub struct Space {
+pub struct Space<L: Ledger> {
     alloc: Global,
     registry: Registry,
     /// By slot.
-    areas: Vec<Area>,
+    areas: Vec<Area<L>>,
     /// By slot; between two calls none is set.
     marks: Vec<bool>,
     shapes: Shapes,
-    bank: Bank,
+    bank: Bank<L>,
 }
 
-impl Model for Space {
+impl<L: Ledger> Model for Space<L> {
     ghost use Rattle.rc_space.specs.Spaces.{IsSound, SpaceState, regions_of};
 
     ghost Value = { SpaceState };
@@ -64,13 +64,13 @@ fn one_mark(alloc: Global) -> Result<Vec<bool>, NoMemory>
     }
 }
 
-impl Space {
+impl<L: Ledger> Space<L> {
     /// Region 0 alone, without an object and without a reference.
     ///
     /// # Errors
     ///
     /// Out of memory.
-    pub fn new(alloc: Global) -> Result<Space, NoMemory>
+    pub fn new(alloc: Global) -> Result<Space<L>, NoMemory>
         ensures regions { IfOk result (λ space. space.regions ≡ Some no_view ∷ []) }
         ensures counts { IfOk result (λ space. (r : ℕ) → count_of space r ≡ 0) }
     {
@@ -141,7 +141,7 @@ impl Space {
 
     /// The value of a cell. It suits the cell's kind.
     #[inline(always)]
-    pub fn read<L: Ledger>(&self, place: Place, steps: &mut Steps<L>) -> Cell
+    pub fn read(&self, place: Place, steps: &mut Steps<L>) -> Cell
         requires { HasSpot self.now.regions place }
         ensures value { value_of result ≡ cell_value (object_in self.now.regions place.pointer.region place.pointer.object) place.pointer.index place.cell }
         ensures whole { IsWhole (object_in self.now.regions place.pointer.region place.pointer.object) place.pointer.index place.cell }
@@ -163,7 +163,7 @@ impl Space {
     ///
     /// In this order: the region is dead, the object has no such element.
     #[inline(always)]
-    pub fn load<L: Ledger>(
+    pub fn load(
         &self,
         pointer: Pointer,
         shift: i64,
@@ -243,7 +243,7 @@ impl Space {
     /// Writes a cell, and answers what it held, which suits the cell's kind. The value is one of those
     /// that the cell may hold. No count changes.
     #[inline(always)]
-    pub fn replace<L: Ledger>(&mut self, place: Place, value: Cell, steps: &mut Steps<L>) -> Cell
+    pub fn replace(&mut self, place: Place, value: Cell, steps: &mut Steps<L>) -> Cell
         requires spot { HasSpot self.old.regions place }
         requires suits { IsTrue (suits (slice_index_or (object_in self.old.regions place.pointer.region place.pointer.object).kinds (cell_place (object_in self.old.regions place.pointer.region place.pointer.object) place.pointer.index place.cell) NumberKind) (value_of value)) }
         ensures before { value_of result ≡ cell_value (object_in self.old.regions place.pointer.region place.pointer.object) place.pointer.index place.cell }
@@ -318,7 +318,7 @@ impl Space {
 
     /// Takes back what the cells of a live region count. Each cell that counts is read, which is a step.
     /// A region to which references are counted is live.
-    pub fn take_back_region<L: Ledger>(&mut self, region: u32, steps: &mut Steps<L>)
+    pub fn take_back_region(&mut self, region: u32, steps: &mut Steps<L>)
         requires live { IsTrue (live_in self.old.regions region) }
         requires enough { (r : ℕ) → held_refs r region (objects_in self.old.regions region) ≤ count_of self.old r }
         ensures counts { (r : ℕ) → count_of self.new r + held_refs r region (objects_in self.old.regions region) ≡ count_of self.old r }
@@ -333,7 +333,7 @@ impl Space {
     }
 
     /// Gives again what the cells of a live region count. Each cell that counts is read, which is a step.
-    pub fn give_region<L: Ledger>(&mut self, region: u32, steps: &mut Steps<L>)
+    pub fn give_region(&mut self, region: u32, steps: &mut Steps<L>)
         requires region { IsTrue (live_in self.old.regions region) }
         requires live { (r : ℕ) → 0 < held_refs r region (objects_in self.old.regions region) → IsTrue (live_in self.old.regions r) }
         requires few { (r : ℕ) → count_of self.old r + held_refs r region (objects_in self.old.regions region) ≤ 18446744073709551615 }
@@ -398,7 +398,7 @@ impl Space {
 
     /// Whether live region a is b, or above b's parent. The links that it follows up the tree are
     /// steps.
-    pub fn is_above<L: Ledger>(&self, a: u32, b: u32, steps: &mut Steps<L>) -> bool
+    pub fn is_above(&self, a: u32, b: u32, steps: &mut Steps<L>) -> bool
         requires a { IsTrue (live_in self.now.regions a) }
         requires b { IsTrue (live_in self.now.regions b) }
         ensures above { result ≡ is_above (parent_in self.now.regions) a b }

@@ -4,3 +4,4 @@ pub mod Stores
 pub mod Elements
 pub mod Laws
 pub mod Sets
+pub mod Whole

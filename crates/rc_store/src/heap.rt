@@ -19,6 +19,7 @@ pub trait Heap: Drop {
     ghost use Rattle.rc_store.specs.Elements.{Finds, Loads, Stores, place_from};
     ghost use Rattle.rc_store.specs.Values.{note_of, value_of};
     ghost use Rattle.rc_store.specs.Stores.{HasObject, HasPlace, IsFresh, IsLive, IsNew, MayStand, allocated, deleted, has_child, kind_at, limited, live_in, made, object_in, objects_in, parent_in, value_at, written};
+    ghost use Rattle.rc_store.specs.Whole.{IsWhole};
     ghost use Rattle.rc_store.specs.declared.cell.MakeFault.TheVariants.{Full};
     ghost use Rattle.rc_core.specs.declared.ty.Note.TheVariants.{Plain};
     ghost use Rattle.rc_store.specs.declared.cell.Denied.TheVariants.{Root, Subregion, Reference};
@@ -28,6 +29,15 @@ pub trait Heap: Drop {
 
     /// How many cells a deletion of this region reads at most.
     ghost most_reads: { Self → ℕ → ℕ };
+
+    /// The ledger of the one counter by which its cells are read.
+    type Counter: Ledger;
+
+    /// What is kept at every moment: region 0 lives, and so does the older parent of each live region; each
+    /// cell holds a value of its kind that names no dead region and fits the annotation, and no pin names
+    /// a dead region. So what is read may be written back. It does nothing.
+    fn stays_whole(&self)
+        ensures { IsWhole (store self.now) };
 
     /// Makes a child of a live region, and answers its number: regions count from 1 in the order in
     /// which they are made.
@@ -51,7 +61,6 @@ pub trait Heap: Drop {
     fn add_global(&mut self, kind: &Layout, n: u32) -> Result<u32, NoMemory>
         requires first { length (store self.old).regions ≡ 1 }
         requires few { length (objects_in (store self.old).regions 0) < 4294967295 }
-        requires live { IsLive (store self.old) 0 }
         ensures number { IfOk result (λ o. o ≡ length (objects_in (store self.old).regions 0)) }
         ensures ok { OnOk result (store self.new ≡ allocated 0 (map kind_of (kinds_in kind.now)) n (store self.old)) }
         ensures err { OnErr result (store self.new ≡ store self.old) };
@@ -81,7 +90,7 @@ pub trait Heap: Drop {
         ensures { result ≡ (object_in (store self.now).regions region object).count };
 
     /// The value of a cell.
-    fn read<L: Ledger>(&self, place: Place, steps: &mut Steps<L>) -> Cell
+    fn read(&self, place: Place, steps: &mut Steps<Self::Counter>) -> Cell
         requires { HasPlace (store self.now) place }
         ensures value { value_of result ≡ value_at (store self.now) place }
         ensures never_falls { steps.old ≤ steps.new };
@@ -91,12 +100,12 @@ pub trait Heap: Drop {
     /// # Errors
     ///
     /// In this order: the region is dead, the object has no such element.
-    fn load<L: Ledger>(
+    fn load(
         &self,
         pointer: Pointer,
         shift: i64,
         cell: u32,
-        steps: &mut Steps<L>,
+        steps: &mut Steps<Self::Counter>,
     ) -> Result<Cell, Missed>
         requires object { IsLive (store self.now) pointer.region → HasObject (store self.now) pointer.region pointer.object }
         requires place { Finds (store self.now).regions pointer shift → HasPlace (store self.now) (place_from pointer shift cell) }
@@ -122,7 +131,7 @@ pub trait Heap: Drop {
     }
 
     /// Writes a counted cell, or one that holds a number.
-    fn write_counted<L: Ledger>(&mut self, place: Place, value: Cell, steps: &mut Steps<L>)
+    fn write_counted(&mut self, place: Place, value: Cell, steps: &mut Steps<Self::Counter>)
         requires may { MayStand (store self.old) place (value_of value) }
         requires plain { note_of (kind_at (store self.old) place) ≡ Plain }
         ensures written { store self.new ≡ written place (value_of value) (store self.old) }
@@ -134,13 +143,13 @@ pub trait Heap: Drop {
     ///
     /// In this order: the region is dead, the object has no such element. After an error nothing has
     /// changed.
-    fn store_number<L: Ledger>(
+    fn store_number(
         &mut self,
         pointer: Pointer,
         shift: i64,
         cell: u32,
         number: i64,
-        steps: &mut Steps<L>,
+        steps: &mut Steps<Self::Counter>,
     ) -> Result<(), Missed>
         requires object { IsLive (store self.old) pointer.region → HasObject (store self.old) pointer.region pointer.object }
         requires may { Finds (store self.old).regions pointer shift → MayStand (store self.old) (place_from pointer shift cell) (Number number) }
@@ -176,7 +185,7 @@ pub trait Heap: Drop {
         ensures { store self.new ≡ written place (value_of value) (store self.old) };
 
     /// Whether the value fits an annotation, in an object of the holder's region.
-    fn fits<L: Ledger>(&self, note: Note, holder: u32, value: Cell, steps: &mut Steps<L>) -> bool
+    fn fits(&self, note: Note, holder: u32, value: Cell, steps: &mut Steps<Self::Counter>) -> bool
         requires holder { IsLive (store self.now) holder }
         requires fresh { IsFresh (store self.now) (value_of value) }
         ensures fits { result ≡ fits (parent_in (store self.now).regions) note holder (value_of value) }
@@ -211,7 +220,7 @@ pub trait Heap: Drop {
     ///
     /// For region 0, else where it has a live child, else where a counted cell of another live region
     /// or a pin names it. After an error nothing has changed.
-    fn delete<L: Ledger>(&mut self, region: u32, steps: &mut Steps<L>) -> Result<(), Denied>
+    fn delete(&mut self, region: u32, steps: &mut Steps<Self::Counter>) -> Result<(), Denied>
         requires { IsLive (store self.old) region }
         ensures ok { OnOk result (store self.new ≡ deleted region (store self.old)) }
         ensures err { OnErr result (store self.new ≡ store self.old) }

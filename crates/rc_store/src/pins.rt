@@ -39,13 +39,13 @@ fn any_names(cells: &[Cell], region: u32) -> bool
     false
 }
 
-/// Where a value stands.
+/// Where a value stands: the last place, since what was pinned last is taken away first.
 fn place_of(cells: &[Cell], value: Cell) -> usize
     requires { Contains (map value_of cells.now) (value_of value) }
     ensures below { result < length cells.now }
     ensures is { value_of (slice_index_or cells.now result value) ≡ value_of value }
 {
-    for at in 0..cells.len() {
+    for at in (0..cells.len()).rev() {
         if cells[at].is(value) {
             return at;
         }

@@ -5,7 +5,6 @@ ghost use Rattle.std.specs.List.{sum_by};
 use crate::cell::Denied;
 use crate::heap::Heap;
 use rc_base::Steps;
-use std::sync::ledger::Ledger;
 
 /// A heap that deletes several regions at once.
 pub trait SetHeap: Heap {
@@ -19,7 +18,7 @@ pub trait SetHeap: Heap {
     /// Where region 0 is among them, else where a live region that isn't has a member as its parent,
     /// else where a counted cell of such a region, or a pin, names a member. After an error nothing has
     /// changed.
-    fn delete_set<L: Ledger>(&mut self, set: &[u32], steps: &mut Steps<L>) -> Result<(), Denied>
+    fn delete_set(&mut self, set: &[u32], steps: &mut Steps<Self::Counter>) -> Result<(), Denied>
         requires { IsSet (Self.store self.old) set.now }
         ensures ok { OnOk result (Self.store self.new ≡ deleted_all set.now (Self.store self.old)) }
         ensures err { OnErr result (Self.store self.new ≡ Self.store self.old) }

@@ -13,7 +13,7 @@ use std::sync::ledger::Ledger;
 
 /// Takes back what the cells of an element count, of which the first stands at a place.
 fn take_back_element<L: Ledger>(
-    area: &Area,
+    area: &Area<L>,
     place: u64,
     shape: &[Kind],
     holder: u32,
@@ -41,7 +41,7 @@ fn take_back_element<L: Ledger>(
 
 /// Takes back what the cells of an object's elements count.
 fn take_back_elements<L: Ledger>(
-    area: &Area,
+    area: &Area<L>,
     head: Head,
     shape: &[Kind],
     holder: u32,
@@ -64,7 +64,7 @@ fn take_back_elements<L: Ledger>(
 
 /// Takes back what the cells of an object count. No cell is looked at where none of an element counts.
 fn take_back_object<L: Ledger>(
-    area: &Area,
+    area: &Area<L>,
     head: Head,
     shapes: &Shapes,
     holder: u32,
@@ -88,7 +88,7 @@ fn take_back_object<L: Ledger>(
 /// Takes back what the cells of a region, the holder, count. Each cell that counts is read, which is a
 /// step.
 pub fn take_back_area<L: Ledger>(
-    area: &Area,
+    area: &Area<L>,
     shapes: &Shapes,
     holder: u32,
     directory: &mut Directory,

@@ -16,7 +16,7 @@ use std::sync::ledger::Ledger;
 
 /// Takes back what the cell at a place counts. A cell that counts is read, which is a step.
 pub(crate) fn take_back_cell<L: Ledger>(
-    area: &Area,
+    area: &Area<L>,
     place: u64,
     kind: Kind,
     holder: u32,
@@ -38,7 +38,7 @@ pub(crate) fn take_back_cell<L: Ledger>(
 
 /// Gives what the cell at a place counts. A cell that counts is read, which is a step.
 pub(crate) fn give_cell<L: Ledger>(
-    area: &Area,
+    area: &Area<L>,
     place: u64,
     kind: Kind,
     holder: u32,

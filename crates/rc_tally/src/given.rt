@@ -12,7 +12,7 @@ use std::sync::ledger::Ledger;
 
 /// Gives what the cells of an element count, of which the first stands at a place.
 fn give_element<L: Ledger>(
-    area: &Area,
+    area: &Area<L>,
     place: u64,
     shape: &[Kind],
     holder: u32,
@@ -40,7 +40,7 @@ fn give_element<L: Ledger>(
 
 /// Gives what the cells of an object count.
 fn give_object<L: Ledger>(
-    area: &Area,
+    area: &Area<L>,
     head: Head,
     shape: &[Kind],
     holder: u32,
@@ -64,7 +64,7 @@ fn give_object<L: Ledger>(
 /// Gives what the cells of a region, the holder, count. Each cell that counts is read, which is a
 /// step.
 pub fn give_area<L: Ledger>(
-    area: &Area,
+    area: &Area<L>,
     shapes: &Shapes,
     holder: u32,
     directory: &mut Directory,

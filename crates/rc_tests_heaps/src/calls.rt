@@ -1,11 +1,9 @@
 // A table of calls.
-ghost use Rattle.std.specs.Prelude.{◌≡◌, ◌<◌};
+ghost use Rattle.std.specs.Prelude.{◌≡◌};
 
 use crate::steps::{Step, first_wrong_of_counting, first_wrong_of_plain};
 use rc_base::{Limits, Steps};
 use rc_store::{Cell, Denied, Heap, MakeFault};
-use std::marker::Brand;
-use std::sync::ledger::{Blank, Ledger};
 use std::test::Fail;
 
 /// A new region, where its parent is live.
@@ -16,28 +14,18 @@ pub(crate) fn child<H: Heap>(heap: &mut H, parent: u32) -> Option<Result<u32, Ma
     Some(heap.new_region(parent))
 }
 
-fn delete_from<H: Heap, L: Ledger>(
+/// The deletion of a live region.
+pub(crate) fn delete<H: Heap>(
     heap: &mut H,
     region: u32,
-    blank: Blank,
+    counter: &mut Steps<H::Counter>,
 ) -> Option<Result<(), Denied>>
-    requires name { blank.name ≡ L.name }
-    requires parts { blank.parts ≡ L.parts }
-    requires some { 0 < L.parts }
     ensures { (H.store heap.new).pins ≡ (H.store heap.old).pins }
 {
     if !heap.is_live(region) {
         return None;
     }
-    let mut steps = Steps::<L>::start(blank);
-    Some(heap.delete(region, &mut steps))
-}
-
-/// The deletion of a live region, by one who counts no steps.
-pub(crate) fn delete<H: Heap>(heap: &mut H, region: u32) -> Option<Result<(), Denied>>
-    ensures { (H.store heap.new).pins ≡ (H.store heap.old).pins }
-{
-    delete_from::<H, Brand>(heap, region, Blank::new(1))
+    Some(heap.delete(region, counter))
 }
 
 /// Pins a live region.

@@ -13,3 +13,5 @@ mod set_scripts;
 mod sets;
 #[cfg(test)]
 mod steps;
+#[cfg(test)]
+mod writing;

@@ -1,5 +1,5 @@
 // Objects that name regions, and pins.
-ghost use Rattle.std.specs.Prelude.{◌≡◌, ◌<◌, ◌∷◌, [], Some, map, IfOk};
+ghost use Rattle.std.specs.Prelude.{◌≡◌, ◌∷◌, [], Some, map, IfOk};
 ghost use Rattle.rc_store.specs.Stores.{no_view};
 ghost use Rattle.rc_core.specs.Laid.{kind_of};
 ghost use Rattle.rc_core.specs.Shapes.{kinds_in};
@@ -15,7 +15,6 @@ use rc_scan::ScanHeap;
 use rc_store::{Cell, Denied, Heap, MakeFault, Place, Pointer};
 use std::alloc::{AllocError, Global};
 use std::marker::Brand;
-use std::sync::ledger::{Blank, Ledger};
 use std::test::Fail;
 
 /// An element with one cell, which holds a region.
@@ -27,17 +26,15 @@ pub(crate) fn handle(alloc: Global) -> Result<Layout, AllocError>
     Ok(Layout { cells })
 }
 
-fn name_from<H: Heap, L: Ledger>(
+/// A new object of a live region, whose one cell names a live region: what is read from it then.
+pub(crate) fn name<H: Heap>(
     heap: &mut H,
     holder: u32,
     target: u32,
     layout: &Layout,
-    blank: Blank,
+    counter: &mut Steps<H::Counter>,
 ) -> Option<Result<Cell, MakeFault>>
-    requires layout { map kind_of (kinds_in layout.now) ≡ RegionKind ∷ [] }
-    requires name { blank.name ≡ L.name }
-    requires parts { blank.parts ≡ L.parts }
-    requires some { 0 < L.parts }
+    requires { map kind_of (kinds_in layout.now) ≡ RegionKind ∷ [] }
 {
     if !heap.is_live(holder) || !heap.is_live(target) {
         return None;
@@ -52,56 +49,38 @@ fn name_from<H: Heap, L: Ledger>(
                 },
                 cell: 0,
             };
-            let mut steps = Steps::<L>::start(blank);
-            heap.write_counted(place, Cell::Region(target), &mut steps);
-            Some(Ok(heap.read(place, &mut steps)))
+            heap.write_counted(place, Cell::Region(target), counter);
+            Some(Ok(heap.read(place, counter)))
         }
         Err(fault) => Some(Err(fault)),
     }
 }
 
-/// A new object of a live region, whose one cell names a live region: what is read from it then.
-pub(crate) fn name<H: Heap>(
-    heap: &mut H,
-    holder: u32,
-    target: u32,
-    layout: &Layout,
-) -> Option<Result<Cell, MakeFault>>
-    requires { map kind_of (kinds_in layout.now) ≡ RegionKind ∷ [] }
-{
-    name_from::<H, Brand>(heap, holder, target, layout, Blank::new(1))
-}
-
-fn fits_from<H: Heap, L: Ledger>(
+/// Whether a live region fits an annotation in a live region's objects.
+pub(crate) fn fits<H: Heap>(
     heap: &H,
     holder: u32,
     region: u32,
     note: Note,
-    blank: Blank,
-) -> Option<bool>
-    requires name { blank.name ≡ L.name }
-    requires parts { blank.parts ≡ L.parts }
-    requires some { 0 < L.parts }
-{
+    counter: &mut Steps<H::Counter>,
+) -> Option<bool> {
     if !heap.is_live(holder) || !heap.is_live(region) {
         return None;
     }
-    let mut steps = Steps::<L>::start(blank);
-    Some(heap.fits(note, holder, Cell::Region(region), &mut steps))
-}
-
-/// Whether a live region fits an annotation in a live region's objects.
-pub(crate) fn fits<H: Heap>(heap: &H, holder: u32, region: u32, note: Note) -> Option<bool> {
-    fits_from::<H, Brand>(heap, holder, region, note, Blank::new(1))
+    Some(heap.fits(note, holder, Cell::Region(region), counter))
 }
 
 /// Pins a live region, tries to delete it, and takes the pin away again.
-pub(crate) fn delete_pinned<H: Heap>(heap: &mut H, region: u32) -> Option<Result<(), Denied>> {
+pub(crate) fn delete_pinned<H: Heap>(
+    heap: &mut H,
+    region: u32,
+    counter: &mut Steps<H::Counter>,
+) -> Option<Result<(), Denied>> {
     if !heap.is_live(region) || heap.reserve_pins(1).is_err() || !heap.is_live(region) {
         return None;
     }
     heap.pin(Cell::Region(region));
-    let answer = delete(heap, region);
+    let answer = delete(heap, region, counter);
     heap.unpin(Cell::Region(region));
     answer
 }
@@ -118,13 +97,13 @@ fn makes_a_global<H: Heap>(heap: &mut H, layout: &Layout) -> bool
 
 fn plain_makes_a_global(alloc: Global) -> Result<bool, NoMemory> {
     let layout = handle(alloc)?;
-    let mut heap = ScanHeap::new(alloc)?;
+    let mut heap = ScanHeap::<Brand>::new(alloc)?;
     Ok(makes_a_global(&mut heap, &layout))
 }
 
 fn counting_makes_a_global(alloc: Global) -> Result<bool, NoMemory> {
     let layout = handle(alloc)?;
-    let mut heap = CountHeap::new(alloc)?;
+    let mut heap = CountHeap::<Brand>::new(alloc)?;
     Ok(makes_a_global(&mut heap, &layout))
 }
 

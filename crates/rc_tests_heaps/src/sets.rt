@@ -1,12 +1,10 @@
 // Several regions deleted at once.
-ghost use Rattle.std.specs.Prelude.{◌≡◌, ◌<◌, IsTrue};
+ghost use Rattle.std.specs.Prelude.{◌≡◌, IsTrue};
 ghost use Rattle.rc_store.specs.Sets.{IsSet};
 
 use crate::steps::{Step, first_wrong_of_counting, first_wrong_of_plain};
 use rc_base::{Limits, Steps};
 use rc_store::{Cell, Denied, Heap, SetHeap};
-use std::marker::Brand;
-use std::sync::ledger::{Blank, Ledger};
 use std::test::Fail;
 
 /// Whether these are live regions, none of them twice.
@@ -26,28 +24,18 @@ fn is_set<H: Heap>(heap: &H, set: &[u32]) -> bool
     true
 }
 
-fn delete_set_from<H: SetHeap, L: Ledger>(
+/// The deletion of a set, where it is one.
+pub(crate) fn delete_set<H: SetHeap>(
     heap: &mut H,
     set: &[u32],
-    blank: Blank,
+    counter: &mut Steps<H::Counter>,
 ) -> Option<Result<(), Denied>>
-    requires name { blank.name ≡ L.name }
-    requires parts { blank.parts ≡ L.parts }
-    requires some { 0 < L.parts }
     ensures { (H.store heap.new).pins ≡ (H.store heap.old).pins }
 {
     if !is_set(heap, set) {
         return None;
     }
-    let mut steps = Steps::<L>::start(blank);
-    Some(heap.delete_set(set, &mut steps))
-}
-
-/// The deletion of a set, where it is one, by one who counts no steps.
-pub(crate) fn delete_set<H: SetHeap>(heap: &mut H, set: &[u32]) -> Option<Result<(), Denied>>
-    ensures { (H.store heap.new).pins ≡ (H.store heap.old).pins }
-{
-    delete_set_from::<H, Brand>(heap, set, Blank::new(1))
+    Some(heap.delete_set(set, counter))
 }
 
 /// Pins a live region, tries to delete a set, and takes the pin away again.
@@ -55,12 +43,13 @@ pub(crate) fn delete_set_pinned<H: SetHeap>(
     heap: &mut H,
     region: u32,
     set: &[u32],
+    counter: &mut Steps<H::Counter>,
 ) -> Option<Result<(), Denied>> {
     if !heap.is_live(region) || heap.reserve_pins(1).is_err() || !heap.is_live(region) {
         return None;
     }
     heap.pin(Cell::Region(region));
-    let answer = delete_set(heap, set);
+    let answer = delete_set(heap, set, counter);
     heap.unpin(Cell::Region(region));
     answer
 }

@@ -1,5 +1,5 @@
 // Tables of calls with their answers, and the walk over them through each heap.
-ghost use Rattle.std.specs.Prelude.{◌≡◌, ◌∷◌, [], map};
+ghost use Rattle.std.specs.Prelude.{◌≡◌, ◌<◌, ◌∷◌, [], map};
 ghost use Rattle.rc_core.specs.Laid.{kind_of};
 ghost use Rattle.rc_core.specs.Shapes.{kinds_in};
 ghost use Rattle.rc_core.specs.declared.layouts.Kind.TheVariants.{Region as RegionKind};
@@ -7,13 +7,15 @@ ghost use Rattle.rc_core.specs.declared.layouts.Kind.TheVariants.{Region as Regi
 use crate::calls::{child, delete, pin};
 use crate::references::{delete_pinned, fits, handle, name};
 use crate::sets::{delete_set, delete_set_pinned};
-use rc_base::{Limits, NoMemory};
+use rc_base::{Limits, NoMemory, Steps};
 use rc_core::layout::Layout;
 use rc_core::ty::Note;
 use rc_count::CountHeap;
 use rc_scan::ScanHeap;
 use rc_store::{Cell, Denied, Heap, MakeFault, SetHeap};
 use std::alloc::Global;
+use std::marker::Brand;
+use std::sync::ledger::{Blank, Ledger};
 
 /// A call with its answer, or none where what it asks for isn't live.
 #[derive(Clone, Copy)]
@@ -34,33 +36,67 @@ pub(crate) enum Step {
     IsLive(u32, bool),
 }
 
-fn is_answered<H: SetHeap>(heap: &mut H, layout: &Layout, step: Step) -> bool
+fn is_answered<H: SetHeap>(
+    heap: &mut H,
+    layout: &Layout,
+    step: Step,
+    counter: &mut Steps<H::Counter>,
+) -> bool
     requires { map kind_of (kinds_in layout.now) ≡ RegionKind ∷ [] }
 {
     match step {
         Step::Child(parent, answer) => child(heap, parent) == answer,
-        Step::Name(holder, target, answer) => name(heap, holder, target, layout) == answer,
-        Step::Fits(holder, region, note, answer) => fits(heap, holder, region, note) == answer,
-        Step::Delete(region, answer) => delete(heap, region) == answer,
-        Step::DeletePinned(region, answer) => delete_pinned(heap, region) == answer,
-        Step::DeleteSet(set, answer) => delete_set(heap, set) == answer,
-        Step::DeleteSetPinned(region, set, answer) => delete_set_pinned(heap, region, set)
-            == answer,
+        Step::Name(holder, target, answer) => {
+            name(heap, holder, target, layout, counter) == answer
+        }
+        Step::Fits(holder, region, note, answer) => {
+            fits(heap, holder, region, note, counter) == answer
+        }
+        Step::Delete(region, answer) => delete(heap, region, counter) == answer,
+        Step::DeletePinned(region, answer) => delete_pinned(heap, region, counter) == answer,
+        Step::DeleteSet(set, answer) => delete_set(heap, set, counter) == answer,
+        Step::DeleteSetPinned(region, set, answer) => {
+            delete_set_pinned(heap, region, set, counter) == answer
+        }
         Step::Pin(region) => pin(heap, region),
         Step::IsLive(region, live) => heap.is_live(region) == live,
     }
 }
 
 /// The first step that isn't answered so, if there is one.
-fn first_wrong<H: SetHeap>(heap: &mut H, layout: &Layout, steps: &[Step]) -> Option<usize>
+fn first_wrong<H: SetHeap>(
+    heap: &mut H,
+    layout: &Layout,
+    steps: &[Step],
+    counter: &mut Steps<H::Counter>,
+) -> Option<usize>
     requires { map kind_of (kinds_in layout.now) ≡ RegionKind ∷ [] }
 {
     for (place, step) in steps.iter().enumerate() {
-        if !is_answered(heap, layout, *step) {
+        if !is_answered(heap, layout, *step, counter) {
             return Some(place);
         }
     }
     None
+}
+
+fn walk_plain<L: Ledger>(
+    alloc: Global,
+    limits: Option<&Limits>,
+    steps: &[Step],
+    blank: Blank,
+) -> Result<Option<usize>, NoMemory>
+    requires name { blank.name ≡ L.name }
+    requires parts { blank.parts ≡ L.parts }
+    requires some { 0 < L.parts }
+{
+    let layout = handle(alloc)?;
+    let mut heap = ScanHeap::<L>::new(alloc)?;
+    let mut counter = Steps::<L>::start(blank);
+    if let Some(limits) = limits {
+        heap.limit(limits);
+    }
+    Ok(first_wrong(&mut heap, &layout, steps, &mut counter))
 }
 
 /// The first step that the plain heap doesn't answer so, if there is one. Without limits nothing may
@@ -70,12 +106,26 @@ pub(crate) fn first_wrong_of_plain(
     limits: Option<&Limits>,
     steps: &[Step],
 ) -> Result<Option<usize>, NoMemory> {
+    walk_plain::<Brand>(alloc, limits, steps, Blank::new(1))
+}
+
+fn walk_counting<L: Ledger>(
+    alloc: Global,
+    limits: Option<&Limits>,
+    steps: &[Step],
+    blank: Blank,
+) -> Result<Option<usize>, NoMemory>
+    requires name { blank.name ≡ L.name }
+    requires parts { blank.parts ≡ L.parts }
+    requires some { 0 < L.parts }
+{
     let layout = handle(alloc)?;
-    let mut heap = ScanHeap::new(alloc)?;
+    let mut heap = CountHeap::<L>::new(alloc)?;
+    let mut counter = Steps::<L>::start(blank);
     if let Some(limits) = limits {
         heap.limit(limits);
     }
-    Ok(first_wrong(&mut heap, &layout, steps))
+    Ok(first_wrong(&mut heap, &layout, steps, &mut counter))
 }
 
 /// The same of the heap that counts.
@@ -84,10 +134,5 @@ pub(crate) fn first_wrong_of_counting(
     limits: Option<&Limits>,
     steps: &[Step],
 ) -> Result<Option<usize>, NoMemory> {
-    let layout = handle(alloc)?;
-    let mut heap = CountHeap::new(alloc)?;
-    if let Some(limits) = limits {
-        heap.limit(limits);
-    }
-    Ok(first_wrong(&mut heap, &layout, steps))
+    walk_counting::<Brand>(alloc, limits, steps, Blank::new(1))
 }

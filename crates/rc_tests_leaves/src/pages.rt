@@ -1,4 +1,4 @@
-ghost use Rattle.std.specs.Prelude.{◌≡◌, ◌<◌, length};
+ghost use Rattle.std.specs.Prelude.{◌≡◌, ◌<◌};
 
 use rc_base::{NoMemory, Steps};
 use rc_pages::{Bank, Pages};
@@ -7,32 +7,17 @@ use std::marker::Brand;
 use std::sync::ledger::{Blank, Ledger};
 use std::test::Fail;
 
-fn cell_in<L: Ledger>(pages: &Pages, at: u64, blank: Blank) -> u128
-    requires name { blank.name ≡ L.name }
-    requires parts { blank.parts ≡ L.parts }
-    requires some { 0 < L.parts }
-    requires inside { at < length pages.now }
-{
-    pages.get(at, &mut Steps::<L>::start(blank))
-}
-
-fn cell(pages: &Pages, at: u64) -> u128
-    requires { at < length pages.now }
-{
-    cell_in::<Brand>(pages, at, Blank::new(1))
-}
-
 /// Writes to each cell this value more than its place.
-fn count_up(pages: &mut Pages, first: u128) {
+fn count_up<L: Ledger>(pages: &mut Pages<L>, first: u128) {
     for at in 0..pages.len() {
         pages.set(at, first.wrapping_add(at as u128));
     }
 }
 
 /// Whether the list has so many cells, each with this value more than its place.
-fn counts_up(pages: &Pages, len: u64, first: u128) -> bool {
+fn counts_up<L: Ledger>(pages: &Pages<L>, len: u64, first: u128, steps: &mut Steps<L>) -> bool {
     for at in 0..pages.len() {
-        if cell(pages, at) != first.wrapping_add(at as u128) {
+        if pages.get(at, steps) != first.wrapping_add(at as u128) {
             return false;
         }
     }
@@ -40,9 +25,9 @@ fn counts_up(pages: &Pages, len: u64, first: u128) -> bool {
 }
 
 /// Whether the list has so many cells, and those from a place on are zeros.
-fn ends_in_zeros(pages: &Pages, len: u64, from: u64) -> bool {
+fn ends_in_zeros<L: Ledger>(pages: &Pages<L>, len: u64, from: u64, steps: &mut Steps<L>) -> bool {
     for at in from..pages.len() {
-        if cell(pages, at) != 0 {
+        if pages.get(at, steps) != 0 {
             return false;
         }
     }
@@ -50,64 +35,83 @@ fn ends_in_zeros(pages: &Pages, len: u64, from: u64) -> bool {
 }
 
 /// Two lists of two pages each are filled, and the pages of one come back in a third.
-fn spare_page_is_cleared(alloc: Global) -> Result<bool, Fail> {
+fn spare_page_is_cleared<L: Ledger>(alloc: Global, blank: Blank) -> Result<bool, Fail>
+    requires name { blank.name ≡ L.name }
+    requires parts { blank.parts ≡ L.parts }
+    requires some { 0 < L.parts }
+{
+    let mut steps = Steps::<L>::start(blank);
     let mut bank = Bank::new(alloc, 3)?;
-    let mut first = Pages::new(alloc);
-    let mut second = Pages::new(alloc);
+    let mut first = Pages::<L>::new(alloc);
+    let mut second = Pages::<L>::new(alloc);
     first.push_zeros(257, &mut bank)?;
     second.push_zeros(257, &mut bank)?;
     count_up(&mut first, 1 << 127);
     count_up(&mut second, 7);
-    let filled = counts_up(&first, 257, 1 << 127);
+    let filled = counts_up(&first, 257, 1 << 127, &mut steps);
     first.give_back(&mut bank);
-    let mut third = Pages::new(alloc);
+    let mut third = Pages::<L>::new(alloc);
     third.push_zeros(257, &mut bank)?;
-    Ok(filled && ends_in_zeros(&third, 257, 0) && counts_up(&second, 257, 7))
+    Ok(
+        filled
+            && ends_in_zeros(&third, 257, 0, &mut steps)
+            && counts_up(&second, 257, 7, &mut steps),
+    )
 }
 
 #[test]
 fn a_spare_page_is_used_again_and_cleared(rt: HostRuntime) -> Result<(), Fail> {
-    assert!(rt; spare_page_is_cleared(rt.alloc())?);
+    assert!(rt; spare_page_is_cleared::<Brand>(rt.alloc(), Blank::new(1))?);
     Ok(())
 }
 
 /// Four pages are given back to a bank of two places, and as many cells are made again.
-fn full_bank_frees_the_others(alloc: Global) -> Result<bool, Fail> {
+fn full_bank_frees_the_others<L: Ledger>(alloc: Global, blank: Blank) -> Result<bool, Fail>
+    requires name { blank.name ≡ L.name }
+    requires parts { blank.parts ≡ L.parts }
+    requires some { 0 < L.parts }
+{
+    let mut steps = Steps::<L>::start(blank);
     let mut bank = Bank::new(alloc, 2)?;
-    let mut pages = Pages::new(alloc);
+    let mut pages = Pages::<L>::new(alloc);
     pages.push_zeros(1000, &mut bank)?;
     count_up(&mut pages, 1);
     pages.give_back(&mut bank);
-    let mut others = Pages::new(alloc);
+    let mut others = Pages::<L>::new(alloc);
     others.push_zeros(1000, &mut bank)?;
-    Ok(ends_in_zeros(&others, 1000, 0))
+    Ok(ends_in_zeros(&others, 1000, 0, &mut steps))
 }
 
 #[test]
 fn a_full_bank_frees_the_others(rt: HostRuntime) -> Result<(), Fail> {
-    assert!(rt; full_bank_frees_the_others(rt.alloc())?);
+    assert!(rt; full_bank_frees_the_others::<Brand>(rt.alloc(), Blank::new(1))?);
     Ok(())
 }
 
 /// Fills a list of 300 cells, with a spare page left in the bank, and pushes 1,000 more.
-fn refused_push_leaves_the_list(alloc: Global) -> Result<bool, NoMemory> {
+fn refused_push_leaves_the_list<L: Ledger>(alloc: Global, blank: Blank) -> Result<bool, NoMemory>
+    requires name { blank.name ≡ L.name }
+    requires parts { blank.parts ≡ L.parts }
+    requires some { 0 < L.parts }
+{
+    let mut steps = Steps::<L>::start(blank);
     let mut bank = Bank::new(alloc, 8)?;
-    let mut spare = Pages::new(alloc);
+    let mut spare = Pages::<L>::new(alloc);
     spare.push_zeros(600, &mut bank)?;
     spare.give_back(&mut bank);
-    let mut pages = Pages::new(alloc);
+    let mut pages = Pages::<L>::new(alloc);
     pages.push_zeros(300, &mut bank)?;
     count_up(&mut pages, 1);
     match pages.push_zeros(1000, &mut bank) {
-        Ok(()) => Ok(ends_in_zeros(&pages, 1300, 300)),
-        Err(_) => Ok(counts_up(&pages, 300, 1)),
+        Ok(()) => Ok(ends_in_zeros(&pages, 1300, 300, &mut steps)),
+        Err(_) => Ok(counts_up(&pages, 300, 1, &mut steps)),
     }
 }
 
 /// With ample memory the push succeeds. Where an allocation is made to fail, the list is as it was.
 #[test]
 fn a_refused_push_leaves_the_list(rt: HostRuntime) {
-    if let Ok(holds) = refused_push_leaves_the_list(rt.alloc()) {
+    if let Ok(holds) = refused_push_leaves_the_list::<Brand>(rt.alloc(), Blank::new(1)) {
         assert!(rt; holds);
     }
 }

@@ -7,6 +7,7 @@ use rc_count::CountHeap;
 use rc_scan::ScanHeap;
 use rc_store::{Heap, MakeFault};
 use std::alloc::{AllocError, Global};
+use std::marker::Brand;
 use std::test::Fail;
 
 /// An element of so many cells, each of which holds a region.
@@ -73,7 +74,7 @@ fn limits() -> Limits {
 fn the_plain_heap_has_objects_without_cells(rt: HostRuntime) -> Result<(), Fail> {
     let none = handles(rt.alloc(), 0)?;
     let one = handles(rt.alloc(), 1)?;
-    let mut heap = ScanHeap::new(rt.alloc())?;
+    let mut heap = ScanHeap::<Brand>::new(rt.alloc())?;
     heap.limit(&limits());
     assert!(rt; makes_objects_without_cells(&mut heap, &none, &one));
     Ok(())
@@ -83,7 +84,7 @@ fn the_plain_heap_has_objects_without_cells(rt: HostRuntime) -> Result<(), Fail>
 fn the_heap_that_counts_has_objects_without_cells(rt: HostRuntime) -> Result<(), Fail> {
     let none = handles(rt.alloc(), 0)?;
     let one = handles(rt.alloc(), 1)?;
-    let mut heap = CountHeap::new(rt.alloc())?;
+    let mut heap = CountHeap::<Brand>::new(rt.alloc())?;
     heap.limit(&limits());
     assert!(rt; makes_objects_without_cells(&mut heap, &none, &one));
     // as many elements as an object may have need no memory where they have no cells
@@ -94,7 +95,7 @@ fn the_heap_that_counts_has_objects_without_cells(rt: HostRuntime) -> Result<(),
 #[test]
 fn a_region_has_very_many_objects(rt: HostRuntime) -> Result<(), Fail> {
     let one = handles(rt.alloc(), 1)?;
-    let mut heap = CountHeap::new(rt.alloc())?;
+    let mut heap = CountHeap::<Brand>::new(rt.alloc())?;
     heap.limit(&limits());
     assert!(rt; makes_many(&mut heap, &one, 1_000_000));
     Ok(())
@@ -106,7 +107,7 @@ fn a_region_has_very_many_objects(rt: HostRuntime) -> Result<(), Fail> {
 fn an_object_that_no_memory_holds_changes_nothing(rt: HostRuntime) -> Result<(), Fail> {
     let huge = handles(rt.alloc(), 3_000_000)?;
     let one = handles(rt.alloc(), 1)?;
-    let mut heap = CountHeap::new(rt.alloc())?;
+    let mut heap = CountHeap::<Brand>::new(rt.alloc())?;
     heap.limit(&limits());
     assert!(rt; refuses_too_much(&mut heap, &huge, &one));
     Ok(())

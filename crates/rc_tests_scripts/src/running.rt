@@ -28,7 +28,7 @@ fn count_from<L: Ledger>(
     requires parts { blank.parts ≡ L.parts }
     requires some { 0 < L.parts }
 {
-    let mut heap = CountHeap::new(alloc)?;
+    let mut heap = CountHeap::<L>::new(alloc)?;
     heap.limit(&Limits {
         turns: 0,
         regions: of.regions,
@@ -57,7 +57,7 @@ fn look_from<L: Ledger>(
     requires parts { blank.parts ≡ L.parts }
     requires some { 0 < L.parts }
 {
-    let mut heap = ScanHeap::new(alloc)?;
+    let mut heap = ScanHeap::<L>::new(alloc)?;
     heap.limit(&Limits {
         turns: 0,
         regions: of.regions,

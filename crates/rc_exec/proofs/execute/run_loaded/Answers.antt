@@ -10,11 +10,11 @@ use Rattle.rc_exec.proofs.execute.run_loaded.Goals as goal
 pub returns : goal.returns
 returns g c =
     let input = g.S.Source.state c.args.input.now in
-    let input' = g.S.Source.state c.run_uncounted-ended.new.input in
+    let input' = g.S.Source.state c.run-ended.new.input in
     let a = g.O.Sink.state c.args.out.now in
-    let b = g.O.Sink.state c.run_uncounted-ended.new.out in
+    let b = g.O.Sink.state c.run-ended.new.out in
     let end = g.O.Sink.state c.flush_behind.new.out in
-    let heap = g.H.Heap.store c.run_uncounted-ended.new.heap in
-    flushed_run (TellsBytes input) (comes_of c.args.code.now c.args.limits.now) input input' a b end heap (as_done c.run_uncounted-ended.result) c.flush_behind.result
-    (machine_ran c.args.code.now c.args.limits.now input input' a b heap c.run_uncounted-ended.result c.run_uncounted-ended.ensures)
+    let heap = g.H.Heap.store c.run-ended.new.heap in
+    flushed_run (TellsBytes input) (comes_of c.args.code.now c.args.limits.now) input input' a b end heap (as_done c.run-ended.result) c.flush_behind.result
+    (machine_ran c.args.code.now c.args.limits.now input input' a b heap c.run-ended.result c.run-ended.ensures)
     (subst (λ (r : Result Done RunFault). FlushedBehind b end r c.flush_behind.result) c.as_done.ensures c.flush_behind.ensures)

@@ -3,7 +3,7 @@ use Rattle.rc_pages.specs.Cells.{IsLonger}
 use Rattle.rc_pages.proofs.pages.add_new.Given as goal
 
 abbrev pub invariant-loop : goal.invariant-loop
-invariant-loop l = record {
+invariant-loop g l = record {
   longer : IsLonger l.fn.pages.pages l.pages.pages l.counter;
   before : l.before ≡ length l.fn.pages.pages;
   room : l.fn.pages.room ≤ l.pages.room + l.counter;

@@ -5,7 +5,7 @@ use Rattle.rc_pages.proofs.CellLaws.{cleared-whole, cleared-count, cleared-next,
 use Rattle.rc_pages.proofs.pages.clear.Goals as goal
 
 pub loop-at-preserved-then-to-at-ge-CELLS : goal.loop-at-preserved-then-to-at-ge-CELLS
-loop-at-preserved-then-to-at-ge-CELLS c =
+loop-at-preserved-then-to-at-ge-CELLS g c =
     let now = c.loop-at.pages.pages in
     let at = c.loop-at.at in
     let fits : c.args.to ≤ 256 * length now = omega (arith, c.requires.inside, c.loop-at.invariant.count) in
@@ -20,7 +20,7 @@ loop-at-preserved-then-to-at-ge-CELLS c =
     }
 
 pub loop-at-preserved : goal.loop-at-preserved
-loop-at-preserved c =
+loop-at-preserved g c =
     let now = c.loop-at.pages.pages in
     let at = c.loop-at.at in
     let inside : at < 256 * length now = omega (arith, c.requires.inside, c.loop-at-test.true, c.loop-at.invariant.count) in

@@ -4,7 +4,7 @@ use Rattle.rc_pages.specs.Cells.{AreWhole}
 use Rattle.rc_pages.proofs.pages.clear.Given as goal
 
 abbrev pub invariant-loop-at : goal.invariant-loop-at
-invariant-loop-at l = record {
+invariant-loop-at g l = record {
   whole : AreWhole l.pages.pages;
   count : length l.pages.pages ≡ length l.fn.pages.pages;
   behind : l.from ≤ l.at;
@@ -13,4 +13,4 @@ invariant-loop-at l = record {
 }
 
 abbrev pub decreases-loop-at : goal.decreases-loop-at
-decreases-loop-at l = l.to - l.at
+decreases-loop-at g l = l.to - l.at

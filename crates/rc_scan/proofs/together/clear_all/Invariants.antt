@@ -5,6 +5,6 @@ use Rattle.rc_scan.proofs.together.clear_all.Given as goal
 
 -- the rest is still to go
 abbrev pub invariant-loop-region : goal.invariant-loop-region
-invariant-loop-region l = record {
+invariant-loop-region g l = record {
   rest : (s : KeptStore) → s.regions ≡ l.fn.regions → deleted_all l.set s ≡ deleted_all (drop l.region-index l.set) (record s { regions = l.regions });
 }

@@ -4,4 +4,4 @@ use Rattle.rc_scan.proofs.together.has_child_outside.Given as goal
 
 -- what is left decides
 abbrev pub invariant-loop-i : goal.invariant-loop-i
-invariant-loop-i l = has_child_outside l.set l.i (drop l.i l.regions) ≡ has_child_outside l.set 0 l.regions
+invariant-loop-i g l = has_child_outside l.set l.i (drop l.i l.regions) ≡ has_child_outside l.set 0 l.regions

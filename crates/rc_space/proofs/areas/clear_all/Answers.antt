@@ -6,7 +6,7 @@ use Rattle.rc_space.proofs.Sets.{area_emptied}
 use Rattle.rc_space.proofs.areas.clear_all.Goals as goal
 
 pub loop-region-preserved : goal.loop-region-preserved
-loop-region-preserved c =
+loop-region-preserved g c =
     let ms = c.args.registry.now.members in
     let set = c.args.set.now in
     let at = c.loop-region.region-index in

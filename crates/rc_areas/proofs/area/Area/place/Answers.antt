@@ -6,14 +6,14 @@ use Rattle.rc_areas.proofs.Cells.{place_is, place_sum, sum_below}
 use Rattle.rc_areas.proofs.area.Area.place.Goals as goal
 
 pub get-width-requires : goal.get-width-requires
-get-width-requires c =
+get-width-requires g c =
     subst (λ (h : Head). h.shape < length c.args.shapes.now)
     (sym (c.index-head.ensures ∙ ap (λ (a : AreaState). get_or a.heads c.args.object c.index-head.result.now) c.self.view_is))
     (shape_is c.args.shapes.now c.args.self.now.heads 0 c.args.object c.index-head.result.now c.requires.laid.heads c.requires.object)
 
 -- the first element's cells begin where the object does
 pub overflow_add-result : goal.overflow_add-result
-overflow_add-result c =
+overflow_add-result g c =
     let head = c.index-head.result.now in
     let is = c.index-head.ensures ∙ ap (λ (a : AreaState). get_or a.heads c.args.object head) c.self.view_is in
     let first : c.args.index ≡ 0 = c.if-index-eq0.true in
@@ -22,7 +22,7 @@ overflow_add-result c =
     omega (arith, below, c.self.invariant, ap (λ (a : AreaState). length a.codes) c.self.view_is)
 
 pub returns-then-index-eq0 : goal.returns-then-index-eq0
-returns-then-index-eq0 c =
+returns-then-index-eq0 g c =
     let head = c.index-head.result.now in
     let is = c.index-head.ensures ∙ ap (λ (a : AreaState). get_or a.heads c.args.object head) c.self.view_is in
     let first : c.args.index ≡ 0 = c.if-index-eq0.true in
@@ -36,22 +36,22 @@ returns-then-index-eq0 c =
     }
 
 pub overflow_mul-result : goal.overflow_mul-result
-overflow_mul-result c =
+overflow_mul-result g c =
     let below = sum_below c.args.shapes.now c.args.self.now c.requires.laid c.args.object c.requires.object c.index-head.result.now c.args.index c.args.cell c.requires.cell c.index-head.result.now c.get-width.result.now (c.index-head.ensures ∙ ap (λ (a : AreaState). get_or a.heads c.args.object c.index-head.result.now) c.self.view_is) c.get-width.ensures in
     omega (arith, below, c.self.invariant, ap (λ (a : AreaState). length a.codes) c.self.view_is)
 
 pub overflow_add-result-2 : goal.overflow_add-result-2
-overflow_add-result-2 c =
+overflow_add-result-2 g c =
     let below = sum_below c.args.shapes.now c.args.self.now c.requires.laid c.args.object c.requires.object c.index-head.result.now c.args.index c.args.cell c.requires.cell c.index-head.result.now c.get-width.result.now (c.index-head.ensures ∙ ap (λ (a : AreaState). get_or a.heads c.args.object c.index-head.result.now) c.self.view_is) c.get-width.ensures in
     omega (arith, below, c.self.invariant, ap (λ (a : AreaState). length a.codes) c.self.view_is)
 
 pub overflow_add-result-3 : goal.overflow_add-result-3
-overflow_add-result-3 c =
+overflow_add-result-3 g c =
     let below = sum_below c.args.shapes.now c.args.self.now c.requires.laid c.args.object c.requires.object c.index-head.result.now c.args.index c.args.cell c.requires.cell c.index-head.result.now c.get-width.result.now (c.index-head.ensures ∙ ap (λ (a : AreaState). get_or a.heads c.args.object c.index-head.result.now) c.self.view_is) c.get-width.ensures in
     omega (arith, below, c.self.invariant, ap (λ (a : AreaState). length a.codes) c.self.view_is)
 
 pub returns : goal.returns
-returns c = record {
+returns g c = record {
   is = place_sum c.args.shapes.now c.args.self.now c.requires.laid c.args.object c.requires.object c.index-head.result.now c.args.index c.args.cell c.requires.cell c.index-head.result.now c.get-width.result.now (c.index-head.ensures ∙ ap (λ (a : AreaState). get_or a.heads c.args.object c.index-head.result.now) c.self.view_is) c.get-width.ensures
       ∙ ap (λ n. before c.args.shapes.now c.args.object c.args.self.now.heads + n) (sym (place_is c.args.shapes.now c.args.self.now c.requires.laid c.args.object c.requires.object c.index-head.result.now c.args.index c.args.cell c.requires.cell));
   below = sum_below c.args.shapes.now c.args.self.now c.requires.laid c.args.object c.requires.object c.index-head.result.now c.args.index c.args.cell c.requires.cell c.index-head.result.now c.get-width.result.now (c.index-head.ensures ∙ ap (λ (a : AreaState). get_or a.heads c.args.object c.index-head.result.now) c.self.view_is) c.get-width.ensures;

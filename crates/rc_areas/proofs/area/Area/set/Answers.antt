@@ -7,7 +7,7 @@ use Rattle.rc_areas.proofs.Cells.{cell_written, place_is, spot}
 use Rattle.rc_areas.proofs.area.Area.set.Goals as goal
 
 pub returns-clause-written : goal.returns-clause-written
-returns-clause-written c =
+returns-clause-written g c =
     let shapes = c.args.shapes.now in
     let now = c.args.self.now in
     let d : Head = record { start = 0; count = 0; shape = 0 } in

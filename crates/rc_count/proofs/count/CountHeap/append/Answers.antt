@@ -10,12 +10,12 @@ use Rattle.rc_count.proofs.Counting.{counted_allocated}
 use Rattle.rc_count.proofs.count.CountHeap.append.Goals as goal
 
 pub push-requires-clause-size : goal.push-requires-clause-size
-push-requires-clause-size c =
+push-requires-clause-size g c =
     let width : c.len.result ≡ length c.args.kind.now.cells.items = omega (arith, c.len.ensures, c.args.kind.now.cells.ok.0) in
     c.in_ok-size.ensures ∙ ap (λ n. c.args.count * n) width
 
 pub invariant_of-self-2 : goal.invariant_of-self-2
-invariant_of-self-2 c =
+invariant_of-self-2 g c =
     let h = c.self.inside in
     let s : KeptStore = record { regions = h.space.regions; pins = h.pins.pins; spare = h.pins.spare; region_limit = h.region_limit; block_limit = h.block_limit } in
     let with : Regions → KeptStore = λ rs. record s { regions = rs } in

@@ -1,6 +1,6 @@
-use Rattle.std.proofs.Common.{◌≡◌, ◌-◌, ◌∙◌, None, set as slice_set, sym, ap, subst, arith}
-use Rattle.rc_store.specs.Kept.{KeptStore, Regions}
-use Rattle.rc_store.specs.Stores.{IsLive, cells_in, deleted, region_at}
+use Rattle.std.proofs.Common.{◌≡◌, ◌-◌, ◌∙◌, false, None, set as slice_set, sym, ap, subst, arith}
+use Rattle.rc_store.specs.Kept.{KeptStore, Regions, refs}
+use Rattle.rc_store.specs.Stores.{IsLive, cells_in, deleted, has_child, region_at}
 use Rattle.rc_count.specs.Counted.{IsCounted}
 use Rattle.rc_count.proofs.Counting.{cells_few, counted_deleted, held_few}
 use Rattle.rc_count.proofs.count.CountHeap.let_go.Goals as goal
@@ -26,5 +26,6 @@ invariant_of-self g c =
     let regions : c.remove.new.self.regions ≡ (deleted c.args.region s).regions = c.remove.ensures.regions ∙ ap (λ rs. slice_set rs c.args.region None) c.take_back_region.ensures.regions in
     subst (λ rs. IsCounted c.remove.new.self (with rs) (h.cells - c.cells.result)) (sym regions)
     (counted_deleted h.space s h.cells c.self.invariant c.args.region (subst (λ x. IsLive x c.args.region) (sym c.self.view_is) c.requires.live) c.remove.new.self (h.cells - c.cells.result)
+    c.requires.not_root (subst (λ x. has_child x c.args.region ≡ false) (sym c.self.view_is) c.requires.childless) (subst (λ x. refs x c.args.region ≡ 0) (sym c.self.view_is) c.requires.unnamed)
     (λ r. omega (arith, c.remove.ensures.counts r, c.take_back_region.ensures.counts r))
     (ap (λ n. h.cells - n) (c.cells.ensures ∙ ap (λ rs. cells_in (region_at rs c.args.region)) c.take_back_region.ensures.regions)))

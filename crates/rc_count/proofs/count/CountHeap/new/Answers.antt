@@ -2,6 +2,7 @@ use Rattle.std.proofs.Common.{◌≡◌, ◌∙◌, ◌+◌, ℕ, Bool, true, fa
 use Rattle.std.proofs.lemmas.List.Sums.{sum_by-cons}
 use Rattle.rc_store.specs.Kept.{KeptStore, refs}
 use Rattle.rc_store.specs.Stores.{PinsState, cells_in, no_view}
+use Rattle.rc_whole.proofs.Whole.{stays_whole}
 use Rattle.rc_space.specs.Spaces.{SpaceState, count_of}
 use Rattle.rc_count.specs.Counted.{IsCounted}
 use Rattle.rc_count.proofs.count.CountHeap.new.Goals as goal
@@ -26,7 +27,8 @@ counted_first space pins regions counts empty =
       counts = λ r. counts r ∙ sym (none r);
       sum = omega (arith, sum_by-cons cells_in (Some no_view) []);
       few = omega arith;
+      whole = stays_whole.new first (record { regions = refl; pins = refl });
     }))
 
 pub invariant_of-result : goal.invariant_of-result
-invariant_of-result c = counted_first c.in_ok-new.field-0 c.new-2.result c.in_ok-new.ensures.regions c.in_ok-new.ensures.counts c.new-2.ensures
+invariant_of-result g c = counted_first c.in_ok-new.field-0 c.new-2.result c.in_ok-new.ensures.regions c.in_ok-new.ensures.counts c.new-2.ensures

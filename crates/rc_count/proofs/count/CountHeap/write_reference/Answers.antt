@@ -59,4 +59,4 @@ invariant_of-self g c =
     let with : Regions → KeptStore = λ rs. record s { regions = rs } in
     subst (λ rs. IsCounted c.give.new.self (with rs) h.cells) (sym (c.give.ensures.regions ∙ c.take_back.ensures.regions ∙ c.replace-old.ensures.written))
     (counted_written h.space s h.cells c.self.invariant p there v (value_of c.replace-old.result) c.replace-old.ensures.before plain whole.suits may.kind c.take_back.new.self
-    (λ r. c.take_back.ensures.counts r ∙ ap (λ ns. get_or ns r 0) c.replace-old.ensures.counts) c.give.new.self c.give.ensures.counts)
+    (λ r. c.take_back.ensures.counts r ∙ ap (λ ns. get_or ns r 0) c.replace-old.ensures.counts) c.give.new.self may.fresh c.give.ensures.counts)

@@ -6,7 +6,7 @@ use Rattle.rc_count.proofs.Counting.{counted_unpinned}
 use Rattle.rc_count.proofs.count.CountHeapHeap.unpin.Goals as goal
 
 pub invariant_of-self : goal.invariant_of-self
-invariant_of-self c =
+invariant_of-self g c =
     let h = c.self.inside in
     let s : KeptStore = record { regions = h.space.regions; pins = h.pins.pins; spare = h.pins.spare; region_limit = h.region_limit; block_limit = h.block_limit } in
     let with : Regions → KeptStore = λ rs. record s { regions = rs; pins = c.unpin.new.self.pins; spare = c.unpin.new.self.spare } in

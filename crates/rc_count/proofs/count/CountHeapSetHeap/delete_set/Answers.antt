@@ -7,7 +7,7 @@ use Rattle.rc_counts.proofs.Together.{sets_follow}
 use Rattle.rc_space.specs.Spaces.{SpaceState, count_of}
 use Rattle.rc_count.specs.Counted.{IsCounted}
 use Rattle.rc_count.specs.Together.{all_held, cells_among}
-use Rattle.rc_count.proofs.Setting.{counted_set, named_set, set_cells, set_cells_fit, set_enough, set_named, set_room}
+use Rattle.rc_count.proofs.Setting.{counted_set, named_set, set_cells, set_cells_fit, set_enough, set_named, set_room, set_unnamed}
 use Rattle.rc_count.proofs.count.CountHeapSetHeap.delete_set.Goals as goal
 
 pub take_back_all-requires-clause-enough : goal.take_back_all-requires-clause-enough
@@ -65,6 +65,17 @@ overflow_sub-self g c =
     let low : c.cells_of.result ≤ h.cells = omega (arith, few, c.cells_of.ensures, ap (λ rs. cells_among rs set) regions) in
     low
 
+pub remove_all-requires-clause-unnamed : goal.remove_all-requires-clause-unnamed
+remove_all-requires-clause-unnamed g c =
+    let h = c.self.inside in
+    let s : KeptStore = record { regions = h.space.regions; pins = h.pins.pins; spare = h.pins.spare; region_limit = h.region_limit; block_limit = h.block_limit } in
+    let set = c.args.set.now in
+    let all : IsSet s set = subst (λ x. IsSet x set) (sym c.self.view_is) c.requires in
+    let same = c.has_child_outside.ensures.same in
+    let mid = c.take_back_all.new.space in
+    let less : (r : ℕ) → count_of mid r + all_held s.regions set r ≡ count_of h.space r = λ r. ap (λ (x : SpaceState). count_of mid r + all_held x.regions set r) (sym same) ∙ c.take_back_all.ensures.counts r ∙ ap (λ (x : SpaceState). count_of x r) same in
+    set_unnamed h.space s h.cells c.self.invariant set all mid less (λ named. false≢true (sym c.if-is_named.false ∙ c.is_named.ensures.1 named))
+
 pub invariant_of-self-2 : goal.invariant_of-self-2
 invariant_of-self-2 g c =
     let h = c.self.inside in
@@ -77,8 +88,10 @@ invariant_of-self-2 g c =
     let regions : mid.regions ≡ s.regions = c.take_back_all.ensures.regions ∙ ap (λ (x : SpaceState). x.regions) same in
     let less : (r : ℕ) → count_of mid r + all_held s.regions set r ≡ count_of h.space r = λ r. ap (λ (x : SpaceState). count_of mid r + all_held x.regions set r) (sym same) ∙ c.take_back_all.ensures.counts r ∙ ap (λ (x : SpaceState). count_of x r) same in
     let left : deleted_all set s ≡ with c.remove_all.new.self.regions = sets_follow.left s set ∙ ap with (sym (c.remove_all.ensures.regions ∙ ap (without set) regions)) in
+    let closed : has_child_outside set 0 s.regions ≡ false = sym c.has_child_outside.ensures.child ∙ c.if-has_child_outside.false in
     subst (λ x. IsCounted c.remove_all.new.self x (h.cells - c.cells_of.result)) left
-    (counted_set h.space s h.cells c.self.invariant set all mid less c.remove_all.new.self (h.cells - c.cells_of.result) c.remove_all.ensures.counts (ap (λ n. h.cells - n) (c.cells_of.ensures ∙ ap (λ rs. cells_among rs set) regions)))
+    (counted_set h.space s h.cells c.self.invariant set all mid less c.remove_all.new.self (h.cells - c.cells_of.result) (λ has. false≢true (sym c.if-has_root.false ∙ c.has_root.ensures.1 has)) closed
+    (λ named. false≢true (sym c.if-is_named.false ∙ c.is_named.ensures.1 named)) c.remove_all.ensures.counts (ap (λ n. h.cells - n) (c.cells_of.ensures ∙ ap (λ rs. cells_among rs set) regions)))
 
 pub returns-clause-ok : goal.returns-clause-ok
 returns-clause-ok g c =

@@ -5,10 +5,10 @@ use Rattle.rc_pages.proofs.Clean.{none-clean}
 use Rattle.rc_pages.proofs.pages.Pages.give_back.Goals as goal
 
 pub invariant_of-self : goal.invariant_of-self
-invariant_of-self c = subst (λ ps. Holds ps 0 × IsClean ps 0 0) (sym c.in_default.ensures.1) (no_cells, none-clean)
+invariant_of-self g c = subst (λ ps. Holds ps 0 × IsClean ps 0 0) (sym c.in_default.ensures.1) (no_cells, none-clean)
 
 pub returns-clause-bank : goal.returns-clause-bank
-returns-clause-bank c =
+returns-clause-bank g c =
     let all : c.self.inside.len ≡ length c.args.self.now = sym (held-length c.self.inside.pages.pages c.self.inside.len c.self.invariant.0) ∙ ap length c.self.view_is in
     let count : length c.self.inside.pages.pages ≡ pages_for (length c.args.self.now) = c.self.invariant.0.enough ∙ ap pages_for all in
     let none : length c.loop-page.pages.pages ≡ 0 = ap length c.in_default.ensures.0 in

@@ -3,7 +3,7 @@ use Rattle.rc_pages.specs.Cells.{AreWhole}
 use Rattle.rc_pages.proofs.pages.Pages.give_back.Given as goal
 
 abbrev pub invariant-loop-page : goal.invariant-loop-page
-invariant-loop-page l = record {
+invariant-loop-page g l = record {
   bank : l.bank ≡ record l.initial.bank { kept = l.initial.bank.kept + (length l.initial.pages.pages - length l.pages.pages) };
   fewer : length l.pages.pages ≤ length l.initial.pages.pages;
   room : l.initial.bank.kept + length l.initial.pages.pages ≤ l.initial.bank.places;
@@ -11,4 +11,4 @@ invariant-loop-page l = record {
 }
 
 abbrev pub decreases-loop-page : goal.decreases-loop-page
-decreases-loop-page l = length l.pages.pages
+decreases-loop-page g l = length l.pages.pages

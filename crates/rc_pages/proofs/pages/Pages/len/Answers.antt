@@ -3,4 +3,4 @@ use Rattle.rc_pages.proofs.CellLaws.{held-length}
 use Rattle.rc_pages.proofs.pages.Pages.len.Goals as goal
 
 pub returns : goal.returns
-returns c = sym (held-length c.self.inside.pages.pages c.self.inside.len c.self.invariant.0) ∙ ap length c.self.view_is
+returns g c = sym (held-length c.self.inside.pages.pages c.self.inside.len c.self.invariant.0) ∙ ap length c.self.view_is

@@ -5,7 +5,7 @@ use Rattle.rc_pages.proofs.Clean.{written-clean}
 use Rattle.rc_pages.proofs.pages.Pages.set.Goals as goal
 
 pub invariant_of-self : goal.invariant_of-self
-invariant_of-self c =
+invariant_of-self g c =
     let pages = c.self.inside.pages.pages in
     let len = c.self.inside.len in
     let held = c.self.invariant.0 in
@@ -15,4 +15,4 @@ invariant_of-self c =
     )
 
 pub returns : goal.returns
-returns c = shown-write c.self.inside.pages.pages c.self.inside.len c.args.self.now c.self.invariant.0 c.self.view_is c.args.at c.requires c.args.value c.write.new.self.pages c.write.ensures
+returns g c = shown-write c.self.inside.pages.pages c.self.inside.len c.args.self.now c.self.invariant.0 c.self.view_is c.args.at c.requires c.args.value c.write.new.self.pages c.write.ensures

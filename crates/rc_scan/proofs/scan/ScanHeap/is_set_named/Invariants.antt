@@ -6,7 +6,7 @@ use Rattle.rc_scan.proofs.scan.ScanHeap.is_set_named.Given as goal
 
 abbrev pub invariant-loop-member : goal.invariant-loop-member
 invariant-loop-member g l = record {
-  none : sum_by (refs_to (record { regions = l.self.regions.items; pins = l.self.pins.pins; spare = l.self.pins.spare; region_limit = l.self.region_limit; block_limit = l.self.block_limit }) l.set) (take l.member-index l.set) ≡ 0;
-  cost : l.steps ≤ l.fn.steps + sum_by (λ r. sum_by cells_in l.self.regions.items) (take l.member-index l.set);
+  none : sum_by (refs_to l.self l.set) (take l.member-index l.set) ≡ 0;
+  cost : l.steps ≤ l.fn.steps + sum_by (λ r. sum_by cells_in l.self.regions) (take l.member-index l.set);
   never_falls : l.fn.steps ≤ l.steps;
 }

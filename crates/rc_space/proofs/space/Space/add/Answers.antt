@@ -6,7 +6,7 @@ use Rattle.rc_groups.specs.Groups.{AreClear}
 use Rattle.rc_space.proofs.space.Space.add.Goals as goal
 
 pub returns-then-slot-len-clause-ok : goal.returns-then-slot-len-clause-ok
-returns-then-slot-len-clause-ok c =
+returns-then-slot-len-clause-ok g c =
     let s = c.self.inside in
     let new = c.in_ok-slot.ensures in
     let slot = c.in_ok-slot.field-0 in
@@ -19,7 +19,7 @@ returns-then-slot-len-clause-ok c =
     ∙ ap (λ (x : SpaceState). x.regions ++ Some (record { parent = c.args.parent; objects = [] }) ∷ []) c.self.view_is
 
 pub returns-else-slot-len-clause-ok : goal.returns-else-slot-len-clause-ok
-returns-else-slot-len-clause-ok c =
+returns-else-slot-len-clause-ok g c =
     let s = c.self.inside in
     let made = c.in_ok-slot.ensures in
     let slot = c.in_ok-slot.field-0 in
@@ -29,7 +29,7 @@ returns-else-slot-len-clause-ok c =
     ∙ ap (λ (x : SpaceState). x.regions ++ Some (record { parent = c.args.parent; objects = [] }) ∷ []) c.self.view_is
 
 pub invariant_of-self-then-slot-len : goal.invariant_of-self-then-slot-len
-invariant_of-self-then-slot-len c =
+invariant_of-self-then-slot-len g c =
     let s = c.self.inside in
     let made = c.in_ok-slot.ensures in
     let slot = c.in_ok-slot.field-0 in
@@ -46,7 +46,7 @@ invariant_of-self-then-slot-len c =
     }
 
 pub invariant_of-self-else-slot-len : goal.invariant_of-self-else-slot-len
-invariant_of-self-else-slot-len c =
+invariant_of-self-else-slot-len g c =
     let s = c.self.inside in
     let made = c.in_ok-slot.ensures in
     let slots : c.add.new.self.slots ≡ s.registry.slots = search rules in

@@ -4,7 +4,7 @@ use Rattle.rc_space.proofs.Shown.{area_read, cells_many, slot_inside}
 use Rattle.rc_space.proofs.space.Space.cells.Goals as goal
 
 pub returns : goal.returns
-returns c =
+returns g c =
     let s = c.self.inside in
     let view = ap (λ (x : SpaceState). x.regions) c.self.view_is in
     let inside = slot_inside s.registry.members s.areas.items s.shapes s.registry.slots c.self.invariant.space c.args.self.now.regions view c.args.region c.slot.result c.requires c.slot.ensures.slot c.slot.ensures.apart in

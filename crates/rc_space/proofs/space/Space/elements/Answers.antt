@@ -5,7 +5,7 @@ use Rattle.rc_space.proofs.Shown.{area_object, area_read, heads_many, slot_insid
 use Rattle.rc_space.proofs.space.Space.elements.Goals as goal
 
 pub count-requires-clause-object : goal.count-requires-clause-object
-count-requires-clause-object c =
+count-requires-clause-object g c =
     let s = c.self.inside in
     let view = ap (λ (x : SpaceState). x.regions) c.self.view_is in
     let inside = slot_inside s.registry.members s.areas.items s.shapes s.registry.slots c.self.invariant.space c.args.self.now.regions view c.args.region c.slot.result c.requires.live c.slot.ensures.slot c.slot.ensures.apart in
@@ -16,7 +16,7 @@ count-requires-clause-object c =
     )
 
 pub returns : goal.returns
-returns c =
+returns g c =
     let s = c.self.inside in
     let view = ap (λ (x : SpaceState). x.regions) c.self.view_is in
     let inside = slot_inside s.registry.members s.areas.items s.shapes s.registry.slots c.self.invariant.space c.args.self.now.regions view c.args.region c.slot.result c.requires.live c.slot.ensures.slot c.slot.ensures.apart in

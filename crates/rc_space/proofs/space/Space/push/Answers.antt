@@ -17,7 +17,7 @@ use Rattle.rc_space.proofs.Grown.{freed_beside, regions_beside, regions_stay, sh
 use Rattle.rc_space.proofs.space.Space.push.Goals as goal
 
 pub push_object-requires-clause-laid : goal.push_object-requires-clause-laid
-push_object-requires-clause-laid c =
+push_object-requires-clause-laid g c =
     let s = c.self.inside in
     let areas = s.areas.items in
     let ms = s.registry.members in
@@ -32,14 +32,14 @@ push_object-requires-clause-laid c =
     subst (λ xs. IsLaid shapes (area_at xs slot)) (sym c.deref_mut.ensures.value) (kept (area_at areas slot) (c.self.invariant.space.laid slot))
 
 pub push_object-requires-clause-size : goal.push_object-requires-clause-size
-push_object-requires-clause-size c =
+push_object-requires-clause-size g c =
     let layout = c.args.layout.now in
     let ks = map kind_of (kinds_in layout) in
     let shape = get_or_from_slice_get c.number.new.self c.in_ok-shape.shape ks [] c.in_ok-shape.ensures.number in
     c.requires.size ∙ ap (λ n. c.args.count * n) (sym (ap length shape ∙ length-map (kinds_in layout) kind_of ∙ length-map layout.cells.items cell_kind_of))
 
 pub invariant_of-self-2 : goal.invariant_of-self-2
-invariant_of-self-2 c =
+invariant_of-self-2 g c =
     let s = c.self.inside in
     let areas = s.areas.items in
     let ms = s.registry.members in
@@ -62,7 +62,7 @@ invariant_of-self-2 c =
     }
 
 pub returns-clause-ok : goal.returns-clause-ok
-returns-clause-ok c =
+returns-clause-ok g c =
     let s = c.self.inside in
     let areas = s.areas.items in
     let ms = s.registry.members in
@@ -92,7 +92,7 @@ returns-clause-ok c =
     ∙ ap (with_objects r (objects_in c.args.self.now.regions r ++ blank ks c.args.count ∷ [])) view) c.push_object.ensures.ok
 
 pub returns-clause-err : goal.returns-clause-err
-returns-clause-err c =
+returns-clause-err g c =
     let s = c.self.inside in
     let areas = s.areas.items in
     let ms = s.registry.members in

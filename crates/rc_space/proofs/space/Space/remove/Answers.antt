@@ -11,12 +11,12 @@ use Rattle.rc_space.proofs.Grown.{empty_laid, freed_less, regions_beside, space_
 use Rattle.rc_space.proofs.space.Space.remove.Goals as goal
 
 pub remove-requires-clause-childless : goal.remove-requires-clause-childless
-remove-requires-clause-childless c =
+remove-requires-clause-childless g c =
     let s = c.self.inside in
     sym (child_is s.areas.items s.shapes s.registry.members c.args.region) ∙ ap (λ (x : SpaceState). list_any (is_child c.args.region) x.regions) c.self.view_is ∙ c.requires.childless
 
 pub invariant_of-self : goal.invariant_of-self
-invariant_of-self c =
+invariant_of-self g c =
     let s = c.self.inside in
     let areas = s.areas.items in
     let ms = s.registry.members in
@@ -36,7 +36,7 @@ invariant_of-self c =
     }
 
 pub returns-clause-regions : goal.returns-clause-regions
-returns-clause-regions c =
+returns-clause-regions g c =
     let s = c.self.inside in
     let areas = s.areas.items in
     let ms = s.registry.members in

@@ -11,24 +11,24 @@ use Rattle.rc_space.proofs.Shown.{live_shown}
 use Rattle.rc_space.proofs.space.Space.remove_all.Goals as goal
 
 pub clear_all-requires-clause-live : goal.clear_all-requires-clause-live
-clear_all-requires-clause-live c =
+clear_all-requires-clause-live g c =
     let s = c.self.inside in
     let view = ap (λ (x : SpaceState). x.regions) c.self.view_is in
     λ k d inside. live_shown s.registry.members s.areas.items s.shapes s.registry.slots c.self.invariant.space c.args.self.now.regions view (get_or c.args.set.now k d) (c.requires.live k d inside)
 
 pub remove_all-requires-clause-live : goal.remove_all-requires-clause-live
-remove_all-requires-clause-live c =
+remove_all-requires-clause-live g c =
     let s = c.self.inside in
     let view = ap (λ (x : SpaceState). x.regions) c.self.view_is in
     λ k d inside. live_shown s.registry.members s.areas.items s.shapes s.registry.slots c.self.invariant.space c.args.self.now.regions view (get_or c.args.set.now k d) (c.requires.live k d inside)
 
 pub remove_all-requires-clause-closed : goal.remove_all-requires-clause-closed
-remove_all-requires-clause-closed c =
+remove_all-requires-clause-closed g c =
     let s = c.self.inside in
     λ has. false≢true (sym c.requires.closed ∙ ap (λ (x : SpaceState). has_child_outside c.args.set.now 0 x.regions) (sym c.self.view_is) ∙ outside_shown s.registry.members s.areas.items s.shapes c.args.set.now has)
 
 pub invariant_of-self : goal.invariant_of-self
-invariant_of-self c =
+invariant_of-self g c =
     let s = c.self.inside in
     let areas = s.areas.items in
     let ms = s.registry.members in
@@ -46,7 +46,7 @@ invariant_of-self c =
     }
 
 pub returns-clause-regions : goal.returns-clause-regions
-returns-clause-regions c =
+returns-clause-regions g c =
     let s = c.self.inside in
     let areas = s.areas.items in
     let ms = s.registry.members in

@@ -14,7 +14,7 @@ use Rattle.rc_space.proofs.Shown.{area_object, area_read, cell_whole, heads_many
 use Rattle.rc_space.proofs.space.Space.store_number.Goals as goal
 
 pub count-elements-requires-clause-object : goal.count-elements-requires-clause-object
-count-elements-requires-clause-object c =
+count-elements-requires-clause-object g c =
     let s = c.self.inside in
     let back : SFits w64 c.args.shift = search rules in
     let areas = s.areas.items in
@@ -29,7 +29,7 @@ count-elements-requires-clause-object c =
     omega (arith, c.requires.object f.live, heads_many ms areas s.shapes slots c.self.invariant.space c.args.self.now.regions view p.region slot f.live f.is c.index.result.now area)
 
 pub returns-in_default-element_at-clause-stores : goal.returns-in_default-element_at-clause-stores
-returns-in_default-element_at-clause-stores c =
+returns-in_default-element_at-clause-stores g c =
     let s = c.self.inside in
     let back : SFits w64 c.args.shift = search rules in
     let areas = s.areas.items in
@@ -46,7 +46,7 @@ returns-in_default-element_at-clause-stores c =
     )
 
 pub write_cell-requires-clause-object : goal.write_cell-requires-clause-object
-write_cell-requires-clause-object c =
+write_cell-requires-clause-object g c =
     let s = c.self.inside in
     let back : SFits w64 c.args.shift = search rules in
     let areas = s.areas.items in
@@ -62,7 +62,7 @@ write_cell-requires-clause-object c =
     subst (λ xs. p.object < length (area_at xs slot).heads) (sym c.deref_mut.ensures.value) below
 
 pub write_cell-requires-clause-cell : goal.write_cell-requires-clause-cell
-write_cell-requires-clause-cell c =
+write_cell-requires-clause-cell g c =
     let s = c.self.inside in
     let back : SFits w64 c.args.shift = search rules in
     let areas = s.areas.items in
@@ -81,7 +81,7 @@ write_cell-requires-clause-cell c =
     (subst (λ o. HasCell o i c.args.cell) (area_object ms areas s.shapes slots c.self.invariant.space c.args.self.now.regions view p.region slot f.live f.is (area_at areas slot) refl p.object) spot.cell)
 
 pub write_cell-requires-clause-suits : goal.write_cell-requires-clause-suits
-write_cell-requires-clause-suits c =
+write_cell-requires-clause-suits g c =
     let s = c.self.inside in
     let back : SFits w64 c.args.shift = search rules in
     let areas = s.areas.items in
@@ -102,7 +102,7 @@ write_cell-requires-clause-suits c =
     (subst (λ o. IsTrue (suits (get_or o.kinds (cell_place o i c.args.cell) NumberKind) (NumberValue (to_z w64 (of_z w64 c.args.number))))) (area_object ms areas s.shapes slots c.self.invariant.space c.args.self.now.regions view p.region slot f.live f.is (area_at areas slot) refl p.object) value)
 
 pub invariant_of-self-2 : goal.invariant_of-self-2
-invariant_of-self-2 c =
+invariant_of-self-2 g c =
     let s = c.self.inside in
     let back : SFits w64 c.args.shift = search rules in
     let areas = s.areas.items in
@@ -123,7 +123,7 @@ invariant_of-self-2 c =
     }
 
 pub returns-clause-stores : goal.returns-clause-stores
-returns-clause-stores c =
+returns-clause-stores g c =
     let s = c.self.inside in
     let back : SFits w64 c.args.shift = search rules in
     let areas = s.areas.items in
@@ -157,7 +157,7 @@ returns-clause-stores c =
     )
 
 pub returns-clause-whole : goal.returns-clause-whole
-returns-clause-whole c =
+returns-clause-whole g c =
     let s = c.self.inside in
     let back : SFits w64 c.args.shift = search rules in
     let areas = s.areas.items in

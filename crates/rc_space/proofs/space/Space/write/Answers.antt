@@ -13,7 +13,7 @@ use Rattle.rc_space.proofs.Grown.{freed_beside, regions_beside, space_beside}
 use Rattle.rc_space.proofs.space.Space.write.Goals as goal
 
 pub write_cell-requires-clause-object : goal.write_cell-requires-clause-object
-write_cell-requires-clause-object c =
+write_cell-requires-clause-object g c =
     let s = c.self.inside in
     let areas = s.areas.items in
     let ms = s.registry.members in
@@ -26,7 +26,7 @@ write_cell-requires-clause-object c =
     subst (λ xs. c.args.place.pointer.object < length (area_at xs slot).heads) (sym c.deref_mut.ensures.value) below
 
 pub write_cell-requires-clause-cell : goal.write_cell-requires-clause-cell
-write_cell-requires-clause-cell c =
+write_cell-requires-clause-cell g c =
     let s = c.self.inside in
     let areas = s.areas.items in
     let ms = s.registry.members in
@@ -39,7 +39,7 @@ write_cell-requires-clause-cell c =
     (subst (λ o. HasCell o c.args.place.pointer.index c.args.place.cell) (area_object ms areas s.shapes slots c.self.invariant.space c.args.self.now.regions view r slot spot.live c.find-slot.ensures.slot (area_at areas slot) refl c.args.place.pointer.object) spot.cell)
 
 pub write_cell-requires-clause-suits : goal.write_cell-requires-clause-suits
-write_cell-requires-clause-suits c =
+write_cell-requires-clause-suits g c =
     let s = c.self.inside in
     let areas = s.areas.items in
     let ms = s.registry.members in
@@ -53,7 +53,7 @@ write_cell-requires-clause-suits c =
     (subst (λ o. IsTrue (suits (get_or o.kinds (cell_place o p.index c.args.place.cell) NumberKind) (value_of c.args.value))) (area_object ms areas s.shapes slots c.self.invariant.space c.args.self.now.regions view r slot spot.live c.find-slot.ensures.slot (area_at areas slot) refl c.args.place.pointer.object) c.requires.suits)
 
 pub invariant_of-self : goal.invariant_of-self
-invariant_of-self c =
+invariant_of-self g c =
     let s = c.self.inside in
     let areas = s.areas.items in
     let ms = s.registry.members in
@@ -73,7 +73,7 @@ invariant_of-self c =
     }
 
 pub returns-clause-written : goal.returns-clause-written
-returns-clause-written c =
+returns-clause-written g c =
     let s = c.self.inside in
     let areas = s.areas.items in
     let ms = s.registry.members in
@@ -98,7 +98,7 @@ returns-clause-written c =
     ∙ ap (with_objects r objects) view
 
 pub returns-clause-whole : goal.returns-clause-whole
-returns-clause-whole c =
+returns-clause-whole g c =
     let s = c.self.inside in
     let areas = s.areas.items in
     let ms = s.registry.members in

@@ -1,4 +1,0 @@
-use Rattle.rc_exec.proofs.execute.run_loaded.Given as goal
-
-abbrev pub ghosts-run_uncounted : goal.ghosts-run_uncounted
-ghosts-run_uncounted g a = record { name = a.blank.name; parts = a.blank.parts }
