@@ -1,0 +1,15 @@
+pub mod Items
+pub mod Globals
+pub mod Fronts
+pub mod Files
+pub mod PlacedItems
+pub mod All
+pub mod Structs
+pub mod Covers
+pub mod Agrees
+pub mod Agreed
+pub mod Linked
+pub mod Mains
+pub mod Limits
+pub mod StubLimits
+pub mod Cells

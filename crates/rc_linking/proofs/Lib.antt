@@ -1,0 +1,11 @@
+pub mod Sim
+pub mod Values
+pub mod Calls
+pub mod Expressions
+pub mod Statements
+pub mod Names
+pub mod Heads
+pub mod Scopes
+pub mod Params
+pub mod Placed
+pub mod FileLimits
