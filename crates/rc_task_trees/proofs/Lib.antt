@@ -1,0 +1,13 @@
+pub mod Common
+pub mod Apart
+pub mod Ends
+pub mod Cutting
+pub mod LineFeeds
+pub mod Scanning
+pub mod OwnWords
+pub mod Lines
+pub mod Derived
+pub mod OwnItems
+pub mod Whole
+pub mod Meanings
+pub mod Bytes

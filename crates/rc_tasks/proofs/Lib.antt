@@ -1,0 +1,11 @@
+pub mod Common
+pub mod Lists
+pub mod Moved
+pub mod Follows
+pub mod Heaps
+pub mod Worlds
+pub mod Yields
+pub mod Bodies
+pub mod Whole
+pub mod Computed
+pub mod TypedReach
