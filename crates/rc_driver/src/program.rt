@@ -6,12 +6,12 @@ ghost use Rattle.rc_outcomes.specs.Performing.{Performs};
 ghost use Rattle.rc_store.specs.Stores.{IsNew};
 
 use rc_answers::{Done, Fault, tell};
-use rc_base::{Shelf, Sink, Source};
+use rc_base::{Shelf, Sink, Source, Steps};
 use rc_evaluation::evaluate_file;
 use rc_exec::exec_image;
 use rc_image_files::{list_image, upgrade_image};
 use rc_inspections::check_file;
-use rc_programs::{compile_file, run_file};
+use rc_programs::{compile_file, run_file, run_tasks};
 use rc_requests::{Request, request_of};
 use rc_scripts::run_script;
 use rc_soaks::soak_number;
@@ -26,26 +26,32 @@ fn perform<F: Shelf, S: Source, O: Sink, H: SetHeap>(
     input: &mut S,
     out: &mut O,
     heap: &mut H,
+    steps: &mut Steps<H::Counter>,
 ) -> Result<Done, Fault>
     requires { IsNew (H.store heap.old) }
     ensures { (err : SinkState) → Performs (asked words.now) (outside (F.state files.old) (S.state input.old) (O.state out.old) err (H.store heap.old)) (outside (F.state files.new) (S.state input.new) (O.state out.new) err (H.store heap.new)) result }
 {
     match request_of(words) {
         Some(Request::Run(file, limits)) => {
-            run_file(alloc, file, limits, files, input, out, heap)
+            run_file(alloc, file, limits, files, input, out, heap, steps)
         }
         Some(Request::Slow(file, limits)) => {
             evaluate_file(alloc, file, limits, files, input, out)
         }
         Some(Request::Compile(from, to)) => compile_file(alloc, from, to, files),
         Some(Request::Exec(file, limits)) => {
-            exec_image(alloc, file, limits, files, input, out, heap)
+            exec_image(alloc, file, limits, files, input, out, heap, steps)
         }
         Some(Request::Listing(file)) => list_image(alloc, file, files, out),
         Some(Request::Upgrade(from, to)) => upgrade_image(alloc, from, to, files),
-        Some(Request::Script(file, limits)) => { run_script(alloc, file, limits, files, out, heap) }
+        Some(Request::Script(file, limits)) => {
+            run_script(alloc, file, limits, files, out, heap, steps)
+        }
         Some(Request::Checks(file)) => check_file(alloc, file, files, out),
-        Some(Request::Soak(number)) => soak_number(alloc, number, out, heap),
+        Some(Request::Soak(number)) => soak_number(alloc, number, out, heap, steps),
+        Some(Request::Tasks(file, choices, limits)) => run_tasks(
+            alloc, file, choices, limits, files, input, out, heap, steps,
+        ),
         None => Ok(Done::Usage),
     }
 }
@@ -57,14 +63,15 @@ fn perform<F: Shelf, S: Source, O: Sink, H: SetHeap>(
 /// writes exactly the bytes of the meaning of its program or its image to `out`, takes exactly those of
 /// `input` that the meaning asks for, and answers exactly its end. A program is run through its image,
 /// but for the request to go node by node; an image of a file is run with all marks of its stores taken
-/// away. Both run over `heap`, which is as its constructor made it, under the request's limits. A script
-/// of heap commands is obeyed over it line by line, writes exactly its answers to `out`, and leaves the
-/// store that is behind its last line. A report on the checks of a program says exactly which may go. A
-/// program that is made from a number is run over the heap too, under the usual limits and without input,
-/// and the line that sums it up is written to `out`. Only a fault of the outside, which its count shows, or
-/// want of memory may cut a run or a report short, and then a front of its acts was done. What is answered
-/// is told on `err`. All that is promised stands fact by fact in `Serves` of specs/Headline, over the
-/// outside before the call and after it.
+/// away. Both run over `heap`, which is as its constructor made it, under the request's limits, and so does
+/// a program of tasks, which does exactly what its tasks mean under the choices. A script of heap commands
+/// is obeyed over it line by line, writes exactly its answers to `out`, and leaves the store that is behind
+/// its last line. A report on the checks of a program says exactly which may go. A program that is made
+/// from a number is run over the heap too, under the usual limits and without input, and the line that sums
+/// it up is written to `out`. Only a fault of the outside, which its count shows, or want of memory may cut
+/// a run or a report short, and then a front of its acts was done. What is answered is told on `err`. The
+/// cells of `heap` are read by `steps` alone, the one counter of its ledger. All that is promised stands fact
+/// by fact in `Serves` of specs/Headline, over the outside before the call and after it.
 ///
 /// # Errors
 ///
@@ -79,10 +86,11 @@ pub fn rc_main<F: Shelf, S: Source, O: Sink, E: Sink, H: SetHeap>(
     out: &mut O,
     err: &mut E,
     heap: &mut H,
+    steps: &mut Steps<H::Counter>,
 ) -> Result<Done, Fault>
     requires { IsNew (H.store heap.old) }
     ensures { Serves (asked words.now) (outside (F.state files.old) (S.state input.old) (O.state out.old) (E.state err.old) (H.store heap.old)) (outside (F.state files.new) (S.state input.new) (O.state out.new) (E.state err.new) (H.store heap.new)) result }
 {
-    let answer = perform(alloc, words, files, input, out, heap);
+    let answer = perform(alloc, words, files, input, out, heap, steps);
     tell(err, answer)
 }

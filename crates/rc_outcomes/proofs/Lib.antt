@@ -6,5 +6,6 @@ pub mod Reports
 pub mod Storing
 pub mod SpelledImages
 pub mod StoredImages
+pub mod Tasks
 pub mod TextLaws
 pub mod Ways

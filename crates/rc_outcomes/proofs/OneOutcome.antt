@@ -26,11 +26,12 @@ use Rattle.rc_loader.proofs.Totals.{sound_or_first}
 use Rattle.rc_answers.specs.declared.image_refusal.ImageRefusal.{ImageRefusal}
 use Rattle.rc_outcomes.specs.Images.{Carried, carried_by}
 use Rattle.rc_outcomes.specs.Footprint.{AreThere, footprint}
-use Rattle.rc_outcomes.specs.Bytes.{AreBytes}
-use Rattle.rc_outcomes.specs.Outcome.{Compiles, Executes, IsOutcome, Leaving, Lists, OfImage, OfRead, OfScriptFile, OfText, OfTextFile, Outcome, ReportsOn, Runs, Soaks, Upgrades, accepts, answers, as_left, as_they_are, broken, came, refusal_of_code, refuses, reports, reports_leaving, runs, script_outcome, sound, stores, unpinned, unsaid}
-use Rattle.rc_requests.specs.Request.{Request, Run, Slow, Compile, Exec, Listing, Upgrade, Script, Checks, Soak, usual_limits}
+use Rattle.rc_outcomes.specs.Bytes.{AreBytes, HasBytes}
+use Rattle.rc_outcomes.specs.Outcome.{Compiles, Executes, IsOutcome, Leaving, Lists, OfImage, OfRead, OfScriptFile, OfTasksFile, OfText, OfTextFile, Outcome, ReportsOn, Runs, RunsTasks, Soaks, Upgrades, accepts, answers, as_left, as_they_are, broken, came, refusal_of_code, refuses, reports, reports_leaving, runs, script_outcome, sound, stores, unpinned, unsaid}
+use Rattle.rc_requests.specs.Request.{Request, Run, Slow, Compile, Exec, Listing, Upgrade, Script, Checks, Soak, Tasks, usual_limits}
 use Rattle.rc_answers.specs.declared.answer.Done.TheVariants.{ImageRefused, Refused, Usage}
 use Rattle.rc_outcomes.proofs.MadeTexts.{generated_bytes}
+use Rattle.rc_outcomes.proofs.Tasks.{by_tasks, one_by_tasks}
 use Rattle.rc_outcomes.proofs.Ways.{an_end, same_text}
 use Rattle.rc_safety.specs.Safety.{NeverTouchesDeleted}
 use Rattle.rc_safety.proofs.Never.{never_touches_deleted}
@@ -45,6 +46,7 @@ use Rattle.rc_reports.specs.Reports.{entries, removed_count, report_text}
 use Rattle.rc_reports.specs.declared.entry.Entry.{Entry}
 use Rattle.rc_reports.proofs.One.{one_report}
 use Rattle.rc_summaries.specs.Summary.{summary_text}
+use Rattle.rc_task_text.specs.TaskText.{AreChoices, task_text_of}
 use Rattle.rc_translation.specs.Translation.{region_of_program}
 use Rattle.rc_unchecked.proofs.Compiled.{one_image, some_image}
 
@@ -114,6 +116,16 @@ script_some file limits files there = by (files file) refl where
   by None is = absurd (there is)
   by (Some text) is = (script_outcome limits text, (text, is, refl))
 
+-- what comes of tasks, of whose text the program comes to an end
+tasks_some : (file choices : List ℕ) (limits : Limits) (files : Names) (input : List ℕ) → HasBytes file files → AreChoices choices → ¬ (files file ≡ None) → (outcome : Outcome) × OfTasksFile file choices limits files input outcome
+tasks_some file choices limits files input bytes are there = by (files file) refl where
+  by : (o : Option (List ℕ)) → files file ≡ o → (outcome : Outcome) × OfTasksFile file choices limits files input outcome
+  by None is = absurd (there is)
+  by (Some text) is =
+      let whole = task_text_of text choices in
+      let found = text_outcome (Runs as_left limits input) whole (run_outcome as_left limits input whole) in
+      (found.0, (text, is, by_tasks text choices input limits (bytes text is) are found.0 found.1))
+
 pub some_outcome : (request : Option Request) (files : Names) (input : List ℕ) → AreThere (footprint request) files → AreBytes request files → (outcome : Outcome) × IsOutcome request files input outcome
 some_outcome None files input there bytes = (answers Usage, refl)
 some_outcome (Some (Run file limits)) files input there bytes = file_outcome file as_they_are (Runs as_left limits) files input (λ text is. run_outcome as_left limits input text) (there file (0, omega arith, refl))
@@ -125,6 +137,7 @@ some_outcome (Some (Upgrade from to)) files input there bytes = image_outcome fr
 some_outcome (Some (Script file limits)) files input there bytes = script_some file limits files (there file (0, omega arith, refl))
 some_outcome (Some (Checks file)) files input there bytes = file_outcome file as_they_are ReportsOn files input (λ text is. reported_outcome input text (bytes text is)) (there file (0, omega arith, refl))
 some_outcome (Some (Soak n)) files input there bytes = text_outcome (Soaks n) (generated n) (soaked_outcome n (generated n) (generated_bytes n))
+some_outcome (Some (Tasks file choices limits)) files input there bytes = tasks_some file choices limits files input bytes.0 bytes.1 (there file (0, omega arith, refl))
 
 -- two outcomes of one text are one
 same_end : (program : Program) (input : List ℕ) (limits : Limits) (one other : End) → (meaning program input limits).end ≡ Ends one → (meaning program input limits).end ≡ Ends other → one ≡ other
@@ -181,6 +194,12 @@ one_soaked n one other program is also =
     ∙ ap (λ (end : End). sums also.entries end) (same_end program [] usual_limits is.end also.end is.ends also.ends)
     ∙ sym also.comes
 
+one_of_tasks : (file choices : List ℕ) (limits : Limits) (files : Names) (input : List ℕ) (one other : Outcome) → OfTasksFile file choices limits files input one → OfTasksFile file choices limits files input other → one ≡ other
+one_of_tasks file choices limits files input one other (text, is, so) (text', is', so') =
+    let whole = task_text_of text choices in
+    one_of_text (RunsTasks limits choices whole input) whole one other (one_by_tasks limits choices whole input one other) so
+    (subst (λ (t : List ℕ). OfText (RunsTasks limits choices (task_text_of t choices) input) (task_text_of t choices) other) (same_text files file text' text is' is) so')
+
 pub one_outcome : (request : Option Request) (files : Names) (input : List ℕ) (one other : Outcome) → IsOutcome request files input one → IsOutcome request files input other → one ≡ other
 one_outcome None files input one other is also = is ∙ sym also
 one_outcome (Some (Run file limits)) files input one other is also = one_of_file file as_they_are (Runs as_left limits) files input one other (one_run as_left limits input one other) is also
@@ -192,6 +211,7 @@ one_outcome (Some (Upgrade from to)) files input one other is also = one_of_imag
 one_outcome (Some (Script file limits)) files input one other is also = one_script file limits files one other is also
 one_outcome (Some (Checks file)) files input one other is also = one_of_file file as_they_are ReportsOn files input one other (one_reported input one other) is also
 one_outcome (Some (Soak n)) files input one other is also = one_of_text (Soaks n) (generated n) one other (one_soaked n one other) is also
+one_outcome (Some (Tasks file choices limits)) files input one other is also = one_of_tasks file choices limits files input one other is also
 
 pub accepted_never : (text : List ℕ) (program : Program) (input : List ℕ) (limits : Limits) → Accepted text program → NeverTouchesDeleted program input limits
 accepted_never text program input limits accepted = never_touches_deleted program input limits (accepted_in_place text program accepted)

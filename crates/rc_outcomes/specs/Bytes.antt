@@ -3,14 +3,16 @@ use Rattle.std.specs.Prelude.{◌≡◌, ℕ, List, Option, Some}
 use Rattle.std.specs.List.{AllByRecursion as Every}
 use Rattle.rc_base.specs.Shelves.{Names}
 use Rattle.rc_core.specs.Numbers.{IsByte}
-use Rattle.rc_requests.specs.Request.{Request, Compile, Checks}
+use Rattle.rc_requests.specs.Request.{Request, Compile, Checks, Tasks}
+use Rattle.rc_task_text.specs.TaskText.{AreChoices}
 
 abbrev pub HasBytes : (file : List ℕ) → Names → Type 0
 HasBytes file files = (text : List ℕ) → files file ≡ Some text → Every IsByte text
 
--- a text that is compiled, and one whose checks are reported on: which of its program's checks may go has to be decided; of every other
--- request nothing has to be known
+-- a text that is compiled, and one whose checks are reported on: which of its program's checks may go has to be decided; and one whose
+-- tasks are run, by choices that are digits. Of every other request nothing has to be known
 abbrev pub AreBytes : Option Request → Names → Type 0
 AreBytes (Some (Compile from to)) files = HasBytes from files
 AreBytes (Some (Checks file)) files = HasBytes file files
+AreBytes (Some (Tasks file choices limits)) files = HasBytes file files × AreChoices choices
 AreBytes _ files = Unit {0}

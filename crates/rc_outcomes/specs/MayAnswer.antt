@@ -4,7 +4,7 @@ use Rattle.rc_answers.specs.Answers.{IsOfBytes, IsOfCode}
 use Rattle.rc_answers.specs.declared.answer.Done.{Done}
 use Rattle.rc_answers.specs.declared.answer.Done.TheVariants.{Ended, StaleImage, Refused, ImageRefused, Wrote, Reported, Usage}
 use Rattle.rc_compile.specs.declared.refusal.Refusal.TheVariants.{TooLong}
-use Rattle.rc_requests.specs.Request.{Request, Run, Slow, Compile, Exec, Listing, Upgrade, Script, Checks, Soak}
+use Rattle.rc_requests.specs.Request.{Request, Run, Slow, Compile, Exec, Listing, Upgrade, Script, Checks, Soak, Tasks}
 
 -- a text ends its run or is refused
 abbrev pub EndsOrIsRefused : Done → Type 0
@@ -61,3 +61,4 @@ MayAnswer (Some (Upgrade from to)) done = WritesOrIsRefused done
 MayAnswer (Some (Script file limits)) done = ReportsOrIsTooLong done
 MayAnswer (Some (Checks file)) done = ReportsOrRefusesText done
 MayAnswer (Some (Soak n)) done = ReportsOrRefusesText done
+MayAnswer (Some (Tasks file choices limits)) done = EndsOrIsRefused done

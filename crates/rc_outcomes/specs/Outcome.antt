@@ -9,7 +9,7 @@ use Rattle.rc_base.specs.Sources.{SourceState}
 use Rattle.rc_base.specs.declared.ends.End.{End}
 use Rattle.rc_base.specs.declared.ends.Limits.{Limits}
 use Rattle.rc_code.specs.declared.image.Parts.{Parts}
-use Rattle.rc_compile.specs.Acceptance.{Accepted}
+use Rattle.rc_compile.specs.Acceptance.{Accepted, HasTree}
 use Rattle.rc_compile.specs.Acceptance as acceptance
 use Rattle.rc_compile.specs.declared.refusal.Refusal.{Refusal}
 use Rattle.rc_compile.specs.declared.refusal.Refusal.TheVariants as refusal
@@ -26,13 +26,18 @@ use Rattle.rc_loader.specs.declared.fault.Rule.{Rule}
 use Rattle.rc_loader.specs.declared.fault.Rule.TheVariants as rule
 use Rattle.rc_loader.specs.declared.fault.Violation.{Violation}
 use Rattle.rc_stored.specs.Keeping.{IsKept}
+use Rattle.rc_syntax.specs.Tree.{Tree}
+use Rattle.rc_task_items.specs.Items.{tasks_of_text, without_tasks}
+use Rattle.rc_task_text.specs.TaskText.{task_text_of}
+use Rattle.rc_task_trees.specs.Choices.{choices_of}
+use Rattle.rc_tasks.specs.Tasks.{task_meaning}
 use Rattle.rc_replies.specs.Replies.{heap_store, heap_text}
 use Rattle.rc_replies.specs.Stores.{IsSame}
 use Rattle.rc_store.specs.Kept.{KeptStore}
 use Rattle.rc_outcomes.specs.Footprint.{TellsWhatIsUsed, footprint}
 use Rattle.rc_outcomes.specs.Images.{Carried, carried_by}
 use Rattle.rc_outcomes.specs.Outside.{Outside}
-use Rattle.rc_requests.specs.Request.{Request, Run, Slow, Compile, Exec, Listing, Upgrade, Script, Checks, Soak, usual_limits}
+use Rattle.rc_requests.specs.Request.{Request, Run, Slow, Compile, Exec, Listing, Upgrade, Script, Checks, Soak, Tasks, usual_limits}
 use Rattle.rc_answers.specs.Answers.{IsQuiet}
 use Rattle.rc_answers.specs.declared.answer.Done.{Done}
 use Rattle.rc_answers.specs.declared.answer.Done.TheVariants.{Ended, StaleImage, Refused, ImageRefused, Wrote, Reported, Usage}
@@ -160,6 +165,26 @@ pub record Soaks (n : ℕ) (program : Program) (outcome : Outcome) : Type 0 wher
   pub ends : (meaning program [] usual_limits).end ≡ Ends end
   pub comes : outcome ≡ reports_leaving (summary_text (record { number = n; functions = length program.functions; checks = length entries; removed = removed_count entries; end = end })) (as_left program [] usual_limits)
 
+-- ---- tasks
+
+-- what the tasks of a text mean under these choices. The text has the lines behind it that run them, and its tree and its program tell
+-- what they are: the functions of the program, but for those that these lines add
+abbrev pub means_by_tasks : Tree → Program → (choices input : List ℕ) → Limits → Meaning
+means_by_tasks tree program choices input limits = task_meaning (tasks_of_text tree.items (without_tasks program)) (choices_of choices) input limits
+
+-- they do what they mean, and of the heap is left what the program leaves
+pub record RunsTasks (limits : Limits) (choices text input : List ℕ) (program : Program) (outcome : Outcome) : Type 0 where
+  pub tree : Tree
+  pub has_tree : HasTree text tree
+  pub end : End
+  pub ends : (means_by_tasks tree program choices input limits).end ≡ Ends end
+  pub comes : outcome ≡ runs (means_by_tasks tree program choices input limits).acts end (as_left program input limits)
+
+-- of a file's text with those lines behind it; what is no program with them is refused as it is with them
+abbrev pub OfTasksFile : (file choices : List ℕ) → Limits → Names → (input : List ℕ) → Outcome → Type 0
+OfTasksFile file choices limits files input outcome =
+    (text : List ℕ) × (files file ≡ Some text) × OfText (RunsTasks limits choices (task_text_of text choices) input) (task_text_of text choices) outcome
+
 -- ---- images
 
 -- what comes of a file that carries an image; bytes that carry none are refused
@@ -214,6 +239,7 @@ IsOutcome (Some (Upgrade from to)) files input outcome = OfImage from (Upgrades 
 IsOutcome (Some (Script file limits)) files input outcome = OfScriptFile file limits files outcome
 IsOutcome (Some (Checks file)) files input outcome = OfTextFile file as_they_are ReportsOn files input outcome
 IsOutcome (Some (Soak n)) files input outcome = OfText (Soaks n) (generated n) outcome
+IsOutcome (Some (Tasks file choices limits)) files input outcome = OfTasksFile file choices limits files input outcome
 
 -- the outcome, where what comes to it tells what it has
 pub record Comes (request : Option Request) (before : Outside) (outcome : Outcome) : Type 0 where

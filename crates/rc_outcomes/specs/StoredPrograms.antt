@@ -6,7 +6,7 @@ use Rattle.rc_compile.specs.Acceptance.{Accepted}
 use Rattle.rc_core.specs.Programs.{Program}
 use Rattle.rc_image.specs.Spelling.{spelling}
 use Rattle.rc_image.specs.declared.version.Version.TheVariants.{Two}
-use Rattle.rc_requests.specs.Request.{Request, Run, Slow, Compile, Exec, Listing, Upgrade, Script, Checks, Soak}
+use Rattle.rc_requests.specs.Request.{Request, Run, Slow, Compile, Exec, Listing, Upgrade, Script, Checks, Soak, Tasks}
 use Rattle.rc_unchecked.specs.Images.{HasImage}
 
 -- under the name stands the image that the program is compiled to
@@ -27,3 +27,4 @@ StoresProgram (Some (Upgrade from to)) files files' = Unit {0}
 StoresProgram (Some (Script file limits)) files files' = Unit {0}
 StoresProgram (Some (Checks file)) files files' = Unit {0}
 StoresProgram (Some (Soak n)) files files' = Unit {0}
+StoresProgram (Some (Tasks file choices limits)) files files' = Unit {0}

@@ -1,5 +1,5 @@
 // What holds of every request and every text.
-ghost use Rattle.std.specs.Prelude.{◌≡◌, ◌≤◌, ℕ, List, length, Ok, Option};
+ghost use Rattle.std.specs.Prelude.{◌≡◌, ◌≤◌, ◌↔◌, ℕ, List, length, Ok, Option};
 ghost use Rattle.std.specs.List.{AllByRecursion as Every};
 ghost use Rattle.rc_base.specs.Limits.{most_image_bytes};
 ghost use Rattle.rc_base.specs.Shelves.{Names};
@@ -12,13 +12,15 @@ ghost use Rattle.rc_outcomes.specs.Bytes.{AreBytes};
 ghost use Rattle.rc_outcomes.specs.Compiled.{HasCompiled, RunsTheSame};
 ghost use Rattle.rc_outcomes.specs.Footprint.{AreThere, footprint};
 ghost use Rattle.rc_outcomes.specs.Images.{IsSpelled, alone, carried_by};
-ghost use Rattle.rc_outcomes.specs.Outcome.{IsOutcome, Outcome};
+ghost use Rattle.rc_outcomes.specs.Outcome.{IsOutcome, OfText, Outcome, Runs, RunsTasks, as_left};
 ghost use Rattle.rc_requests.specs.Request.{Request};
 ghost use Rattle.rc_safety.specs.Safety.{NeverTouchesDeleted};
+ghost use Rattle.rc_task_text.specs.TaskText.{AreChoices, task_text_of};
 
 /// Whatever the words ask comes to one outcome where the names that it reads are there, and never to
-/// two, whatever bytes the files and the input have. That the image of a file and a report on its checks
-/// are outcomes needs that what the file has are bytes.
+/// two, whatever bytes the files and the input have. That the image of a file, a report on its checks and
+/// what its tasks do are outcomes needs that what the file has are bytes; and choices have to be digits,
+/// as they are where words ask for tasks.
 pub fn a_request_has_one_outcome()
     ensures some { (request : Option Request) (files : Names) (input : List ℕ) → AreThere (footprint request) files → AreBytes request files → (outcome : Outcome) × IsOutcome request files input outcome }
     ensures one { (request : Option Request) (files : Names) (input : List ℕ) (one other : Outcome) → IsOutcome request files input one → IsOutcome request files input other → one ≡ other }
@@ -41,4 +43,10 @@ pub fn an_image_is_what_its_bytes_spell()
 /// than an image may be.
 pub fn a_stored_image_runs_as_its_text()
     ensures { (files : Names) (from to : List ℕ) → HasCompiled files from to → RunsTheSame files from to }
+{}
+
+/// The tasks of a text do just what its program does, where the lines stand behind it that run them: a
+/// request for them comes to what a run of that longer text comes to, or to its refusal.
+pub fn tasks_do_what_their_text_does()
+    ensures { (text choices input : List ℕ) (limits : Limits) → Every IsByte text → AreChoices choices → (outcome : Outcome) → OfText (RunsTasks limits choices (task_text_of text choices) input) (task_text_of text choices) outcome ↔ OfText (Runs as_left limits input) (task_text_of text choices) outcome }
 {}

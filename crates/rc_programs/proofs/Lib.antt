@@ -1,3 +1,4 @@
 pub mod Ran
 pub mod Compiled
 pub mod Rows
+pub mod TasksRan

@@ -1,14 +1,27 @@
--- The rows of a run and of a compilation.
+-- The rows of a run, of tasks and of a compilation.
 use Rattle.std.proofs.Common.{ℕ, List, Some, refl, arith}
 use Rattle.rc_base.specs.declared.ends.Limits.{Limits}
 use Rattle.rc_answers.specs.declared.answer.Done.{Done}
 use Rattle.rc_answers.specs.declared.answer.Done.TheVariants.{Ended, StaleImage, Refused, ImageRefused, UnitRefused, LinkRefused, Wrote, Reported, Usage}
-use Rattle.rc_outcomes.specs.MayAnswer.{MayAnswer}
+use Rattle.rc_outcomes.specs.MayAnswer.{EndsOrIsRefused}
 use Rattle.rc_outcomes.proofs.Ways.{not_quiet, the_only}
-use Rattle.rc_requests.specs.Request.{Run, Compile}
+use Rattle.rc_requests.specs.Request.{Run, Compile, Tasks}
 use Rattle.rc_text_files.specs.Programs.{IsEnd}
 use Rattle.rc_programs.specs.Running.{RunsInHeap}
+use Rattle.rc_programs.specs.Tasking.{RunsTasksOf}
 use Rattle.rc_programs.specs.Compiling.{CompilesOf}
+
+-- an end is among the answers of a run
+may_end : (done : Done) → IsEnd done → EndsOrIsRefused done
+may_end (Ended end) is = tt
+may_end (StaleImage line) is = is
+may_end (Refused refusal) is = tt
+may_end (ImageRefused refusal) is = is
+may_end (UnitRefused file refusal) is = is
+may_end (LinkRefused refusal) is = is
+may_end Wrote is = is
+may_end Reported is = is
+may_end Usage is = is
 
 pub run_row : (name : List ℕ) (limits : Limits) → RunsInHeap (Some (Run name limits)) name limits
 run_row name limits = record {
@@ -27,17 +40,20 @@ run_row name limits = record {
     may_end = may_end;
   };
   heap = refl;
-} where
-  may_end : (done : Done) → IsEnd done → MayAnswer (Some (Run name limits)) done
-  may_end (Ended end) is = tt
-  may_end (StaleImage line) is = is
-  may_end (Refused refusal) is = tt
-  may_end (ImageRefused refusal) is = is
-  may_end (UnitRefused file refusal) is = is
-  may_end (LinkRefused refusal) is = is
-  may_end Wrote is = is
-  may_end Reported is = is
-  may_end Usage is = is
+}
+
+pub tasks_row : (name choices : List ℕ) (limits : Limits) → RunsTasksOf (Some (Tasks name choices limits)) name choices limits
+tasks_row name choices limits = record {
+  reads = (0, omega arith, refl);
+  only = λ other read. the_only name other read;
+  takes = refl;
+  writes = refl;
+  heap = refl;
+  may_end = may_end;
+  may_refuse = λ refusal. tt;
+  is_outcome = λ files input outcome is. is;
+  outcome_is = λ files input outcome is. is;
+}
 
 pub compile_row : (from to : List ℕ) → CompilesOf (Some (Compile from to)) from to
 compile_row from to = record {

@@ -1,3 +1,4 @@
 pub mod Ends
 pub mod Running
+pub mod Tasking
 pub mod Compiling

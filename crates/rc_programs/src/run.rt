@@ -12,7 +12,7 @@ ghost use Rattle.rc_programs.specs.Ends.{Ends};
 ghost use Rattle.rc_programs.specs.Running.{RunsInHeap};
 
 use rc_answers::{Done, Fault};
-use rc_base::{Limits, Shelf, Sink, Source};
+use rc_base::{Limits, Shelf, Sink, Source, Steps};
 use rc_build::ready;
 use rc_compile::{CompileFault, Refusal};
 use rc_exec::run_loaded;
@@ -34,19 +34,20 @@ fn as_end(ran: Result<Done, Fault>) -> Result<Done, Fault>
 }
 
 /// Runs the image of a text's program over the heap, which is given the limits, or refuses the text.
-fn run_text<S: Source, O: Sink, H: Heap>(
+pub(crate) fn run_text<S: Source, O: Sink, H: Heap>(
     alloc: Global,
     text: &[u8],
     limits: &Limits,
     input: &mut S,
     out: &mut O,
     heap: &mut H,
+    steps: &mut Steps<H::Counter>,
 ) -> Result<Done, Fault>
     requires { IsNew (H.store heap.old) }
     ensures { RanText as_left (TellsBytes (S.state input.old)) text.now limits.now (S.state input.old) (S.state input.new) (O.state out.old) (O.state out.new) (H.store heap.old) (H.store heap.new) result }
 {
     match ready(alloc, text) {
-        Ok(code) => as_end(run_loaded(alloc, &code, limits, heap, input, out)),
+        Ok(code) => as_end(run_loaded(alloc, &code, limits, heap, input, out, steps)),
         Err(CompileFault::Refused(refusal)) => Ok(Done::Refused(refusal)),
         Err(CompileFault::Memory) => Err(Fault::Memory),
     }
@@ -62,12 +63,13 @@ pub fn run_file<F: Shelf, S: Source, O: Sink, H: Heap>(
     input: &mut S,
     out: &mut O,
     heap: &mut H,
+    steps: &mut Steps<H::Counter>,
 ) -> Result<Done, Fault>
     requires { IsNew (H.store heap.old) }
     ensures { (request : Option Request) (err : SinkState) → RunsInHeap request name.now limits → Performs request (outside (F.state files.old) (S.state input.old) (O.state out.old) err (H.store heap.old)) (outside (F.state files.new) (S.state input.new) (O.state out.new) err (H.store heap.new)) result }
 {
     match load_text(alloc, name, files) {
-        Ok(text) => run_text(alloc, text.as_slice(), &limits, input, out, heap),
+        Ok(text) => run_text(alloc, text.as_slice(), &limits, input, out, heap, steps),
         Err(NoText::TooLong) => Ok(Done::Refused(Refusal::TooLong)),
         Err(NoText::Failed(fault)) => Err(fault),
     }

@@ -1,5 +1,7 @@
 -- What the words on the command line ask.
-use Rattle.std.specs.Prelude.{ℕ, List, [], ◌∷◌, ◌&&◌, nat_le, Option, Some, None, codes, if◌then◌else◌}
+use Rattle.std.specs.Prelude.{ℕ, Bool, List, [], ◌∷◌, ◌&&◌, length, nat_le, Option, Some, None, codes, if◌then◌else◌}
+use Rattle.std.specs.Char.{is_ascii_digit}
+use Rattle.std.specs.List.{list_all}
 use Rattle.std.specs.Option.{option_map}
 use Rattle.std.specs.Fmt.{decimal}
 use Rattle.std.specs.Str.{bytes_eq}
@@ -26,6 +28,8 @@ pub data Request : Type 0 where
   Checks : (file : List ℕ) → Request
   -- to run the program that is made from this number, and to sum it up
   Soak : (n : ℕ) → Request
+  -- to run the tasks of this file by these choices within these limits
+  Tasks : (file choices : List ℕ) → Limits → Request
 
 -- the number of a word of decimal digits without a leading zero, where it is no more than `most`
 abbrev pub number_within : (most : ℕ) → List ℕ → Option ℕ
@@ -84,7 +88,20 @@ abbrev pub ending_number : (ℕ → Request) → (word : List ℕ) → List (Lis
 ending_number request word [] = option_map request (number_within most_made word)
 ending_number request word (other ∷ words) = None
 
--- a verb, any word as the name of a file, and options or another name, or a number; none for every other list of words
+-- at most so many choices
+abbrev pub most_choices : ℕ
+most_choices = 1000
+
+-- a word of choices: from one to so many decimal digits
+abbrev pub are_choices : List ℕ → Bool
+are_choices word = (nat_le 1 (length word) && nat_le (length word) most_choices) && list_all is_ascii_digit word
+
+-- choices, and the options of a run behind them
+abbrev pub with_choices : ((choices : List ℕ) → Limits → Request) → List (List ℕ) → Option Request
+with_choices request (choices ∷ options) = if are_choices choices then option_map (request choices) (limits_of options) else None
+with_choices request [] = None
+
+-- a verb, any word as the name of a file, and options, another name or choices, or a number; none for every other list of words
 abbrev pub request_of : List (List ℕ) → Option Request
 request_of (verb ∷ file ∷ rest) =
     if bytes_eq verb (codes "run") then option_map (Run file) (limits_of rest) else
@@ -95,5 +112,6 @@ request_of (verb ∷ file ∷ rest) =
     if bytes_eq verb (codes "upgrade") then ending_in_name (Upgrade file) rest else
     if bytes_eq verb (codes "heap") then option_map (Script file) (limits_within 0 rest) else
     if bytes_eq verb (codes "checks") then ending (Checks file) rest else
-    if bytes_eq verb (codes "soak") then ending_number Soak file rest else None
+    if bytes_eq verb (codes "soak") then ending_number Soak file rest else
+    if bytes_eq verb (codes "tasks") then with_choices (Tasks file) rest else None
 request_of _ = None

@@ -1,10 +1,12 @@
 // What the words on the command line ask.
 ghost use Rattle.std.specs.Prelude.{◌≡◌, ◌≤◌, ℕ, ◌∷◌, Some, IfSome};
+ghost use Rattle.std.specs.Char.{is_ascii_digit};
+ghost use Rattle.std.specs.List.{list_all};
 ghost use Rattle.std.specs.Option.{option_map};
 ghost use Rattle.std.specs.Fmt.{decimal};
 ghost use Rattle.std.specs.Str.{bytes_eq};
 ghost use Rattle.rc_requests.specs.Asking.{asks, bytes_of, chosen};
-ghost use Rattle.rc_requests.specs.Request.{Checks, Compile, Listing, Soak, Upgrade, ending, ending_in_name, ending_number, limits_of, limits_within, number_within, option, request_of};
+ghost use Rattle.rc_requests.specs.Request.{Checks, Compile, Listing, Soak, Tasks, Upgrade, are_choices, ending, ending_in_name, ending_number, limits_of, limits_within, number_within, option, request_of, with_choices};
 
 use itoa::Buffer;
 use rc_base::{Limits, MOST_BLOCKS, MOST_REGIONS, MOST_TURNS, USUAL_TURNS};
@@ -30,7 +32,12 @@ pub enum Request<'a> {
     Checks(&'a str),
     /// To run the program that is made from this number, and to sum it up.
     Soak(u64),
+    /// To run the tasks of the file by the choices, which are from 1 to 1,000 decimal digits.
+    Tasks(&'a str, &'a str, Limits),
 }
+
+/// How many choices there may be.
+const MOST_CHOICES: usize = 1_000;
 
 /// The number of an option, and the words behind it.
 #[derive(Clone, Copy)]
@@ -167,6 +174,39 @@ fn soak<'a>(word: &str, rest: &[String]) -> Option<Request<'a>>
     Some(Request::Soak(number))
 }
 
+fn are_digits(bytes: &[u8]) -> bool
+    ensures { result ≡ list_all is_ascii_digit bytes.now }
+{
+    bytes.iter().all(|byte| byte.is_ascii_digit())
+}
+
+/// Whether the word is a list of choices.
+fn are_choices(word: &str) -> bool
+    ensures { result ≡ are_choices word.now }
+{
+    if word.is_empty() {
+        return false;
+    }
+    if word.len() > MOST_CHOICES {
+        return false;
+    }
+    are_digits(word.as_bytes())
+}
+
+/// To run the tasks of this file, where choices stand behind, and options of a run behind them.
+fn tasks<'a>(file: &'a str, rest: &'a [String]) -> Option<Request<'a>>
+    ensures { option_map asks result ≡ with_choices (Tasks file.now) (bytes_of rest.now) }
+{
+    let [choices, options @ ..] = rest else {
+        return None;
+    };
+    if !are_choices(choices.as_str()) {
+        return None;
+    }
+    let limits = limits_of(options)?;
+    Some(Request::Tasks(file, choices.as_str(), limits))
+}
+
 fn asking<'a>(verb: &str, file: &'a str, rest: &'a [String]) -> Option<Request<'a>>
     ensures { option_map asks result ≡ request_of (verb.now ∷ file.now ∷ bytes_of rest.now) }
 {
@@ -201,11 +241,14 @@ fn asking<'a>(verb: &str, file: &'a str, rest: &'a [String]) -> Option<Request<'
     if verb == "soak" {
         return soak(file, rest);
     }
+    if verb == "tasks" {
+        return tasks(file, rest);
+    }
     None
 }
 
-/// What the words ask, if anything: a verb, a file's name, which may be any word, and options or
-/// another name; or a verb and a number.
+/// What the words ask, if anything: a verb, a file's name, which may be any word, and options, another
+/// name or choices; or a verb and a number.
 pub fn request_of<'a>(words: &'a [String]) -> Option<Request<'a>>
     ensures { option_map asks result ≡ request_of (bytes_of words.now) }
 {

@@ -8,7 +8,7 @@ use std::alloc::Global;
 /// Why there is no text.
 #[derive(Clone, Copy)]
 pub enum NoText {
-    /// The file has more bytes than a text may have.
+    /// The file has more bytes than are loaded of a text, so at least two more than a text may have.
     TooLong,
     /// The file is not there, could not be loaded, or there was no memory.
     Failed(Fault),
@@ -17,7 +17,8 @@ pub enum NoText {
 /// How many bytes of a text are loaded: one more than it may have.
 const MOST: u32 = MOST_TEXT_BYTES + 1;
 
-/// The text that was loaded, if that is all of the file. What is longer is no program.
+/// The text that was loaded, if that is all of the file. What is longer is no program; nor is what has
+/// just the one byte too many, which the rules of texts refuse.
 fn text_in_piece(piece: Piece) -> Result<Octets, NoText>
     ensures { ReadText piece result }
 {
@@ -31,7 +32,7 @@ fn text_in_piece(piece: Piece) -> Result<Octets, NoText>
 ///
 /// # Errors
 ///
-/// Where the file is longer than a text, or why it could not be loaded.
+/// Where the file is longer than what is loaded of a text, or why it could not be loaded.
 pub fn load_text<F: Shelf>(alloc: Global, name: &str, files: &mut F) -> Result<Octets, NoText>
     ensures { LoadedText name.now (F.state files.old) (F.state files.new) result }
 {

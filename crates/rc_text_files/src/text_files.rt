@@ -14,7 +14,8 @@ use std::alloc::Global;
 pub enum FileText {
     /// All of it.
     Whole(Octets),
-    /// Nothing: the file has more bytes than a text may have.
+    /// Nothing: the file has more bytes than are loaded of a text, so at least two more than a text may
+    /// have.
     TooLong,
 }
 

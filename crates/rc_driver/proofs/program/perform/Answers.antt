@@ -1,12 +1,14 @@
-use Rattle.std.proofs.Common.{◌∙◌, Ok, Option, Some, ap, subst, sym}
+use Rattle.std.proofs.Common.{◌∙◌, map, Ok, Option, Some, ap, subst, sym}
+use Rattle.std.specs.Prelude.{string_bytes}
 use Rattle.rc_requests.specs.Asking.{asks}
+use Rattle.rc_requests.proofs.Choices.{asked_choices}
 use Rattle.rc_outcomes.specs.Outside.{outside}
 use Rattle.rc_outcomes.specs.Performing.{Performs}
-use Rattle.rc_requests.specs.Request.{Request, Run, Slow, Compile, Exec, Listing, Upgrade, Script, Checks, Soak}
+use Rattle.rc_requests.specs.Request.{Request, Run, Slow, Compile, Exec, Listing, Upgrade, Script, Checks, Soak, Tasks}
 use Rattle.rc_requests.specs.declared.request.Request.{Request as Asked}
 use Rattle.rc_answers.specs.declared.answer.Done.TheVariants.{Usage}
 use Rattle.rc_evaluation.proofs.Rows.{slow_row}
-use Rattle.rc_programs.proofs.Rows.{compile_row, run_row}
+use Rattle.rc_programs.proofs.Rows.{compile_row, run_row, tasks_row}
 use Rattle.rc_exec.proofs.Executions.{exec_row}
 use Rattle.rc_image_files.proofs.ImageFiles.{list_row, upgrade_row}
 use Rattle.rc_scripts.proofs.Rows.{script_row}
@@ -59,6 +61,16 @@ pub returns-in-Some-Soak : goal.returns-in-Some-Soak
 returns-in-Some-Soak g c = λ err. subst (λ (request : Option Request). Performs request (outside (g.F.Shelf.state c.args.files.now) (g.S.Source.state c.args.input.now) (g.O.Sink.state c.args.out.now) err (g.H.Heap.store c.args.heap.now)) (outside (g.F.Shelf.state c.args.files.now) (g.S.Source.state c.args.input.now) (g.O.Sink.state c.soak_number.new.out) err (g.H.Heap.store c.soak_number.new.heap)) c.soak_number.result)
     (ap (λ (r : Asked). Some (asks r)) (sym c.in-Some-Soak.field-0-is) ∙ c.in-Some-Soak.ensures)
     (c.soak_number.ensures (Some (Soak c.in-Some-Soak.number)) (g.F.Shelf.state c.args.files.now) (g.S.Source.state c.args.input.now) err (soak_row c.in-Some-Soak.number))
+
+pub run_tasks-requires-clause-choices : goal.run_tasks-requires-clause-choices
+run_tasks-requires-clause-choices g c =
+    asked_choices (map string_bytes c.args.words.now) c.in-Some-Tasks.file.now c.in-Some-Tasks.choices.now c.in-Some-Tasks.limits
+    (sym (ap (λ (r : Asked). Some (asks r)) (sym c.in-Some-Tasks.field-0-is) ∙ c.in-Some-Tasks.ensures))
+
+pub returns-in-Some-Tasks : goal.returns-in-Some-Tasks
+returns-in-Some-Tasks g c = λ err. subst (λ (request : Option Request). Performs request (outside (g.F.Shelf.state c.args.files.now) (g.S.Source.state c.args.input.now) (g.O.Sink.state c.args.out.now) err (g.H.Heap.store c.args.heap.now)) (outside (g.F.Shelf.state c.run_tasks.new.files) (g.S.Source.state c.run_tasks.new.input) (g.O.Sink.state c.run_tasks.new.out) err (g.H.Heap.store c.run_tasks.new.heap)) c.run_tasks.result)
+    (ap (λ (r : Asked). Some (asks r)) (sym c.in-Some-Tasks.field-0-is) ∙ c.in-Some-Tasks.ensures)
+    (c.run_tasks.ensures (Some (Tasks c.in-Some-Tasks.file.now c.in-Some-Tasks.choices.now c.in-Some-Tasks.limits)) err (tasks_row c.in-Some-Tasks.file.now c.in-Some-Tasks.choices.now c.in-Some-Tasks.limits))
 
 pub returns-in-None : goal.returns-in-None
 returns-in-None g c = λ err. subst (λ (request : Option Request). Performs request (outside (g.F.Shelf.state c.args.files.now) (g.S.Source.state c.args.input.now) (g.O.Sink.state c.args.out.now) err (g.H.Heap.store c.args.heap.now)) (outside (g.F.Shelf.state c.args.files.now) (g.S.Source.state c.args.input.now) (g.O.Sink.state c.args.out.now) err (g.H.Heap.store c.args.heap.now)) (Ok Usage)) c.in-None.ensures (asks_usage (outside (g.F.Shelf.state c.args.files.now) (g.S.Source.state c.args.input.now) (g.O.Sink.state c.args.out.now) err (g.H.Heap.store c.args.heap.now)))
