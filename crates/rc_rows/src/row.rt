@@ -1,12 +1,20 @@
 // A row: what the calls are given, and what each must come to.
-use crate::calling::differing;
+use crate::behind::Seen;
+use crate::file::{File, push_file, push_files};
 use crate::reading::take;
+use crate::trying::differing;
 use rc_row_files::Found;
 use std::alloc::{AllocError, Global};
 use std::io;
 
+/// The name of the file that each row has.
+pub(crate) const FIRST: &str = "a.c";
+
+/// The name under which the rows of one file store.
+pub(crate) const STORED: &str = "b.c";
+
 /// What the outside is made of.
-#[derive(Clone, Copy)]
+#[derive(Clone, Copy, PartialEq, Eq)]
 pub(crate) enum Side {
     Files,
     Input,
@@ -14,70 +22,40 @@ pub(crate) enum Side {
     Errors,
 }
 
-/// How many calls are made of each side.
+/// All sides, in the order in which a row counts their calls.
+pub(crate) const SIDES: [Side; 4] = [Side::Files, Side::Input, Side::Output, Side::Errors];
+
+/// A call of the outside, by its number among those of its side, from 0.
 #[derive(Clone, Copy)]
-pub(crate) struct Calls {
-    pub(crate) files: u64,
-    pub(crate) reads: u64,
-    pub(crate) writes: u64,
-    pub(crate) errors: u64,
+pub(crate) struct Call {
+    pub(crate) side: Side,
+    pub(crate) number: u64,
 }
 
-/// The numbers of the calls that fail, from 0.
+/// What each call of a row must come to.
 #[derive(Drop)]
-pub(crate) struct Failing {
-    pub(crate) files: Vec<u64>,
-    pub(crate) reads: Vec<u64>,
-    pub(crate) writes: Vec<u64>,
-    pub(crate) errors: Vec<u64>,
-}
-
-impl Failing {
-    /// No call fails.
-    pub(crate) fn none(alloc: Global) -> Failing {
-        Failing {
-            files: Vec::new(alloc),
-            reads: Vec::new(alloc),
-            writes: Vec::new(alloc),
-            errors: Vec::new(alloc),
-        }
-    }
-
-    /// This call of this side fails too.
-    pub(crate) fn add(&mut self, side: Side, call: u64) -> Result<(), AllocError> {
-        match side {
-            Side::Files => Ok(self.files.push(call)?),
-            Side::Input => Ok(self.reads.push(call)?),
-            Side::Output => Ok(self.writes.push(call)?),
-            Side::Errors => Ok(self.errors.push(call)?),
-        }
-    }
-}
-
-/// What a call comes to: its answer as `{:?}` prints it, its status, what the output and the error
-/// stream took, and what stands under the two names afterwards.
-#[derive(Drop)]
-pub(crate) struct Came {
+pub(crate) struct Wanted {
+    /// As `{:?}` prints it.
     pub(crate) answer: String,
     pub(crate) status: u8,
     pub(crate) out: Vec<u8>,
     pub(crate) err: Vec<u8>,
-    /// Under `a.c`.
-    pub(crate) file: Vec<u8>,
-    /// Under `b.c`; nothing, where there is no such file.
-    pub(crate) stored: Vec<u8>,
+    /// The files that hold other bytes afterwards than before.
+    pub(crate) files: Vec<File>,
+    /// What is seen of the heap; without numbers of its room that is not asked.
+    pub(crate) heap: Seen,
 }
 
-impl Came {
-    /// Nothing yet.
-    pub(crate) fn nothing(alloc: Global) -> Came {
-        Came {
+impl Wanted {
+    /// An answer that is nothing, with status 0, and nothing done.
+    fn nothing(alloc: Global) -> Wanted {
+        Wanted {
             answer: String::new(alloc),
             status: 0,
             out: Vec::new(alloc),
             err: Vec::new(alloc),
-            file: Vec::new(alloc),
-            stored: Vec::new(alloc),
+            files: Vec::new(alloc),
+            heap: Seen::nothing(alloc),
         }
     }
 }
@@ -88,17 +66,16 @@ pub(crate) struct Row {
     /// The words of the one call, or the options of both.
     pub(crate) words: Vec<String>,
     pub(crate) both: bool,
-    pub(crate) text: Vec<u8>,
+    /// The files that there are before. Where two have one name, there is the later one.
+    pub(crate) files: Vec<File>,
     pub(crate) input: Vec<u8>,
-    pub(crate) failing: Failing,
-    /// How many calls it makes of each side, where each of them is to fail once.
-    pub(crate) each: Option<Calls>,
+    /// The calls that fail.
+    pub(crate) failing: Vec<Call>,
+    /// The first call of each side that is not to be made, where each that is made is to fail once.
+    pub(crate) each: Vec<Call>,
     /// How many bytes the output takes.
     pub(crate) room: u32,
-    /// Whether the file `a.c` is to hold other bytes afterwards.
-    pub(crate) changes: bool,
-    /// What each call must come to.
-    pub(crate) wanted: Came,
+    pub(crate) wanted: Wanted,
 }
 
 impl rc_row_files::Row for Row {
@@ -107,17 +84,18 @@ impl rc_row_files::Row for Row {
     }
 
     fn new(alloc: Global, name: &str) -> Result<Row, AllocError> {
+        let mut files = Vec::new(alloc);
+        push_file(alloc, &mut files, FIRST)?;
         Ok(Row {
             name: String::from_str(alloc, name)?,
             words: Vec::new(alloc),
             both: true,
-            text: Vec::new(alloc),
+            files,
             input: Vec::new(alloc),
-            failing: Failing::none(alloc),
-            each: None,
+            failing: Vec::new(alloc),
+            each: Vec::new(alloc),
             room: 512,
-            changes: false,
-            wanted: Came::nothing(alloc),
+            wanted: Wanted::nothing(alloc),
         })
     }
 
@@ -126,8 +104,7 @@ impl rc_row_files::Row for Row {
     }
 
     fn take_same(&mut self, before: &Row) -> io::Result<()> {
-        self.text = before.text.clone()?;
-        Ok(())
+        push_files(&mut self.files, before.files.as_slice())
     }
 
     fn compare(&self, rt: &HostRuntime, file: &str) -> io::Result<Found> {

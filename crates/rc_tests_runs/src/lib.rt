@@ -13,4 +13,6 @@ mod memory;
 #[cfg(test)]
 mod outside;
 #[cfg(test)]
+mod several;
+#[cfg(test)]
 mod summaries;
