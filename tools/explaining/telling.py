@@ -22,6 +22,7 @@ COMMANDS = {
     "upgrade": ("image", "IMAGE IMAGE"),
     "heap": ("script", "FILE [--regions N] [--blocks N]"),
     "soak": ("number", "N"),
+    "tasks": ("text", f"FILE CHOICES {OPTIONS}"),
 }
 MOST_IMAGE_BYTES = 268435456
 # The limits of a run without options.
@@ -69,7 +70,13 @@ class Teller:
         lines = [f"{self.name if message.line is None else self.place(message.line)}: {self.head(message)}"]
         if message.line is not None and self.text:
             lines += self.text.shown(message.line)
+            if self.is_behind(message.line):
+                lines.append(noted("this line stands behind the file, where rc tasks puts it: it runs the tasks"))
         return lines + list(self.causes(message))
+
+    def is_behind(self, line):
+        """Whether a line is one of the three behind a file of tasks."""
+        return self.words[0] == "tasks" and line + 3 > self.text.data.count(b"\n")
 
     def head(self, message):
         place = ""
@@ -82,8 +89,11 @@ class Teller:
     def usage(self):
         options = COMMANDS[self.words[0]][1]
         lines = [f"usage: rc {self.words[0]} {options}"]
+        if "CHOICES" in options:
+            lines.append(noted("CHOICES are 1 to 1,000 decimal digits, each the number of a task"))
         if "[" in options:
-            lines.append(noted("options stand behind the file, in this order, each at most once"))
+            last = "the choices" if "CHOICES" in options else "the file"
+            lines.append(noted(f"options stand behind {last}, in this order, each at most once"))
             lines.append(noted("N is 0, or decimal digits without a leading 0"))
         return lines
 
@@ -153,10 +163,11 @@ class Teller:
         why = why_unreadable(self.name)
         if why:
             yield why
-        elif len(self.words) == 3:
+        elif self.words[0] in ("compile", "upgrade") and len(self.words) == 3:
             yield why_not_stored(self.words[2])
 
     def limit(self, option):
         """Returns a limit of the run, as its words gave it or else as it is."""
-        given = dict(zip(self.words[2::2], self.words[3::2]))
+        first = 3 if self.words[0] == "tasks" else 2
+        given = dict(zip(self.words[first::2], self.words[first + 1 :: 2]))
         return f"{int(given.get(option, LIMITS[option])):,}"

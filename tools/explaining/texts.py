@@ -276,3 +276,24 @@ def text_of(name):
     """Returns the text of a file, or None where it can't be read twice, or is too long for one."""
     data = data_of(name, MOST_TEXT_BYTES)
     return None if data is None else Text(data)
+
+
+def are_choices(word):
+    return re.fullmatch("[0-9]{1,1000}", word) is not None
+
+
+def task_text_of(name, choices):
+    """Returns the text by which the tasks of a file are run, which has three lines behind the file's, or None."""
+    data = data_of(name, MOST_TEXT_BYTES)
+    if data is None or not are_choices(choices):
+        return None
+    calls = " ".join(f"if (c == '{it}') task_{it}();" for it in sorted(set(choices)))
+    taking = f"if (rc_at < {len(choices)}) {{ c = s[rc_at]; rc_at++; {calls} }}"
+    lines = [
+        "",
+        "unsigned rc_at;",
+        f'void yield(void) deletes {{ char *s = "{choices}"; char c; {taking} }}',
+        f"int main(void) deletes {{ start(); while (rc_at < {len(choices)}) yield(); return 0; }}",
+        "",
+    ]
+    return Text(data + "\n".join(lines).encode())

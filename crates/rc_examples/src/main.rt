@@ -1,14 +1,20 @@
-//! Runs each example by its name, a program or a script, and says which status it ends with. What an
-//! example writes on the error stream stands behind what it writes on the output.
+//! Runs each example by its name, a program, tasks or a script, and says which status it ends with; then it
+//! reports on the checks of the larger ones. What a call writes on the error stream stands behind what it
+//! writes on the output.
 #![tactic(auto)]
 
-use rc_base::NoMemory;
-use rc_count::CountHeap;
-use rc_driver::{Folder, StdSink, StdSource, rc_main, status_of};
-use std::io::{self, ErrorKind};
-use std::process::ExitCode;
+ghost use Rattle.std.specs.Prelude.{◌≡◌, ◌<◌};
 
-const EXAMPLES: [&str; 12] = [
+use rc_base::{Bytes, NoMemory, Steps};
+use rc_count::CountHeap;
+use rc_driver::{Folder, StdSink, rc_main, status_of};
+use std::fs;
+use std::io::{self, ErrorKind};
+use std::marker::Brand;
+use std::process::ExitCode;
+use std::sync::ledger::{Blank, Ledger};
+
+const EXAMPLES: [&str; 19] = [
     "hello.c",
     "list.c",
     "tree.c",
@@ -21,33 +27,68 @@ const EXAMPLES: [&str; 12] = [
     "overflow.c",
     "refused.c",
     "ring.heap",
+    "tasks.c",
+    "lib.c",
+    "json.c",
+    "lisp.c",
+    "dijkstra.c",
+    "undo.c",
+    "lru.c",
 ];
+
+/// The choices by which the tasks are run.
+const CHOICES: &str = "00111";
+
+/// The examples that are reported on.
+const REPORTED: [&str; 6] = ["lib.c", "json.c", "lisp.c", "dijkstra.c", "undo.c", "lru.c"];
 
 /// The command that runs an example.
 fn verb(name: &str) -> &'static str {
     if name.ends_with(".heap") {
-        "heap"
-    } else {
-        "run"
+        return "heap";
+    }
+    if name == "tasks.c" {
+        return "tasks";
+    }
+    "run"
+}
+
+/// What an example reads: the bytes of the file of its name that ends in `.in`, or none where there is no
+/// such file.
+fn input_of(rt: &HostRuntime, name: &str) -> io::Result<Vec<u8>> {
+    let alloc = rt.alloc();
+    let (stem, _) = name.split_once('.').unwrap_or((name, ""));
+    let file = format!(in alloc; "{stem}.in")?;
+    match fs::read(rt, &file) {
+        Err(error) if error.kind() == ErrorKind::NotFound => Ok(Vec::new(alloc)),
+        read => read,
     }
 }
 
-/// Runs an example, and answers its status.
-fn run(rt: &HostRuntime, name: &str) -> io::Result<u8> {
+/// Gives an example to a command, and answers the status.
+fn call<L: Ledger>(rt: &HostRuntime, verb: &str, name: &str, blank: Blank) -> io::Result<u8>
+    requires name { blank.name ≡ L.name }
+    requires parts { blank.parts ≡ L.parts }
+    requires some { 0 < L.parts }
+{
     let alloc = rt.alloc();
+    let mut steps = Steps::<L>::start(blank);
     let mut words = Vec::new(alloc);
-    words.push(String::from_str(alloc, verb(name))?)?;
+    words.push(String::from_str(alloc, verb)?)?;
     words.push(String::from_str(alloc, name)?)?;
+    if verb == "tasks" {
+        words.push(String::from_str(alloc, CHOICES)?)?;
+    }
     let mut files = Folder::new(rt.clone()?);
-    let mut input = StdSource::new(rt.stdin());
+    let mut input = Bytes::new(input_of(rt, name)?, Vec::new(alloc));
     let mut out = StdSink::new(rt.stdout());
     let mut err = StdSink::new(rt.stdout());
-    let mut heap = match CountHeap::new(alloc) {
+    let mut heap = match CountHeap::<L>::new(alloc) {
         Ok(heap) => heap,
         Err(NoMemory) => return Err(io::Error::from(ErrorKind::OutOfMemory)),
     };
     let answer = rc_main(
-        alloc, &words, &mut files, &mut input, &mut out, &mut err, &mut heap,
+        alloc, &words, &mut files, &mut input, &mut out, &mut err, &mut heap, &mut steps,
     );
     Ok(status_of(&answer))
 }
@@ -55,14 +96,28 @@ fn run(rt: &HostRuntime, name: &str) -> io::Result<u8> {
 fn run_all(rt: &HostRuntime) -> io::Result<()> {
     for name in EXAMPLES {
         println!(rt; "{name}")?;
-        let status = run(rt, name)?;
+        let status = call::<Brand>(rt, verb(name), name, Blank::new(1))?;
         println!(rt; "\nstatus {status}")?;
     }
     Ok(())
 }
 
+fn report_all(rt: &HostRuntime) -> io::Result<()> {
+    for name in REPORTED {
+        println!(rt; "checks {name}")?;
+        let status = call::<Brand>(rt, "checks", name, Blank::new(1))?;
+        println!(rt; "\nstatus {status}")?;
+    }
+    Ok(())
+}
+
+fn call_all(rt: &HostRuntime) -> io::Result<()> {
+    run_all(rt)?;
+    report_all(rt)
+}
+
 fn main(rt: HostRuntime) -> ExitCode {
-    match run_all(&rt) {
+    match call_all(&rt) {
         Ok(()) => ExitCode::SUCCESS,
         Err(_) => ExitCode::FAILURE,
     }
