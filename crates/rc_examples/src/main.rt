@@ -8,6 +8,7 @@ ghost use Rattle.std.specs.Prelude.{◌≡◌, ◌<◌};
 use rc_base::{Bytes, NoMemory, Steps};
 use rc_count::CountHeap;
 use rc_driver::{Folder, StdSink, rc_main, status_of};
+use std::alloc::Global;
 use std::fs;
 use std::io::{self, ErrorKind};
 use std::marker::Brand;
@@ -65,22 +66,33 @@ fn input_of(rt: &HostRuntime, name: &str) -> io::Result<Vec<u8>> {
     }
 }
 
-/// Gives an example to a command, and answers the status.
-fn call<L: Ledger>(rt: &HostRuntime, verb: &str, name: &str, blank: Blank) -> io::Result<u8>
-    requires name { blank.name ≡ L.name }
-    requires parts { blank.parts ≡ L.parts }
-    requires some { 0 < L.parts }
-{
-    let alloc = rt.alloc();
-    let mut steps = Steps::<L>::start(blank);
+/// The words that give an example to a command.
+fn words_of(alloc: Global, verb: &str, name: &str) -> io::Result<Vec<String>> {
     let mut words = Vec::new(alloc);
     words.push(String::from_str(alloc, verb)?)?;
     words.push(String::from_str(alloc, name)?)?;
     if verb == "tasks" {
         words.push(String::from_str(alloc, CHOICES)?)?;
     }
+    Ok(words)
+}
+
+/// Does what the words ask on this input, over a heap whose reads are counted by the ledger of this blank,
+/// and answers the status.
+fn call_over<L: Ledger>(
+    rt: &HostRuntime,
+    words: &[String],
+    input: Vec<u8>,
+    blank: Blank,
+) -> io::Result<u8>
+    requires name { blank.name ≡ L.name }
+    requires parts { blank.parts ≡ L.parts }
+    requires some { 0 < L.parts }
+{
+    let alloc = rt.alloc();
+    let mut steps = Steps::<L>::start(blank);
     let mut files = Folder::new(rt.clone()?);
-    let mut input = Bytes::new(input_of(rt, name)?, Vec::new(alloc));
+    let mut input = Bytes::new(input, Vec::new(alloc));
     let mut out = StdSink::new(rt.stdout());
     let mut err = StdSink::new(rt.stdout());
     let mut heap = match CountHeap::<L>::new(alloc) {
@@ -88,15 +100,22 @@ fn call<L: Ledger>(rt: &HostRuntime, verb: &str, name: &str, blank: Blank) -> io
         Err(NoMemory) => return Err(io::Error::from(ErrorKind::OutOfMemory)),
     };
     let answer = rc_main(
-        alloc, &words, &mut files, &mut input, &mut out, &mut err, &mut heap, &mut steps,
+        alloc, words, &mut files, &mut input, &mut out, &mut err, &mut heap, &mut steps,
     );
     Ok(status_of(&answer))
+}
+
+/// Gives an example to a command, over a new heap, and answers the status.
+fn call(rt: &HostRuntime, verb: &str, name: &str) -> io::Result<u8> {
+    let words = words_of(rt.alloc(), verb, name)?;
+    let input = input_of(rt, name)?;
+    call_over::<Brand>(rt, &words, input, Blank::new(1))
 }
 
 fn run_all(rt: &HostRuntime) -> io::Result<()> {
     for name in EXAMPLES {
         println!(rt; "{name}")?;
-        let status = call::<Brand>(rt, verb(name), name, Blank::new(1))?;
+        let status = call(rt, verb(name), name)?;
         println!(rt; "\nstatus {status}")?;
     }
     Ok(())
@@ -105,7 +124,7 @@ fn run_all(rt: &HostRuntime) -> io::Result<()> {
 fn report_all(rt: &HostRuntime) -> io::Result<()> {
     for name in REPORTED {
         println!(rt; "checks {name}")?;
-        let status = call::<Brand>(rt, "checks", name, Blank::new(1))?;
+        let status = call(rt, "checks", name)?;
         println!(rt; "\nstatus {status}")?;
     }
     Ok(())

@@ -1,4 +1,0 @@
-use Rattle.rc_examples.proofs.report_all.Given as goal
-
-abbrev pub ghosts-call : goal.ghosts-call
-ghosts-call a = record { name = a.blank.name; parts = a.blank.parts }
