@@ -20,10 +20,10 @@ use Rattle.rc_graph.specs.declared.node.Effect.{Effect as CodeEffect}
 use Rattle.rc_graph.specs.declared.node.Node.{Node as CodeNode}
 use Rattle.rc_graph.specs.declared.node.Node.TheVariants.{Go, Return}
 use Rattle.rc_graph.specs.Nodes.{effect_of, node_of, nodes_of}
-use Rattle.rc_searching.specs.Reading.{Loses, read_by}
-use Rattle.rc_searching.specs.Boundaries.{CallGives, CallReady, NodeReady, NodeGives, CallsGive, ReturnReady, ReturnGives, NodeReturns, ReturnsGive, given_facts}
-use Rattle.rc_searching.proofs.Steps.{over_below}
-use Rattle.rc_reading.proofs.Lost.{loses_then, loses_as, loses_nothing}
+use Rattle.rc_edges.specs.Reading.{Loses, read_by}
+use Rattle.rc_edges.specs.Boundaries.{CallGives, CallReady, NodeReady, NodeGives, CallsGive, ReturnReady, ReturnGives, NodeReturns, ReturnsGive, given_facts}
+use Rattle.rc_edges.proofs.Steps.{over_below}
+use Rattle.rc_boundaries.proofs.Lost.{loses_then, loses_as, loses_nothing}
 
 some_is : {A : Type 0} (x y : A) → Some x ≡ Some y → x ≡ y
 some_is x y e = cc

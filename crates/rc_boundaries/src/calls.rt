@@ -3,13 +3,14 @@ ghost use Rattle.std.specs.Prelude.{◌≡◌, ℕ, slice_get, get_or, Option, S
 ghost use Rattle.rc_rlang.specs.RegionFlow.{Node as AnyNode, called};
 ghost use Rattle.rc_flow.specs.Flow.{no_set};
 ghost use Rattle.rc_graph.specs.Nodes.{effect_of, node_of, nodes_of};
-ghost use Rattle.rc_searching.specs.Reading.{Loses};
-ghost use Rattle.rc_searching.specs.Boundaries.{CallGives, CallReady, Callable, CallsGive, NodeGives, NodeReady};
+ghost use Rattle.rc_edges.specs.Reading.{Loses};
+ghost use Rattle.rc_edges.specs.Boundaries.{CallGives, CallReady, Callable, CallsGive, NodeGives, NodeReady};
 
+use crate::losing::lose;
+use crate::reading::read;
 use rc_base::NoMemory;
 use rc_facts::FactSet;
 use rc_graph::{Effect, Node};
-use rc_reading::{lose, read};
 use std::alloc::Global;
 
 /// Keeps at the entry of a function what a call of it gives.

@@ -4,9 +4,9 @@ ghost use Rattle.rc_facts.specs.declared.fact.Fact.{Fact};
 ghost use Rattle.rc_facts.specs.Derivable.{Derivable};
 ghost use Rattle.rc_facts.specs.Facts.{holds, is_over, names};
 
+use crate::reading::{numbers, read};
 use rc_base::NoMemory;
 use rc_facts::FactSet;
-use rc_reading::{numbers, read};
 use std::alloc::Global;
 
 /// Keeps at the first point of a function what follows from the facts of its entry, which are on its

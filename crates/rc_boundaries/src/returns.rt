@@ -7,13 +7,14 @@ ghost use Rattle.rc_facts.specs.Derivable.{Derivable};
 ghost use Rattle.rc_rlang.specs.RegionFlow.{Node as AnyNode};
 ghost use Rattle.rc_flow.specs.Flow.{no_set};
 ghost use Rattle.rc_graph.specs.Nodes.{node_of, nodes_of};
-ghost use Rattle.rc_searching.specs.Reading.{Loses};
-ghost use Rattle.rc_searching.specs.Boundaries.{NodeReturns, ReturnGives, ReturnReady, ReturnsGive, given_facts};
+ghost use Rattle.rc_edges.specs.Reading.{Loses};
+ghost use Rattle.rc_edges.specs.Boundaries.{NodeReturns, ReturnGives, ReturnReady, ReturnsGive, given_facts};
 
+use crate::losing::lose;
+use crate::reading::{numbers, read};
 use rc_base::NoMemory;
 use rc_facts::{Fact, FactSet};
 use rc_graph::Node;
-use rc_reading::{lose, numbers, read};
 use std::alloc::Global;
 
 /// The exit of a function: its number, how many hidden copies it has, and the number of its result,

@@ -8,11 +8,11 @@ use Rattle.rc_code.specs.declared.image.Parts.{Parts}
 use Rattle.rc_code.specs.Soundness.{Sound}
 use Rattle.rc_code.specs.Faithful.{Faithful}
 use Rattle.rc_numbering.proofs.Programs.{program_is_numberable}
-use Rattle.rc_image_rules.specs.Small.{IsSmall}
+use Rattle.rc_numbering.specs.Small.{IsSmall}
 use Rattle.rc_marks.specs.Marked.{image_stores}
-use Rattle.rc_counted.specs.Counted.{all_sites, stored, HasAsMany}
-use Rattle.rc_counted.proofs.Counted.{stores_are_sites, images_have_as_many}
-use Rattle.rc_joined.specs.Programs.{image_of_program}
+use Rattle.rc_marks.specs.Counted.{all_sites, stored, HasAsMany}
+use Rattle.rc_marks.proofs.Counted.{stores_are_sites, images_have_as_many}
+use Rattle.rc_numbering.specs.Programs.{image_of_program}
 use Rattle.rc_unchecked.specs.Compiled.{IsCompiled}
 use Rattle.rc_unchecked.proofs.Faithful.{marks_are_right}
 use Rattle.rc_emit.proofs.Whole.{may_go}

@@ -7,7 +7,7 @@ ghost use Rattle.rc_pile.specs.Words.{value_of};
 ghost use Rattle.rc_steps.specs.Ready.{called};
 ghost use Rattle.rc_decode.specs.declared.op.Op.TheVariants.{Call, Return};
 ghost use Rattle.rc_decode.specs.Whole.{IsBody};
-ghost use Rattle.rc_ready.specs.ShortForms.{IsReadyFor};
+ghost use Rattle.rc_steps.specs.ShortForms.{IsReadyFor};
 ghost use Rattle.rc_ops.specs.Going.{IsInside, Went, at_of};
 ghost use Rattle.rc_calls.specs.Calling.{if_given, kept_first, result_if};
 ghost use Rattle.rc_calls.specs.Setting.{BeginsAt, IsSet};

@@ -8,7 +8,7 @@ ghost use Rattle.rc_store.specs.Values.{value_of};
 ghost use Rattle.rc_steps.specs.Ready.{IsPinned, IsUnpinned, pins_of};
 ghost use Rattle.rc_decode.specs.Decoding.{has_pins as has_some};
 ghost use Rattle.rc_decode.specs.Whole.{IsBody};
-ghost use Rattle.rc_ready.specs.ShortForms.{AreHeld};
+ghost use Rattle.rc_steps.specs.ShortForms.{AreHeld};
 ghost use Rattle.rc_calls.specs.Pinning.{AreLocals, fresh_of, pins_behind};
 
 use rc_base::NoMemory;

@@ -8,15 +8,14 @@ ghost use Rattle.rc_code.specs.Soundness.{instruction_at};
 ghost use Rattle.rc_store.specs.Stores.{IsLive};
 ghost use Rattle.rc_decode.specs.declared.op.Op.TheVariants.{Other};
 ghost use Rattle.rc_decode.specs.declared.op.Other.TheVariants.{Delete};
-ghost use Rattle.rc_ready.specs.ShortForms.{IsReadyFor};
+ghost use Rattle.rc_steps.specs.ShortForms.{IsReadyFor};
 ghost use Rattle.rc_ops.specs.Going.{IsInside, Went, at_of};
 ghost use Rattle.rc_calls.specs.Pinning.{AreLocals};
 ghost use Rattle.rc_cell_ops.specs.Deleting.{Frees, deleting_pins};
 
 use rc_base::{Steps, Trap};
-use rc_calls::{pin_all, unpin_all};
+use rc_calls::{live_region, pin_all, unpin_all};
 use rc_code::{Image, Instruction};
-use rc_heap_ops::live_region;
 use rc_ops::{Counter, Exit, Running, Setting};
 use rc_pile::Pile;
 use rc_store::{Denied, Heap};

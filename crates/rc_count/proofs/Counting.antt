@@ -15,9 +15,9 @@ use Rattle.rc_store.specs.declared.cell.Place.{Place}
 use Rattle.rc_store.specs.Kept.{KeptStore, KeptView, Regions, object_refs, refs, view_refs}
 use Rattle.rc_store.specs.Stores.{IsFresh, IsLive, MayStand, all_cells, allocated, cells_in, deleted, has_child, kind_at, limited, live_in, made, objects_in, or_none, parent_in, region_at, value_at, written}
 use Rattle.rc_store.specs.Values.{is_counted, note_of, suits}
-use Rattle.rc_counts.specs.Follow.{IsThere, cell_refs}
-use Rattle.rc_counts.proofs.Changes.{live_there, references_follow}
-use Rattle.rc_counts.proofs.Cells.{cells_follow}
+use Rattle.rc_cells.specs.Follow.{IsThere, cell_refs}
+use Rattle.rc_cells.proofs.Changes.{live_there, references_follow}
+use Rattle.rc_cells.proofs.Cells.{cells_follow}
 use Rattle.rc_whole.proofs.Whole.{stays_whole}
 use Rattle.rc_tally.specs.Tally.{held_refs, pin_refs, value_refs}
 use Rattle.rc_space.specs.Spaces.{SpaceState, count_of}

@@ -6,9 +6,9 @@ use Rattle.std.proofs.lemmas.List.Sums.{sum_by-cons}
 use Rattle.rc_store.specs.Kept.{KeptStore, KeptView, object_refs, refs, view_refs}
 use Rattle.rc_store.specs.Sets.{IsSet, deleted_all, has_child_outside, is_member, refs_to, set_refs}
 use Rattle.rc_store.specs.Stores.{objects_in, or_none, region_at}
-use Rattle.rc_counts.specs.Together.{held}
-use Rattle.rc_counts.proofs.Together.{place_of, sets_follow}
-use Rattle.rc_groups.proofs.Marked.{in_place}
+use Rattle.rc_cells.specs.Together.{held}
+use Rattle.rc_cells.proofs.Together.{place_of, sets_follow}
+use Rattle.rc_registry.proofs.Marked.{in_place}
 use Rattle.rc_whole.proofs.Whole.{stays_whole}
 use Rattle.rc_tally.specs.Tally.{held_refs}
 use Rattle.rc_space.specs.Spaces.{SpaceState, count_of}

@@ -7,7 +7,7 @@ use Rattle.rc_store.specs.declared.cell.Pointer.{Pointer}
 use Rattle.rc_store.specs.Elements.{Finds, Stores, index_from, place_from}
 use Rattle.rc_store.specs.Kept.{KeptStore}
 use Rattle.rc_store.specs.Stores.{MayStand, object_in}
-use Rattle.rc_counts.specs.Follow.{IsThere}
+use Rattle.rc_cells.specs.Follow.{IsThere}
 use Rattle.rc_space.specs.Spaces.{IsWhole, SpaceState, count_of}
 use Rattle.rc_count.specs.Counted.{IsCounted}
 use Rattle.rc_count.proofs.Counting.{counted_number}

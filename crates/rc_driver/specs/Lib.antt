@@ -1,1 +1,10 @@
 pub mod Headline
+pub mod Scripting
+pub mod Evaluating
+pub mod Checking
+pub mod Executing
+pub mod Ends
+pub mod Running
+pub mod Tasking
+pub mod Compiling
+pub mod Soaking

@@ -5,16 +5,18 @@ ghost use Rattle.rc_outcomes.specs.Outside.{outside};
 ghost use Rattle.rc_outcomes.specs.Performing.{Performs};
 ghost use Rattle.rc_store.specs.Stores.{IsNew};
 
+use crate::check::check_file;
+use crate::compile::compile_file;
+use crate::evaluation::evaluate_file;
+use crate::execute::exec_image;
+use crate::run::run_file;
+use crate::script_file::run_script;
+use crate::soak::soak_number;
+use crate::tasks::run_tasks;
 use rc_answers::{Done, Fault, tell};
 use rc_base::{Shelf, Sink, Source, Steps};
-use rc_evaluation::evaluate_file;
-use rc_exec::exec_image;
-use rc_image_files::{list_image, upgrade_image};
-use rc_inspections::check_file;
-use rc_programs::{compile_file, run_file, run_tasks};
+use rc_files::{list_image, upgrade_image};
 use rc_requests::{Request, request_of};
-use rc_scripts::run_script;
-use rc_soaks::soak_number;
 use rc_store::SetHeap;
 use std::alloc::Global;
 

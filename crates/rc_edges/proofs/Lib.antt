@@ -3,3 +3,12 @@ pub mod Carrying
 pub mod Settling
 pub mod Owning
 pub mod Adding
+pub mod Fitting
+pub mod Restricting
+pub mod Steps
+pub mod Search
+pub mod Closing
+pub mod Lists
+pub mod Downward
+pub mod Reached
+pub mod Marks

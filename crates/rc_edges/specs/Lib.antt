@@ -2,3 +2,8 @@ pub mod Edges
 pub mod EdgeLaws
 pub mod Families
 pub mod News
+pub mod Inferred
+pub mod Calls
+pub mod Reading
+pub mod Boundaries
+pub mod Searching

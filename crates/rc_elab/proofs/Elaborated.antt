@@ -7,7 +7,7 @@ use Rattle.rc_rlang.specs.IsRlang.{IsRlang}
 use Rattle.rc_rlang.specs.RegionCode.{Rlang}
 use Rattle.rc_translation.specs.Translation.{region_of_program}
 use Rattle.rc_translation.proofs.Theorem.{region_code_means}
-use Rattle.rc_region_rules.proofs.Theorem.{fits_together}
+use Rattle.rc_translation.proofs.RulesTheorem.{fits_together}
 use Rattle.rc_elab.specs.Elaborating.{HasMeaningOf}
 
 pub fits : (program : Program) (r : Rlang) → IsWellTyped program → IsWithinBounds program → r ≡ region_of_program program → IsRlang r

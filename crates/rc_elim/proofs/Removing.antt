@@ -23,9 +23,9 @@ use Rattle.rc_graph.specs.declared.node.Node.{Node as CodeNode}
 use Rattle.rc_graph.specs.Nodes.{node_of, nodes_of}
 use Rattle.rc_edges.specs.Families.{annotation_in}
 use Rattle.rc_edges.proofs.Owning.{functions_own}
-use Rattle.rc_region_facts.specs.declared.facts.Facts.{Facts}
-use Rattle.rc_region_facts.specs.Inferred.{Inferred, Shaped, family_of}
-use Rattle.rc_region_facts.proofs.Restricting.{greatest_removes}
+use Rattle.rc_edges.specs.declared.facts.Facts.{Facts}
+use Rattle.rc_edges.specs.Inferred.{Inferred, Shaped, family_of}
+use Rattle.rc_edges.proofs.Restricting.{greatest_removes}
 use Rattle.rc_elim.specs.Marking.{AreMarked, IsMarked}
 use Rattle.rc_elim.specs.Masks.{HasPoints, MarksRemovable}
 use Rattle.rc_rlang.specs.RegionFlow.{Effect, nothing, nulled, moved, fixed, beside, made, under, loaded, looked_at, stored, present, absent, called, entered, Edge, Node, routine_nodes}

@@ -4,8 +4,8 @@ use Rattle.rc_rlang.specs.RegionCode.{Routine}
 use Rattle.rc_rlang.specs.RegionFlow.{routine_nodes}
 use Rattle.rc_rlang.specs.Shapes.{rlang_of}
 use Rattle.rc_rlang.specs.declared.code.RegionParts.{RegionParts}
-use Rattle.rc_region_facts.specs.declared.facts.Facts.{Facts}
-use Rattle.rc_region_facts.specs.Inferred.{family_of}
+use Rattle.rc_edges.specs.declared.facts.Facts.{Facts}
+use Rattle.rc_edges.specs.Inferred.{family_of}
 use Rattle.rc_elim.specs.Asking.{bits_of}
 
 -- the marks of one function

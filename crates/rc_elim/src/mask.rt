@@ -9,9 +9,9 @@ ghost use Rattle.rc_elim.specs.Masks.{HasPoints, marks_in, no_marks, rows_of, un
 
 use rc_base::NoMemory;
 use rc_core::Layouts;
-use rc_points::{code_points, points_behind};
 use rc_rlang::code::{RegionParts, Routine};
 use rc_rlang::rlang::Rlang;
+use rc_rlang::{code_points, points_behind};
 use std::alloc::Global;
 use std::marker::Model;
 

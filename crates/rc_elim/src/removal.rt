@@ -5,7 +5,7 @@ ghost use Rattle.rc_core.specs.Shapes.{struct_of};
 ghost use Rattle.rc_rlang.specs.IsRlang.{IsRlang};
 ghost use Rattle.rc_rlang.specs.Shapes.{rlang_of};
 ghost use Rattle.rc_annotations.specs.Heights.{temporaries_of};
-ghost use Rattle.rc_region_facts.specs.Inferred.{Inferred, Shaped, family_of};
+ghost use Rattle.rc_edges.specs.Inferred.{Inferred, Shaped, family_of};
 ghost use Rattle.rc_elim.specs.Marking.{AreMarked, IsMarked};
 ghost use Rattle.rc_elim.specs.Masks.{HasPoints, MarksRemovable, marks_in, rows_of};
 
@@ -13,8 +13,8 @@ use crate::asking::proven;
 use crate::mask::Mask;
 use rc_base::NoMemory;
 use rc_core::Layouts;
+use rc_edges::Facts;
 use rc_graph::graph_of;
-use rc_region_facts::Facts;
 use rc_rlang::code::RegionParts;
 use rc_rlang::rlang::Rlang;
 use std::alloc::Global;

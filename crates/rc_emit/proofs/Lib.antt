@@ -1,2 +1,6 @@
 mod Answered
 pub mod Whole
+pub mod Backs
+mod Functions
+mod Laid
+mod ImagingWhole

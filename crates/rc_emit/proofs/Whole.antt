@@ -12,8 +12,8 @@ use Rattle.rc_elim.specs.Masks.{MarksRemovable}
 use Rattle.rc_marks.specs.InOrder.{mask_of}
 use Rattle.rc_marks.specs.Marked.{marked_image}
 use Rattle.rc_numbering.specs.Numbered.{image_of}
-use Rattle.rc_image_rules.specs.Small.{IsSmall}
-use Rattle.rc_joined.specs.Programs.{image_of_program}
+use Rattle.rc_numbering.specs.Small.{IsSmall}
+use Rattle.rc_numbering.specs.Programs.{image_of_program}
 use Rattle.rc_unchecked.specs.Unchecked.{MayGo}
 use Rattle.rc_unchecked.specs.Compiled.{IsCompiled}
 use Rattle.rc_unchecked.proofs.Unchecked.{means_the_same, leaves_the_same}

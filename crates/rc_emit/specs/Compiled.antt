@@ -5,7 +5,7 @@ use Rattle.rc_elim.specs.Masks.{MarksRemovable}
 use Rattle.rc_code.specs.declared.image.Parts.{Parts}
 use Rattle.rc_code.specs.Soundness.{Sound}
 use Rattle.rc_numbering.specs.Numbered.{image_of}
-use Rattle.rc_image_rules.specs.Small.{IsSmall}
+use Rattle.rc_numbering.specs.Small.{IsSmall}
 use Rattle.rc_marks.specs.InOrder.{mask_of}
 use Rattle.rc_marks.specs.Marked.{marked_image}
 

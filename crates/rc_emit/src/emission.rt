@@ -2,20 +2,20 @@
 ghost use Rattle.std.specs.Prelude.{◌≡◌, IfOk, map};
 ghost use Rattle.rc_code.specs.Soundness.{Sound};
 ghost use Rattle.rc_elim.specs.Masks.{marks_in};
-ghost use Rattle.rc_image_rules.specs.Small.{IsSmall};
+ghost use Rattle.rc_numbering.specs.Small.{IsSmall};
 ghost use Rattle.rc_marks.specs.InOrder.{mask_of};
 ghost use Rattle.rc_marks.specs.Marked.{image_stores, marked_image};
-ghost use Rattle.rc_counted.specs.Counted.{all_sites, stored};
+ghost use Rattle.rc_marks.specs.Counted.{all_sites, stored};
 ghost use Rattle.rc_numbering.specs.Numbered.{image_of};
 ghost use Rattle.rc_rlang.specs.LiveLists.{live_lists};
 ghost use Rattle.rc_rlang.specs.Shapes.{rlang_of};
 ghost use Rattle.rc_unchecked.specs.Regions.{DoesWhatItsCodeDoes};
 
+use crate::making::image;
 use rc_base::NoMemory;
 use rc_code::Image;
 use rc_elim::Mask;
-use rc_imaging::image;
-use rc_marked_images::marked;
+use rc_marking::marked;
 use rc_program_code::program_code;
 use rc_rlang::live_map::LiveMap;
 use rc_rlang::rlang::Rlang;

@@ -5,8 +5,8 @@ ghost use Rattle.rc_core.specs.Shapes.{program_of};
 ghost use Rattle.rc_elab.specs.Counting.{Counts};
 ghost use Rattle.rc_emit.specs.Compiled.{IsWithoutNeedlessChecks};
 ghost use Rattle.rc_unchecked.specs.Images.{HasMeaningOf};
-ghost use Rattle.rc_image_rules.specs.Small.{IsSmall};
-ghost use Rattle.rc_joined.specs.Programs.{image_of_program};
+ghost use Rattle.rc_numbering.specs.Small.{IsSmall};
+ghost use Rattle.rc_numbering.specs.Programs.{image_of_program};
 ghost use Rattle.rc_rlang.specs.Shapes.{rlang_of};
 ghost use Rattle.rc_unchecked.specs.Compiled.{IsCompiled};
 

@@ -1,3 +1,4 @@
 pub mod Each
 pub mod Filling
 pub mod Unused
+pub mod Keeping

@@ -1,1 +1,3 @@
 pub mod First
+pub mod Keeping
+pub mod Laws

@@ -20,8 +20,8 @@ use rc_core::Kind;
 use rc_core::stmt::Change;
 use rc_core::ty::{Note, Ty};
 use rc_plans::{add, width_of};
-use rc_points::act_points;
 use rc_rlang::access::Access;
+use rc_rlang::act_points;
 use rc_rlang::code::Act;
 
 /// The variables of a struct copy: of the cell's value, and of the two pointers.

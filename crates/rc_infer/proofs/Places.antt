@@ -17,10 +17,10 @@ use Rattle.rc_flow.specs.Flow.{no_set}
 use Rattle.rc_graph.specs.declared.graph.Graph.{Graph}
 use Rattle.rc_graph.specs.declared.node.Node.{Node as CodeNode}
 use Rattle.rc_graph.specs.Nodes.{node_of, nodes_of}
-use Rattle.rc_region_facts.specs.declared.facts.Facts.{Facts}
-use Rattle.rc_region_facts.specs.Inferred.{family_of}
-use Rattle.rc_searching.specs.Boundaries.{NodeGives, NodeReady, NodeReturns, ReturnReady, ReturnsGive}
-use Rattle.rc_searching.specs.Reading.{Loses}
+use Rattle.rc_edges.specs.declared.facts.Facts.{Facts}
+use Rattle.rc_edges.specs.Inferred.{family_of}
+use Rattle.rc_edges.specs.Boundaries.{NodeGives, NodeReady, NodeReturns, ReturnReady, ReturnsGive}
+use Rattle.rc_edges.specs.Reading.{Loses}
 use Rattle.rc_infer.specs.Turning.{CalledFrom, LeftFrom, known_at}
 use Rattle.rc_infer.specs.Visiting.{ChangedAt, LeftAt, Ready}
 

@@ -15,7 +15,7 @@ use Rattle.rc_edges.specs.Families.{Family, Owned}
 use Rattle.rc_edges.proofs.Owning.{functions_own}
 use Rattle.rc_graph.specs.declared.graph.Graph.{Graph}
 use Rattle.rc_graph.specs.Nodes.{IsGraph, node_of}
-use Rattle.rc_searching.specs.Searching.{Full}
+use Rattle.rc_edges.specs.Searching.{Full}
 use Rattle.rc_infer.specs.Starting.{Started, StartedAt}
 use Rattle.rc_infer.proofs.Places.{order, some_at, some_is}
 

@@ -18,13 +18,13 @@ use Rattle.rc_edges.specs.News.{places_of}
 use Rattle.rc_edges.proofs.Owning.{functions_own}
 use Rattle.rc_graph.specs.declared.graph.Graph.{Graph}
 use Rattle.rc_graph.specs.Nodes.{IsGraph, nodes_of, node_of}
-use Rattle.rc_news.specs.Given.{CallFits}
-use Rattle.rc_region_facts.specs.Calls.{CallOf}
-use Rattle.rc_region_facts.proofs.Fitting.{calls_fit, returns_fit}
-use Rattle.rc_searching.specs.Reading.{Loses}
-use Rattle.rc_searching.specs.Boundaries.{CallsGive, NodeGives, NodeReturns, ReturnsGive}
-use Rattle.rc_searching.specs.Searching.{Searching, Lowered, Passed, Visited, Gone, facts_between, with_points, with_entries, with_exits}
-use Rattle.rc_searching.proofs.Steps.{pass_step, call_step, leave_step, settled_here, settled_stays}
+use Rattle.rc_passing.specs.Given.{CallFits}
+use Rattle.rc_edges.specs.Calls.{CallOf}
+use Rattle.rc_edges.proofs.Fitting.{calls_fit, returns_fit}
+use Rattle.rc_edges.specs.Reading.{Loses}
+use Rattle.rc_edges.specs.Boundaries.{CallsGive, NodeGives, NodeReturns, ReturnsGive}
+use Rattle.rc_edges.specs.Searching.{Searching, Lowered, Passed, Visited, Gone, facts_between, with_points, with_entries, with_exits}
+use Rattle.rc_edges.proofs.Steps.{pass_step, call_step, leave_step, settled_here, settled_stays}
 use Rattle.rc_infer.specs.Sweeping.{Swept}
 use Rattle.rc_infer.specs.Turning.{CalledFrom, LeftFrom, LoweredAt, known_at}
 use Rattle.rc_infer.specs.Visiting.{Ready, PassedAt, CalledAt, LeftAt}

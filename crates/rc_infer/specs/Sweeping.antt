@@ -2,7 +2,7 @@
 use Rattle.std.specs.Prelude.{◌≤◌}
 use Rattle.rc_rlang.specs.RegionCode.{Rlang}
 use Rattle.rc_edges.specs.Families.{Family}
-use Rattle.rc_searching.specs.Searching.{Searching, facts_between}
+use Rattle.rc_edges.specs.Searching.{Searching, facts_between}
 
 pub record Swept (r : Rlang) (m m1 : Family) : Type 0 where
   pub searching : Searching r m1

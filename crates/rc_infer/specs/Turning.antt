@@ -8,9 +8,9 @@ use Rattle.rc_edges.specs.Families.{Family}
 use Rattle.rc_flow.specs.Flow.{no_set}
 use Rattle.rc_graph.specs.declared.graph.Graph.{Graph}
 use Rattle.rc_graph.specs.Nodes.{IsGraph, nodes_of}
-use Rattle.rc_searching.specs.Boundaries.{NodeGives, NodeReturns}
-use Rattle.rc_searching.specs.Reading.{Loses}
-use Rattle.rc_searching.specs.Searching.{Lowered, Searching}
+use Rattle.rc_edges.specs.Boundaries.{NodeGives, NodeReturns}
+use Rattle.rc_edges.specs.Reading.{Loses}
+use Rattle.rc_edges.specs.Searching.{Lowered, Searching}
 use Rattle.rc_infer.specs.Visiting.{ChangedAt}
 
 -- the graphs of the functions before k

@@ -6,9 +6,9 @@ use Rattle.rc_flow.specs.Flow.{AreShut, HaveVariables, no_set}
 use Rattle.rc_edges.specs.Families.{Family}
 use Rattle.rc_graph.specs.declared.graph.Graph.{Graph}
 use Rattle.rc_graph.specs.Nodes.{nodes_of}
-use Rattle.rc_searching.specs.Reading.{Loses}
-use Rattle.rc_searching.specs.Boundaries.{CallsGive, NodeReady, ReturnReady, ReturnsGive}
-use Rattle.rc_searching.specs.Searching.{EdgeOf, Passed}
+use Rattle.rc_edges.specs.Reading.{Loses}
+use Rattle.rc_edges.specs.Boundaries.{CallsGive, NodeReady, ReturnReady, ReturnsGive}
+use Rattle.rc_edges.specs.Searching.{EdgeOf, Passed}
 use Rattle.rc_passing.specs.Passing.{NodeFits}
 
 -- the function's graph fits its sets, and those of the functions that it calls

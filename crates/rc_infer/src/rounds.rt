@@ -2,8 +2,8 @@
 ghost use Rattle.std.specs.Prelude.{◌≡◌, ℕ, IfOk, OnOk, length};
 ghost use Rattle.rc_core.specs.Laid.{AreLaidOut};
 ghost use Rattle.rc_rlang.specs.Shapes.{rlang_of};
-ghost use Rattle.rc_region_facts.specs.Inferred.{Inferred, family_of};
-ghost use Rattle.rc_searching.specs.Searching.{Gone, Searching};
+ghost use Rattle.rc_edges.specs.Inferred.{Inferred, family_of};
+ghost use Rattle.rc_edges.specs.Searching.{Gone, Searching};
 
 use crate::graphs::graphs;
 use crate::start::full;
@@ -11,7 +11,7 @@ use crate::turns::{Field, sweep};
 use crate::visit::visit;
 use rc_base::NoMemory;
 use rc_core::Layouts;
-use rc_region_facts::Facts;
+use rc_edges::Facts;
 use rc_rlang::rlang::Rlang;
 use std::alloc::Global;
 

@@ -5,14 +5,14 @@ ghost use Rattle.rc_facts.specs.declared.fact.Fact.{Fact};
 ghost use Rattle.rc_facts.specs.Facts.{holds, is_over, names};
 ghost use Rattle.rc_rlang.specs.Shapes.{rlang_of};
 ghost use Rattle.rc_flow.specs.Flow.{HaveVariables, set_at};
-ghost use Rattle.rc_region_facts.specs.Inferred.{family_of};
-ghost use Rattle.rc_searching.specs.Searching.{Full};
+ghost use Rattle.rc_edges.specs.Inferred.{family_of};
+ghost use Rattle.rc_edges.specs.Searching.{Full};
 
 use rc_base::NoMemory;
 use rc_core::Layouts;
+use rc_edges::Facts;
 use rc_facts::FactSet;
 use rc_graph::{Graph, graph_of};
-use rc_region_facts::Facts;
 use rc_rlang::rlang::Rlang;
 use std::alloc::Global;
 

@@ -2,16 +2,16 @@
 ghost use Rattle.std.specs.Prelude.{◌≡◌, ◌<◌, ◌≤◌, OnOk, IfOk, Some, length, slice_get};
 ghost use Rattle.rc_rlang.specs.RegionFlow.{Node};
 ghost use Rattle.rc_graph.specs.Nodes.{nodes_of};
-ghost use Rattle.rc_region_facts.specs.Inferred.{family_of};
+ghost use Rattle.rc_edges.specs.Inferred.{family_of};
 ghost use Rattle.rc_infer.specs.Turning.{CalledFrom, LeftFrom, LoweredAt, known_at};
 ghost use Rattle.rc_infer.specs.Visiting.{CalledAt, LeftAt, PassedAt, Ready};
 
 use crate::waiting::Place;
 use rc_base::NoMemory;
 use rc_boundaries::{Exit, call, call_at, leave, leave_at};
+use rc_edges::Facts;
 use rc_graph::Graph;
 use rc_passing::{come_in, cross, pass};
-use rc_region_facts::Facts;
 use std::alloc::Global;
 
 /// Lets facts pass through a function.

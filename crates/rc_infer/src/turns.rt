@@ -3,15 +3,15 @@ ghost use Rattle.std.specs.Prelude.{◌≡◌, ◌<◌, ◌≤◌, ℕ, OnOk, If
 ghost use Rattle.std.specs.List.{All};
 ghost use Rattle.rc_rlang.specs.Shapes.{rlang_of};
 ghost use Rattle.rc_graph.specs.declared.graph.Graph.{Graph as AnyGraph};
-ghost use Rattle.rc_region_facts.specs.Inferred.{family_of};
+ghost use Rattle.rc_edges.specs.Inferred.{family_of};
 ghost use Rattle.rc_infer.specs.Sweeping.{Swept};
 ghost use Rattle.rc_infer.specs.Turning.{Turning};
 
 use crate::steps::{call_from, come_into, cross_from, leave_from};
 use crate::waiting::{Losses, Place, Waiting};
 use rc_base::NoMemory;
+use rc_edges::Facts;
 use rc_graph::Graph;
-use rc_region_facts::Facts;
 use rc_rlang::rlang::Rlang;
 use std::alloc::Global;
 

@@ -4,14 +4,14 @@ ghost use Rattle.rc_core.specs.Laid.{AreLaidOut};
 ghost use Rattle.rc_core.specs.Shapes.{struct_of};
 ghost use Rattle.rc_rlang.specs.RegionCode.{Routine};
 ghost use Rattle.rc_rlang.specs.Shapes.{rlang_of};
-ghost use Rattle.rc_region_facts.specs.Inferred.{family_of};
-ghost use Rattle.rc_searching.specs.Searching.{Searching, Visited};
+ghost use Rattle.rc_edges.specs.Inferred.{family_of};
+ghost use Rattle.rc_edges.specs.Searching.{Searching, Visited};
 
 use crate::steps::{call_others, leave_it, pass_through};
 use rc_base::NoMemory;
 use rc_core::Layouts;
+use rc_edges::Facts;
 use rc_graph::graph_of;
-use rc_region_facts::Facts;
 use rc_rlang::rlang::Rlang;
 use std::alloc::Global;
 

@@ -2,3 +2,17 @@ pub mod Lives
 pub mod Decoded
 pub mod Runs
 pub mod Numberings
+pub mod Worlds
+pub mod Fits
+pub mod Kept
+pub mod Sayable
+pub mod Whole
+pub mod Images
+pub mod Telling
+pub mod Undone
+pub mod Marking
+pub mod Plainly
+pub mod Functions
+pub mod Views
+pub mod MarkedImages
+pub mod Asked

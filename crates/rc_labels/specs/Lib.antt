@@ -3,3 +3,8 @@ pub mod Numberings
 pub mod Labelled
 pub mod LabelledWorlds
 pub mod Laws
+pub mod PutLaws
+pub mod LabelledImages
+pub mod InOrder
+pub mod Told
+pub mod MarkedLaws

@@ -1,24 +1,22 @@
-//! Labels in place of the lines of region code, by which each store is told apart. `specs/Labels`
-//! says what a label tells, `specs/Labelled` puts labels into code, and `specs/LabelledWorlds` makes
-//! of a world one that reads them.
+//! Laws: images with marks do what region code with marked stores does.
+//!
+//! Labels stand in place of the lines of region code, and tell each store apart: `specs/Labels` says what a
+//! label tells, `specs/Labelled` puts labels into code, and `specs/LabelledWorlds` makes of a world one
+//! that reads them. Labelled code and the world of labels keep the rules of region code and of worlds by
+//! which stack code and images mean the same. `specs/InOrder` says which store of an image has which mark,
+//! and `specs/MarkedLaws` what the laws say.
 #![tactic(auto)]
 
-ghost use Rattle.std.specs.Prelude.{◌≡◌, ℕ, Bool};
-ghost use Rattle.rc_core.specs.Runs.{Ops};
-ghost use Rattle.rc_rlang.specs.RegionCode.{Rlang};
-ghost use Rattle.rc_along.specs.MarkedRuns.{Put};
-ghost use Rattle.rc_labels.specs.Labels.{Label, Numbering};
-ghost use Rattle.rc_labels.specs.Numberings.{number_of, label_in};
-ghost use Rattle.rc_labels.specs.Laws.{DoesWhatMarkedCodeDoes};
+mod label_rules;
+mod labels;
+mod marked;
 
-/// Labelled code does in the world of labels what code does with marked stores, in every world and
-/// whatever is done at a store with a mark: it is the same run, once the label at which it stopped,
-/// if at any, is read as a line.
-pub fn labelled_code_does_what_marked_code_does<W>()
-    ensures { (n : Numbering) (ops : Ops W) (put : Put W) (marks : (function point : ℕ) → Bool) (r : Rlang) → DoesWhatMarkedCodeDoes n ops put marks r }
-{}
-
-/// There is a numbering of labels: each label is read again from its number.
-pub fn there_is_a_numbering()
-    ensures { (l : Label) → label_in (number_of l) ≡ l }
-{}
+pub use label_rules::{
+    images_of_labelled_code_do_what_marked_code_does, labelled_code_is_as_well_formed,
+    labelled_worlds_count_and_wait,
+};
+pub use labels::{labelled_code_does_what_marked_code_does, there_is_a_numbering};
+pub use marked::{
+    images_undo_labels, images_with_marks_do_what_marked_code_does, removable_checks_ask,
+    stack_code_keeps_labels_for_lines,
+};

@@ -4,3 +4,4 @@ pub mod Walking
 pub mod TwoWays
 pub mod Copies
 pub mod Gathers
+pub mod KeptKeys

@@ -3,3 +3,5 @@ pub mod Keys
 pub mod Over
 pub mod Operands
 pub mod Gathered
+pub mod Keyed
+pub mod ProgramCode

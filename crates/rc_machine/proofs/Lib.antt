@@ -5,3 +5,6 @@ pub mod Comings
 pub mod Growing
 pub mod Endings
 pub mod Starts
+pub mod Adding
+pub mod Moves
+pub mod Come

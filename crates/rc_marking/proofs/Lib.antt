@@ -1,2 +1,4 @@
 mod Stepping
 mod Fitting
+pub mod Numbered
+pub mod Told

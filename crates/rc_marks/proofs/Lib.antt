@@ -1,2 +1,9 @@
 pub mod Written
 pub mod MarksCounted
+pub mod SitedBy
+pub mod Sited
+pub mod Counted
+pub mod Bare
+pub mod Standing
+pub mod Rules
+pub mod Kept

@@ -24,7 +24,7 @@ use Rattle.rc_numbering.specs.Means.{IsNumberable}
 use Rattle.rc_numbering.proofs.Tabled.{every_before, every_behind, get_mapped}
 use Rattle.rc_numbering.proofs.Rights.{layout_found, path_found}
 use Rattle.rc_numbering.proofs.Programs.{code_in, paths_in, function_said}
-use Rattle.rc_image_rules.proofs.Rows.{length_mapped}
+use Rattle.rc_numbering.proofs.Rows.{length_mapped}
 use Rattle.rc_marks.specs.Stores.{Store, note_on, annotated, written_one, written}
 use Rattle.rc_marks.specs.Marked.{mark_by, marked_one, marked_from, marked_functions, marked_image, stored_with, stored_one, stored_by, with_bits, HasItsMarks}
 use Rattle.rc_marks.proofs.Written.{stores_written}

@@ -1,3 +1,4 @@
 pub mod Stores
 pub mod Marked
 pub mod InOrder
+pub mod Counted

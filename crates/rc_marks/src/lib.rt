@@ -1,24 +1,12 @@
-//! Marks of stores: which of an image's stores make no check.
+//! Laws of marks, which say which of an image's stores make no check: how many stores of each annotation
+//! an image has, counted by the sites of its code, and that an image with marks at its annotated stores
+//! keeps the rules of images, as it does without them.
 #![tactic(auto)]
 
-ghost use Rattle.std.specs.Prelude.{◌≡◌, ℕ, Bool, false};
-ghost use Rattle.rc_rlang.specs.RegionCode.{Rlang};
-ghost use Rattle.rc_numbering.specs.Means.{IsNumberable};
-ghost use Rattle.rc_marks.specs.Stores.{WritesItsStores};
-ghost use Rattle.rc_marks.specs.Marked.{marked_image, HasItsMarks};
-ghost use Rattle.rc_numbering.specs.Numbered.{image_of};
+mod counted_laws;
+mod marked_rules;
+mod marks;
 
-/// The stores to annotated cells that stack code has are those of the region code that it is made
-/// for, with their lines and annotations, in the same order.
-pub fn stores_are_those_of_the_code()
-    ensures { (r : Rlang) → WritesItsStores r }
-{}
-
-/// The stores to annotated cells that an image with marks has are those of the region code, in the
-/// same order, each with its line, its annotation and the bit that the mask has for it. So for each
-/// line, annotation and bit there are as many of the one as of the other. Where the mask has no bit,
-/// the image is that without marks.
-pub fn marks_are_those_of_the_mask()
-    ensures all { (mask : ℕ → Bool) (r : Rlang) → IsNumberable r → HasItsMarks mask r }
-    ensures unmarked { (r : Rlang) → marked_image (λ n. false) r ≡ image_of r }
-{}
+pub use counted_laws::an_image_has_as_many_stores_as_the_code_has_sites;
+pub use marked_rules::marked_images_keep_the_rules;
+pub use marks::{marks_are_those_of_the_mask, stores_are_those_of_the_code};

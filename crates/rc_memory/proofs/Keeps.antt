@@ -19,8 +19,8 @@ use Rattle.rc_memory.specs.Change.{mapped, Agree}
 use Rattle.rc_values.specs.Cells as of_kind
 use Rattle.rc_memory.specs.Kept as k
 use Rattle.rc_memory.specs.Kept.{KeptHeap, kept_region, kept_heap, count_in, size_in, kinds_in, values_in, in_bounds, is_named}
-use Rattle.rc_objects.specs.Objects as of_object
-use Rattle.rc_objects.specs.Objects.{KeptObject, kept_object, object_names}
+use Rattle.rc_values.specs.Objects as of_object
+use Rattle.rc_values.specs.Objects.{KeptObject, kept_object, object_names}
 use Rattle.rc_memory.specs.KeptWorld as kw
 use Rattle.rc_memory.specs.KeptWorld.{KeptWorld, kept_world, giving, leaving, in_region, kept}
 

@@ -4,7 +4,7 @@ use Rattle.std.specs.Prelude.{not, ◌&&◌, nat_eq}
 use Rattle.std.specs.List.{list_any}
 use Rattle.rc_core.specs.Heap.{is_above_within}
 use Rattle.rc_memory.specs.Kept.{KeptRegion, KeptHeap, is_named}
-use Rattle.rc_objects.specs.Objects.{object_names}
+use Rattle.rc_values.specs.Objects.{object_names}
 
 named_drop : (r at i : ℕ) (xs : KeptHeap) (d : KeptRegion) → i < length xs → is_named r at (drop i xs) ≡ ((not (nat_eq at r) && ((get_or xs i d).alive && list_any (object_names r) (get_or xs i d).objects)) || is_named r (suc at) (drop (suc i) xs))
 named_drop r at i [] d within = absurd (omega (arith, within))

@@ -8,7 +8,7 @@ use Rattle.rc_core.specs.Source.{is_index, chosen_in_range, cell_of, unfit, over
 use Rattle.rc_core.specs.declared.layouts.Kind.{Kind}
 use Rattle.rc_memory.specs.declared.heap.Spot.{Spot}
 use Rattle.rc_values.specs.Cells.{note_of}
-use Rattle.rc_objects.specs.Objects.{KeptObject, kept_object, blank, object_names, first_of}
+use Rattle.rc_values.specs.Objects.{KeptObject, kept_object, blank, object_names, first_of}
 use Rattle.rc_values.specs.Outcomes.{Outcome, trapped, passing, after}
 
 pub record KeptRegion : Type 0 where

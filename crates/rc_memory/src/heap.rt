@@ -11,7 +11,7 @@ ghost use Rattle.rc_core.specs.Programs.{Struct as Fields};
 ghost use Rattle.rc_core.specs.Shapes.{bytes_of, global_of, program_of, ty_of};
 ghost use Rattle.rc_core.specs.Source.{unfit};
 ghost use Rattle.rc_memory.specs.Kept.{allocated, count_in, killed, with_objects, deleted, fitting, has_child, is_named, kept_heap, kinds_in, live, live_address, live_region, load, load_all, made, object_at, objects, parent, room, spot_of, step, store, written};
-ghost use Rattle.rc_objects.specs.Objects.{object_names, kept_object};
+ghost use Rattle.rc_values.specs.Objects.{object_names, kept_object};
 ghost use Rattle.rc_memory.specs.KeptWorld.{KeptWorld, kept};
 ghost use Rattle.rc_memory.specs.Leaving.{Leaves};
 ghost use Rattle.rc_values.specs.Outcomes.{Is, Does};
@@ -24,10 +24,9 @@ use rc_core::operators::Direction;
 use rc_core::parts::{Global as Variable, Parts};
 use rc_core::ty::{Note, Ty};
 use rc_core::{Kind, Layouts};
-use rc_objects::{Object, blank, literal, number_object};
 use rc_values::{
-    Address, Stop, Target, Value, Values, front_of, is_index, note_of, product_of_cells,
-    sum_of_cells, trap,
+    Address, Object, Stop, Target, Value, Values, blank, front_of, is_index, literal, note_of,
+    number_object, product_of_cells, sum_of_cells, trap,
 };
 use std::alloc::Global;
 use std::marker::Model;

@@ -5,12 +5,11 @@ ghost use Rattle.std.specs.List.{list_any};
 ghost use Rattle.rc_base.specs.declared.ends.RunFault.TheVariants.{Memory};
 ghost use Rattle.rc_core.specs.Heap.{update};
 ghost use Rattle.rc_core.specs.Source.{overwritten};
-ghost use Rattle.rc_objects.specs.Objects.{KeptObject, object_names};
+ghost use Rattle.rc_values.specs.Objects.{KeptObject, object_names};
 ghost use Rattle.rc_values.specs.Values.{value_of};
 ghost use Rattle.rc_values.specs.declared.stop.Stop.TheVariants.{Cut};
 
-use rc_objects::Object;
-use rc_values::{Stop, Value};
+use rc_values::{Object, Stop, Value};
 use std::alloc::Global;
 use std::marker::Model;
 

@@ -7,3 +7,10 @@ pub mod Tabled
 pub mod Rights
 pub mod SourceWaits
 pub mod Programs
+pub mod Rows
+pub mod Sounds
+pub mod TypesNamed
+pub mod Fields
+pub mod Marks
+pub mod Joined
+pub mod ExamplesComputed

@@ -22,8 +22,8 @@ use Rattle.rc_emission.specs.ProgramsMean.{stack_run}
 use Rattle.rc_emission.proofs.Programs.{program_means, program_leaves}
 use Rattle.rc_stack_rules.specs.LoaderRules.{IsLoadable}
 use Rattle.rc_stack_rules.specs.Loadable.{all_locals}
-use Rattle.rc_region_rules.proofs.Whole.{IsWholeRoutine, IsWhole, rlang_is_whole}
-use Rattle.rc_region_rules.proofs.Theorem.{program_is_whole}
+use Rattle.rc_translation.proofs.RulesWhole.{IsWholeRoutine, IsWhole, rlang_is_whole}
+use Rattle.rc_translation.proofs.RulesTheorem.{program_is_whole}
 use Rattle.rc_stack_rules.proofs.Loading.{keeps_rules}
 use Rattle.rc_stack_rules.proofs.KeptRlang.{routine_in_order, routine_sets}
 use Rattle.rc_code.specs.Running.{Doing, function_at, first_locals, rounds, calls_within}

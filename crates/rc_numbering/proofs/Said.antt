@@ -23,8 +23,8 @@ use Rattle.rc_rlang.specs.RegionNames.{object_type, given_type, routine_type, re
 use Rattle.rc_rlang.specs.RegionNames.{IsCalled as IsNamed}
 use Rattle.rc_rlang.specs.RegionFits.{place_types, operands, pushed, dropped, step_types, steps_types, StepFits, StepsFit, ActFits, test_types, CodeFits, CodesFit}
 use Rattle.rc_rlang.specs.RegionKinds.{kind_ty, result_kind, OperationKinded, StepKinded, StepsKinded, CodeKinded, CodesKinded}
-use Rattle.rc_region_rules.proofs.Defined.{every_of, value_defined, arithmetic_defined, number_defined}
-use Rattle.rc_region_rules.proofs.Whole.{IsWholeRoutine, IsWhole}
+use Rattle.rc_translation.proofs.Defined.{every_of, value_defined, arithmetic_defined, number_defined}
+use Rattle.rc_translation.proofs.RulesWhole.{IsWholeRoutine, IsWhole}
 use Rattle.rc_emission.specs.StatementCode.{cell_type, further}
 use Rattle.rc_stack_rules.specs.LoaderRules.{kinds}
 use Rattle.rc_numbering.specs.Sayable.{is_char, has_unary_row, cell_for, AccessFits, result_types, IsCalled, result_in, OperationSayable, StepSayable, StepsSayable, CellsFit, ChangeSayable, ActSayable, TestSayable, CodeSayable, CodesSayable}

@@ -4,3 +4,7 @@ pub mod Numbered
 pub mod Waits
 pub mod Sayable
 pub mod Means
+pub mod Small
+pub mod Regions
+pub mod Programs
+pub mod ImageExamples

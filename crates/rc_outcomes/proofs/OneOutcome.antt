@@ -37,11 +37,11 @@ use Rattle.rc_safety.specs.Safety.{NeverTouchesDeleted}
 use Rattle.rc_safety.proofs.Never.{never_touches_deleted}
 use Rattle.std.specs.List.{AllByRecursion as Every}
 use Rattle.rc_core.specs.Numbers.{IsByte}
-use Rattle.rc_well_typed.proofs.Texts.{well_typed}
+use Rattle.rc_compile.proofs.Texts.{well_typed}
 use Rattle.rc_gen.specs.Program.{generated}
-use Rattle.rc_greatest.proofs.Marks.{marks_decided}
-use Rattle.rc_inspect.specs.Inspected.{IsReportOf}
-use Rattle.rc_region_rules.proofs.Theorem.{fits_together}
+use Rattle.rc_edges.proofs.Marks.{marks_decided}
+use Rattle.rc_reports.specs.Inspected.{IsReportOf}
+use Rattle.rc_translation.proofs.RulesTheorem.{fits_together}
 use Rattle.rc_reports.specs.Reports.{entries, removed_count, report_text}
 use Rattle.rc_reports.specs.declared.entry.Entry.{Entry}
 use Rattle.rc_reports.proofs.One.{one_report}

@@ -15,17 +15,17 @@ use Rattle.rc_core.specs.Runs.{Stop}
 use Rattle.rc_core.specs.WellTyped.{IsWellTyped}
 use Rattle.rc_image.specs.Spelling.{spelling}
 use Rattle.rc_image.specs.declared.version.Version.TheVariants.{Two}
-use Rattle.rc_joined.specs.Programs.{image_of_program}
-use Rattle.rc_joined.proofs.Joined.{image_leaves, image_means}
+use Rattle.rc_numbering.specs.Programs.{image_of_program}
+use Rattle.rc_numbering.proofs.Joined.{image_leaves, image_means}
 use Rattle.rc_loader.specs.Unmarked.{unmarked}
-use Rattle.rc_marked_rules.proofs.Bare.{bare_image}
-use Rattle.rc_marked_rules.proofs.Kept.{marked_fields_fit, marked_sound}
+use Rattle.rc_marks.proofs.Bare.{bare_image}
+use Rattle.rc_marks.proofs.Kept.{marked_fields_fit, marked_sound}
 use Rattle.rc_marks.specs.InOrder.{mask_of}
 use Rattle.rc_numbering.proofs.Programs.{program_is_numberable}
-use Rattle.rc_region_rules.proofs.Theorem.{fits_together}
+use Rattle.rc_translation.proofs.RulesTheorem.{fits_together}
 use Rattle.rc_rlang.specs.RegionCode.{Rlang}
 use Rattle.rc_translation.specs.Translation.{region_of_program}
-use Rattle.rc_well_typed.proofs.Texts.{well_typed}
+use Rattle.rc_compile.proofs.Texts.{well_typed}
 use Rattle.rc_outcomes.specs.Compiled.{HasCompiled, RunsTheSame}
 use Rattle.rc_outcomes.specs.Images.{alone, carried_by}
 use Rattle.rc_outcomes.specs.Outcome.{Executes, IsOutcome, OfRead, Outcome, Runs, accepts, as_left, came, end_as, sound, unpinned}

@@ -25,7 +25,7 @@ use Rattle.rc_loader.specs.Violations.{FirstViolation}
 use Rattle.rc_loader.specs.declared.fault.Rule.{Rule}
 use Rattle.rc_loader.specs.declared.fault.Rule.TheVariants as rule
 use Rattle.rc_loader.specs.declared.fault.Violation.{Violation}
-use Rattle.rc_stored.specs.Keeping.{IsKept}
+use Rattle.rc_first_heap.specs.Keeping.{IsKept}
 use Rattle.rc_syntax.specs.Tree.{Tree}
 use Rattle.rc_task_items.specs.Items.{tasks_of_text, without_tasks}
 use Rattle.rc_task_text.specs.TaskText.{task_text_of}
@@ -50,7 +50,7 @@ use Rattle.rc_image.specs.declared.version.Version.TheVariants.{Two}
 use Rattle.rc_listing.specs.Listing.{listing}
 use Rattle.rc_unchecked.specs.Compiled.{IsCompiled}
 use Rattle.rc_gen.specs.Program.{generated}
-use Rattle.rc_inspect.specs.Inspected.{IsReportOf}
+use Rattle.rc_reports.specs.Inspected.{IsReportOf}
 use Rattle.rc_reports.specs.Reports.{removed_count, report_text}
 use Rattle.rc_reports.specs.declared.entry.Entry.{Entry}
 use Rattle.rc_summaries.specs.Summary.{summary_text}

@@ -15,7 +15,7 @@ use Rattle.rc_graph.specs.declared.node.Node.{Node as CodeNode}
 use Rattle.rc_graph.specs.declared.node.Node.TheVariants.{Fork, Go, Return}
 use Rattle.rc_graph.specs.Nodes.{effect_of, node_of}
 use Rattle.rc_edges.specs.Edges.{Carries, EffectBelow}
-use Rattle.rc_searching.specs.Searching.{Crossed, EdgeOf, Lowered, leaving}
+use Rattle.rc_edges.specs.Searching.{Crossed, EdgeOf, Lowered, leaving}
 use Rattle.rc_passing.specs.Passing.{CrossedFrom}
 use Rattle.rc_passing.proofs.Lists.{assigned_below}
 

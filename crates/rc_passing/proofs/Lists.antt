@@ -10,7 +10,7 @@ use Rattle.rc_flow.specs.Flow.{set_at}
 use Rattle.rc_edges.specs.Edges.{AreNews, Carries, EffectBelow, all_below, pairs_below, renewed}
 use Rattle.rc_edges.specs.News.{news_of}
 use Rattle.rc_edges.proofs.Adding.{news_are}
-use Rattle.rc_searching.specs.Searching.{EdgeOf, leaving}
+use Rattle.rc_edges.specs.Searching.{EdgeOf, leaving}
 use Rattle.rc_passing.specs.Passing.{CarryAll, Added, StandsFor, IsCarried, Listed}
 
 -- with the scratch variable assigned, an effect speaks of one variable more

@@ -15,7 +15,7 @@ use Rattle.std.proofs.lemmas.List.{length-map}
 use Rattle.rc_graph.specs.declared.node.Node.{Node as CodeNode}
 use Rattle.rc_graph.specs.Nodes.{node_of, nodes_of}
 use Rattle.rc_boundaries.proofs.Handing.{set_there}
-use Rattle.rc_searching.specs.Searching.{EdgeOf, Lowered, Passed}
+use Rattle.rc_edges.specs.Searching.{EdgeOf, Lowered, Passed}
 use Rattle.rc_passing.specs.Passing.{Listed, NodeFits}
 use Rattle.rc_passing.proofs.Lists.{assigned_below}
 

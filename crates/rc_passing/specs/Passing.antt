@@ -7,8 +7,8 @@ use Rattle.rc_annotations.specs.Annotations.{exit_facts}
 use Rattle.rc_flow.specs.declared.edge.Edge.{Edge as FlowEdge}
 use Rattle.rc_flow.specs.Flow.{set_at}
 use Rattle.rc_edges.specs.Edges.{Carries, EffectBelow}
-use Rattle.rc_news.specs.Given.{CallFits}
-use Rattle.rc_searching.specs.Searching.{Crossed, EdgeOf, leaving}
+use Rattle.rc_passing.specs.Given.{CallFits}
+use Rattle.rc_edges.specs.Searching.{Crossed, EdgeOf, leaving}
 
 -- from a point, one edge that carries facts for each of a node
 abbrev pub CarryAll : (exits : List Known) (spare from : ℕ) → List Edge → List FlowEdge → Type 0

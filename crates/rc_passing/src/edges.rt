@@ -4,15 +4,15 @@ ghost use Rattle.rc_rlang.specs.RegionFlow.{Node as AnyNode, assigned as assigne
 ghost use Rattle.rc_annotations.specs.Annotations.{exit_facts};
 ghost use Rattle.rc_edges.specs.Edges.{Carries, EffectBelow};
 ghost use Rattle.rc_graph.specs.Nodes.{effect_of, node_of, nodes_of};
-ghost use Rattle.rc_news.specs.Given.{CallFits};
-ghost use Rattle.rc_searching.specs.Searching.{leaving};
+ghost use Rattle.rc_passing.specs.Given.{CallFits};
+ghost use Rattle.rc_edges.specs.Searching.{leaving};
 ghost use Rattle.rc_passing.specs.Passing.{Added, Listed, NodeFits};
 
+use crate::listing::news;
 use rc_base::NoMemory;
 use rc_facts::FactSet;
 use rc_flow::Edge;
 use rc_graph::{Effect, Node};
-use rc_news::news;
 use std::alloc::Global;
 
 /// The edges of a function in the order of its points, and where those of each point begin.

@@ -7,8 +7,8 @@ ghost use Rattle.rc_rlang.specs.RegionFlow.{Node as AnyNode, Edge as NodeEdge};
 ghost use Rattle.rc_edges.specs.Edges.{EffectBelow};
 ghost use Rattle.rc_flow.specs.Flow.{AreShut, HaveFewer, HaveVariables, set_at};
 ghost use Rattle.rc_graph.specs.Nodes.{effect_of, node_of, nodes_of};
-ghost use Rattle.rc_news.specs.Given.{CallFits};
-ghost use Rattle.rc_searching.specs.Searching.{Crossed, EdgeOf, Lowered};
+ghost use Rattle.rc_passing.specs.Given.{CallFits};
+ghost use Rattle.rc_edges.specs.Searching.{Crossed, EdgeOf, Lowered};
 ghost use Rattle.rc_passing.specs.Passing.{CrossedFrom, NodeFits};
 
 use crate::edges::{Setting, edge};

@@ -3,7 +3,7 @@ ghost use Rattle.std.specs.Prelude.{◌≡◌, ◌<◌, ◌≤◌, ℕ, suc, sli
 ghost use Rattle.rc_rlang.specs.RegionFlow.{Node as AnyNode, Edge as NodeEdge};
 ghost use Rattle.rc_flow.specs.Flow.{AreShut, HaveVariables};
 ghost use Rattle.rc_graph.specs.Nodes.{nodes_of};
-ghost use Rattle.rc_searching.specs.Searching.{EdgeOf, Passed};
+ghost use Rattle.rc_edges.specs.Searching.{EdgeOf, Passed};
 ghost use Rattle.rc_passing.specs.Passing.{NodeFits};
 
 use crate::edges::{Setting, edges};

@@ -10,9 +10,9 @@ ghost use Rattle.rc_plans.specs.Plans.{fork_plan, act_plan, branch_plan, loop_pl
 use crate::sums::add;
 use rc_base::NoMemory;
 use rc_core::Layouts;
-use rc_points::{act_points, branch_points, code_points, steps_points};
 use rc_rlang::code::{Act, Code, Test};
 use rc_rlang::steps::Step;
+use rc_rlang::{act_points, branch_points, code_points, steps_points};
 use std::slice;
 
 /// Where the ways of a fork stand, and where it leads.

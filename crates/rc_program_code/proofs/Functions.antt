@@ -24,10 +24,10 @@ use Rattle.rc_emission.specs.StatementCode.{body_lines, code_lines, stack_functi
 use Rattle.rc_scope.specs.Names.{number_of}
 use Rattle.rc_lines.specs.Keys.{kept_key}
 use Rattle.rc_lines.specs.Over.{Listed}
-use Rattle.rc_kept.specs.Keyed.{key_of}
-use Rattle.rc_kept_table.specs.Numbering.{Numbers}
-use Rattle.rc_function_code.specs.declared.function_code.FunctionCode.{FunctionCode}
-use Rattle.rc_function_code.specs.ProgramCode.{function_of, bare_function, IsFunctionCode}
+use Rattle.rc_lines.specs.Keyed.{key_of}
+use Rattle.rc_program_code.specs.Numbering.{Numbers}
+use Rattle.rc_lines.specs.declared.function_code.FunctionCode.{FunctionCode}
+use Rattle.rc_lines.specs.ProgramCode.{function_of, bare_function, IsFunctionCode}
 use Rattle.rc_program_code.specs.Listing.{routine_of}
 use Rattle.rc_program_code.proofs.SameSlots.{Same, code_same, end_same}
 

@@ -1,3 +1,10 @@
 pub mod SameSlots
 pub mod Maps
 pub mod Functions
+pub mod Once
+pub mod Loops
+pub mod Still
+pub mod Holding
+pub mod Making
+pub mod Walks
+pub mod InFront

@@ -1,1 +1,5 @@
 pub mod Listing
+pub mod Numbering
+pub mod Entered
+pub mod Onward
+pub mod Placed

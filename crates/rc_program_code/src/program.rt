@@ -5,20 +5,19 @@ ghost use Rattle.rc_rlang.specs.LiveLists.{live_lists};
 ghost use Rattle.rc_rlang.specs.RegionFits.{CodeFits};
 ghost use Rattle.rc_rlang.specs.RegionPoints.{code_points};
 ghost use Rattle.rc_rlang.specs.Shapes.{rlang_of};
-ghost use Rattle.rc_function_code.specs.ProgramCode.{IsFunctionCode, IsProgramCode};
+ghost use Rattle.rc_lines.specs.ProgramCode.{IsFunctionCode, IsProgramCode};
 ghost use Rattle.rc_program_code.specs.Listing.{structs_of, routine_of, HeldBefore};
 
+use crate::bodies::body_code;
+use crate::table::{kept_by, local_types};
 use rc_base::NoMemory;
 use rc_core::Layouts;
-use rc_function_code::FunctionCode;
-use rc_kept_table::{kept_by, local_types};
-use rc_lines::Body;
+use rc_lines::{Body, FunctionCode};
 use rc_liveness::lists_are_maps;
-use rc_points::{code_points, points_behind};
 use rc_rlang::code::{RegionParts, Routine};
 use rc_rlang::live_map::LiveMap;
 use rc_rlang::rlang::Rlang;
-use rc_statements::body_code;
+use rc_rlang::{code_points, points_behind};
 use std::alloc::Global;
 
 /// What the code of functions is made over.

@@ -2,3 +2,5 @@ pub mod Members
 pub mod Placed
 pub mod Added
 pub mod Sounds
+pub mod Marked
+pub mod Thinned

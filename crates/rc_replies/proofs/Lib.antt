@@ -1,2 +1,4 @@
 pub mod Same
 pub mod Written
+pub mod Lines
+pub mod Numbers

@@ -8,7 +8,7 @@ use Rattle.rc_core.specs.Heap.{Value, Number, Null, Handle, Pointer, names}
 use Rattle.rc_store.specs.Kept.{KeptStore, Regions}
 use Rattle.rc_store.specs.Stores.{deleted, live_in}
 use Rattle.rc_store.specs.Sets.{deleted_all, has_child_outside, is_member, refs_beside, set_refs}
-use Rattle.rc_commands.specs.Commands.{Command, New, Cells, Link, Pin, Unpin, Drop, command_of}
+use Rattle.rc_replies.specs.Commands.{Command, New, Cells, Link, Pin, Unpin, Drop, command_of}
 use Rattle.rc_replies.specs.declared.reply.Reply.{Reply}
 use Rattle.rc_replies.specs.declared.reply.Reply.TheVariants.{Done, Root, Subregion, Reference, Bad}
 use Rattle.rc_replies.specs.Replies.{changed, changes, is_pin, is_set, line_reply, line_store, replies, reply_text, reply_to, store_behind, without_pin}

@@ -3,3 +3,5 @@ pub mod Stores
 pub mod Examples
 pub mod Laws
 pub mod Writing
+pub mod Commands
+pub mod Reading

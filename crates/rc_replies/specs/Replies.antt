@@ -11,7 +11,7 @@ use Rattle.rc_store.specs.Kept.{KeptStore, Regions}
 use Rattle.rc_store.specs.Stores.{allocated, live_in, made, no_view, object_in, objects_in, written}
 use Rattle.rc_store.specs.Sets.{deleted_all, has_child_outside, is_member, set_refs}
 use Rattle.rc_store.specs.declared.cell.Place.{Place}
-use Rattle.rc_commands.specs.Commands.{Command, New, Cells, Link, Pin, Unpin, Drop, command_of, lines_of}
+use Rattle.rc_replies.specs.Commands.{Command, New, Cells, Link, Pin, Unpin, Drop, command_of, lines_of}
 use Rattle.rc_replies.specs.declared.reply.Reply.{Reply}
 use Rattle.rc_replies.specs.declared.reply.Reply.TheVariants.{Region, Object, Full, Done, Root, Subregion, Reference, Bad}
 

@@ -1,6 +1,5 @@
 // A row.
-use rc_inspect::inspect;
-use rc_reports::report_text;
+use rc_reports::{inspect, report_text};
 use rc_row_files::{Found, push_line, unread};
 use std::alloc::{AllocError, Global};
 use std::io;

@@ -3,7 +3,7 @@ use Rattle.std.proofs.Common.{◌≡◌, ℕ, suc, Bool, List, [], ◌∷◌, �
 use Rattle.rc_rlang.specs.RegionCode.{Routine, Rlang}
 use Rattle.rc_rlang.specs.IsRlang.{IsRlang}
 use Rattle.rc_rlang.specs.Sites.{Site}
-use Rattle.rc_greatest.proofs.Marks.{marks_decided}
+use Rattle.rc_edges.proofs.Marks.{marks_decided}
 use Rattle.rc_elim.proofs.OneMask.{one_mask}
 use Rattle.rc_reports.specs.declared.entry.Entry.{Entry}
 use Rattle.rc_reports.specs.Listed.{listed}

@@ -1,26 +1,17 @@
-//! The report of region code: which checks of annotations are kept, and which are removed.
-//! `specs/Reports` says what it is.
+//! The report on checks of annotations, which are kept and which are removed since facts prove that they
+//! never fail: of region code (`specs/Reports`), and of a text (`specs/Inspected`).
 #![tactic(auto)]
 
-ghost use Rattle.std.specs.Prelude.{◌≡◌, List};
-ghost use Rattle.rc_rlang.specs.IsRlang.{IsRlang};
-ghost use Rattle.rc_rlang.specs.RegionCode.{Rlang};
-ghost use Rattle.rc_reports.specs.declared.entry.Entry.{Entry as AnEntry};
-ghost use Rattle.rc_reports.specs.Reports.{IsReport};
-
 mod entry;
+mod inspection;
 mod listing;
+mod reports;
 mod site;
 mod text;
 
 pub use entry::{Entry, entries};
+pub use inspection::{inspect, report};
 pub use listing::{sites, sites_by_points};
+pub use reports::region_code_has_one_report;
 pub use site::Site;
 pub use text::{removed_count, report_text};
-
-/// Region code whose parts fit together has a report (`some`), and any region code has at most one
-/// (`one`).
-pub fn region_code_has_one_report()
-    ensures some { (r : Rlang) → IsRlang r → (all : List AnEntry) × IsReport r all }
-    ensures one { (r : Rlang) (a b : List AnEntry) → IsReport r a → IsReport r b → a ≡ b }
-{}

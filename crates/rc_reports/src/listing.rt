@@ -14,8 +14,8 @@ use rc_base::NoMemory;
 use rc_core::ty::{Note, Ty};
 use rc_core::{Kind, Layouts};
 use rc_graph::{cell_note, note_in};
-use rc_points::{act_points, branch_points, steps_points};
 use rc_rlang::code::{Act, Code, Routine};
+use rc_rlang::{act_points, branch_points, steps_points};
 use std::alloc::Global;
 
 /// An order of stores. The two differ at loops alone: the third part of a loop's head stands before its

@@ -16,7 +16,7 @@ use Rattle.rc_core.specs.Heap.{Value, Handle}
 use Rattle.rc_store.specs.Kept.{KeptStore}
 use Rattle.rc_store.specs.Stores.{allocated, live_in, made, object_in, objects_in, written}
 use Rattle.rc_store.specs.Sets.{IsSet, deleted_all, has_child_outside, is_member, set_refs}
-use Rattle.rc_commands.specs.Commands.{Command, New, Cells, Link, Pin, Unpin, Drop}
+use Rattle.rc_replies.specs.Commands.{Command, New, Cells, Link, Pin, Unpin, Drop}
 use Rattle.rc_replies.specs.declared.reply.Reply.{Reply}
 use Rattle.rc_replies.specs.declared.reply.Reply.TheVariants.{Region, Object, Full, Done, Root, Subregion, Reference, Bad}
 use Rattle.rc_replies.specs.Replies.{changed, changes, deletion_reply, has_cell, is_pin, is_target, place, reply_to, target_value, without_pin}

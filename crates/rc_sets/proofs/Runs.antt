@@ -9,7 +9,7 @@ use Rattle.rc_base.proofs.ActLaws.{took_nothing, took_then}
 use Rattle.rc_core.specs.Heap.{Value}
 use Rattle.rc_store.specs.Kept.{KeptStore, Regions}
 use Rattle.rc_store.specs.Stores.{IsNew, live_in, no_view, objects_in}
-use Rattle.rc_commands.specs.Commands.{command_of, lines_of}
+use Rattle.rc_replies.specs.Commands.{command_of, lines_of}
 use Rattle.rc_replies.specs.declared.reply.Reply.{Reply}
 use Rattle.rc_replies.specs.Replies.{first_store, line_store, replies, reply_text, store_behind}
 use Rattle.rc_replies.specs.Stores.{IsSame}

@@ -2,7 +2,7 @@
 use Rattle.std.specs.Prelude.{◌≡◌, ◌⊎◌, Option, Some, Result, Ok, Err}
 use Rattle.rc_base.specs.declared.outside.NoMemory.{NoMemory}
 use Rattle.rc_store.specs.Kept.{KeptStore}
-use Rattle.rc_commands.specs.Commands.{Command}
+use Rattle.rc_replies.specs.Commands.{Command}
 use Rattle.rc_replies.specs.declared.reply.Reply.{Reply}
 use Rattle.rc_replies.specs.Replies.{line_reply, line_store}
 use Rattle.rc_replies.specs.Stores.{IsSame}

@@ -4,7 +4,7 @@ ghost use Rattle.std.specs.List.{list_all};
 ghost use Rattle.std.specs.Set.{distinct_count};
 ghost use Rattle.std.specs.BTreeSet.{IsFromIterResult};
 ghost use Rattle.std.specs.Ordering.{nat_cmp};
-ghost use Rattle.rc_commands.specs.Commands.{Drop};
+ghost use Rattle.rc_replies.specs.Commands.{Drop};
 ghost use Rattle.rc_replies.specs.Replies.{deletion_reply, is_set};
 ghost use Rattle.rc_store.specs.Sets.{IsSet};
 ghost use Rattle.rc_store.specs.Stores.{live_in};

@@ -1,6 +1,6 @@
 // Writing cells.
 ghost use Rattle.std.specs.Prelude.{◌≡◌, Some};
-ghost use Rattle.rc_commands.specs.Commands.{Link};
+ghost use Rattle.rc_replies.specs.Commands.{Link};
 ghost use Rattle.rc_replies.specs.Replies.{has_cell, is_target, target_value};
 ghost use Rattle.rc_store.specs.Values.{value_of};
 ghost use Rattle.rc_sets.specs.Obeying.{DidLine};

@@ -1,6 +1,6 @@
 // Obeying commands.
-ghost use Rattle.rc_commands.specs.Commands.{command_of};
-ghost use Rattle.rc_commands.specs.Reading.{asked};
+ghost use Rattle.rc_replies.specs.Commands.{command_of};
+ghost use Rattle.rc_replies.specs.Reading.{asked};
 ghost use Rattle.rc_sets.specs.Obeying.{MayDoLine, MayObey};
 ghost use Rattle.rc_sets.specs.Records.{IsKeptBy};
 
@@ -11,8 +11,7 @@ use crate::pins::{pin, unpin};
 use crate::records::Records;
 use crate::regions::make_region;
 use rc_base::{NoMemory, Steps};
-use rc_commands::{Command, NoCommand, command_of};
-use rc_replies::Reply;
+use rc_replies::{Command, NoCommand, Reply, command_of};
 use rc_store::{Pointer, SetHeap};
 use std::alloc::Global;
 

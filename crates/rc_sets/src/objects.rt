@@ -1,5 +1,5 @@
 // New objects.
-ghost use Rattle.rc_commands.specs.Commands.{Cells};
+ghost use Rattle.rc_replies.specs.Commands.{Cells};
 ghost use Rattle.rc_sets.specs.Obeying.{MayObey};
 ghost use Rattle.rc_sets.specs.Records.{IsKeptBy};
 

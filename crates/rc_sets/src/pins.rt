@@ -1,6 +1,6 @@
 // Pins.
 ghost use Rattle.std.specs.Prelude.{Some};
-ghost use Rattle.rc_commands.specs.Commands.{Pin, Unpin};
+ghost use Rattle.rc_replies.specs.Commands.{Pin, Unpin};
 ghost use Rattle.rc_sets.specs.Obeying.{DidLine, MayObey};
 ghost use Rattle.rc_sets.specs.Records.{IsKeptBy};
 

@@ -1,5 +1,5 @@
 // New regions.
-ghost use Rattle.rc_commands.specs.Commands.{New};
+ghost use Rattle.rc_replies.specs.Commands.{New};
 ghost use Rattle.rc_sets.specs.Obeying.{MayObey};
 ghost use Rattle.rc_sets.specs.Records.{IsKeptBy};
 

@@ -1,6 +1,6 @@
 // Running scripts.
 ghost use Rattle.std.specs.Prelude.{OnErr, OnOk};
-ghost use Rattle.rc_commands.specs.Commands.{lines_of};
+ghost use Rattle.rc_replies.specs.Commands.{lines_of};
 ghost use Rattle.rc_replies.specs.Replies.{first_store, heap_store, heap_text};
 ghost use Rattle.rc_replies.specs.Stores.{IsSame};
 ghost use Rattle.rc_store.specs.Stores.{IsNew};
@@ -9,8 +9,7 @@ ghost use Rattle.rc_sets.specs.Scripts.{IsBehindSome, PutText, limits_of};
 use crate::obeying::obey_line;
 use crate::records::Records;
 use rc_base::{Sink, Steps};
-use rc_commands::next_line;
-use rc_replies::write_reply;
+use rc_replies::{next_line, write_reply};
 use rc_store::SetHeap;
 use std::alloc::Global;
 

@@ -9,12 +9,12 @@ use Rattle.rc_store.specs.Stores.{is_view, live_in, or_none, parent_in}
 use Rattle.rc_slots.specs.Entries.{Member}
 use Rattle.rc_areas.specs.Areas.{AreaState, IsLaid, objects_of}
 use Rattle.rc_areas.specs.Shapes.{Shape}
-use Rattle.rc_counts.specs.Together.{without}
-use Rattle.rc_counts.proofs.Together.{length-without, without_read}
+use Rattle.rc_cells.specs.Together.{without}
+use Rattle.rc_cells.proofs.Together.{length-without, without_read}
 use Rattle.rc_registry.specs.Registries.{IsApart, IsMember, Members, at_slots, is_member, is_slot_of, member_at, member_in, or_root}
 use Rattle.rc_registry.proofs.Placed.{same_answer}
-use Rattle.rc_groups.specs.Groups.{AreClear, HasChildOutside}
-use Rattle.rc_groups.proofs.Marked.{hit_is, length-at_slots, set_read, slot_below}
+use Rattle.rc_registry.specs.Groups.{AreClear, HasChildOutside}
+use Rattle.rc_registry.proofs.Marked.{hit_is, length-at_slots, set_read, slot_below}
 use Rattle.rc_space.specs.Spaces.{AreFreed, IsBeside, IsSpace, area_at, no_area, regions_of, view_of}
 use Rattle.rc_space.proofs.Grown.{empty_laid}
 use Rattle.rc_space.proofs.Regions.{live_is, parent_is}

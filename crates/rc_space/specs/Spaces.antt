@@ -10,7 +10,7 @@ use Rattle.rc_slots.specs.Entries.{Member}
 use Rattle.rc_areas.specs.Areas.{AreaState, IsLaid, objects_of}
 use Rattle.rc_areas.specs.Shapes.{Shape}
 use Rattle.rc_registry.specs.Registries.{IsMember, Members, member_in}
-use Rattle.rc_groups.specs.Groups.{AreClear}
+use Rattle.rc_registry.specs.Groups.{AreClear}
 
 -- the regions, and how many references to each are counted
 pub record SpaceState : Type 0 where

@@ -11,7 +11,7 @@ ghost use Rattle.rc_store.specs.Kept.{blank};
 ghost use Rattle.rc_store.specs.Sets.{has_child_outside};
 ghost use Rattle.rc_store.specs.Stores.{cell_place, cell_value, cells_in, is_child, live_in, no_view, object_in, objects_in, objects_with, parent_in, region_at, with_objects};
 ghost use Rattle.rc_store.specs.Values.{suits, value_of};
-ghost use Rattle.rc_counts.specs.Together.{without};
+ghost use Rattle.rc_cells.specs.Together.{without};
 ghost use Rattle.rc_tally.specs.Tally.{held_refs, pin_refs, value_refs};
 ghost use Rattle.rc_space.specs.Spaces.{HasSpot, IsWhole, count_of};
 
@@ -378,7 +378,7 @@ impl<L: Ledger> Space<L> {
         ensures child { result ≡ has_child_outside set.now 0 self.old.regions }
         ensures same { self.new ≡ self.old }
     {
-        rc_groups::has_child_outside(&self.registry, set, &mut self.marks)
+        rc_registry::has_child_outside(&self.registry, set, &mut self.marks)
     }
 
     /// Takes all regions of a set out, in whatever order they stand there. They are live, none is region
@@ -393,7 +393,7 @@ impl<L: Ledger> Space<L> {
         ensures counts { (r : ℕ) → count_of self.new r ≡ count_of self.old r }
     {
         clear_all(&self.registry, set, &mut self.areas, &mut self.bank);
-        rc_groups::remove_all(&mut self.registry, set, &mut self.marks);
+        rc_registry::remove_all(&mut self.registry, set, &mut self.marks);
     }
 
     /// Whether live region a is b, or above b's parent. The links that it follows up the tree are

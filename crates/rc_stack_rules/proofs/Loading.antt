@@ -20,8 +20,8 @@ use Rattle.rc_emission.proofs.TableServes.{body_serves}
 use Rattle.rc_stack_rules.specs.LoaderRules.{local_kind}
 use Rattle.rc_stack_rules.specs.Loadable.{all_locals, KeepsRules, EndsInReturn, IsInOrder, object_type, AllKeepRules}
 use Rattle.rc_stack_rules.proofs.SoundFunctions.{loaded, ends_in_a_return}
-use Rattle.rc_region_rules.proofs.Kinding.{statement_agrees}
-use Rattle.rc_region_rules.proofs.Theorem.{global_there, behind_globals, all_char}
+use Rattle.rc_translation.proofs.Kinding.{statement_agrees}
+use Rattle.rc_translation.proofs.RulesTheorem.{global_there, behind_globals, all_char}
 
 kind_wide : (ty : Ty) → kind_ty (wide ty) ≡ kind_ty ty
 kind_wide int = refl

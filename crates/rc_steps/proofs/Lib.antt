@@ -17,3 +17,6 @@ pub mod Calls
 pub mod Readiness
 pub mod Following
 pub mod Marks
+pub mod Held
+pub mod ReadyCells
+pub mod Forms

@@ -3,3 +3,4 @@ pub mod Stands
 pub mod Leads
 pub mod Ready
 pub mod Follows
+pub mod ShortForms

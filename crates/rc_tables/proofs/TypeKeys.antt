@@ -7,8 +7,8 @@ use Rattle.rc_emission.specs.KeptOperands.{Kept, kept_at, counted_on, same_kept,
 use Rattle.rc_emission.proofs.SameOperands.{kept_self}
 use Rattle.rc_scope.specs.Names.{number_of}
 use Rattle.rc_lines.specs.Keys.{type_key, TypeHasKey, HasKey}
-use Rattle.rc_kept.specs.Keyed.{key_of}
-use Rattle.rc_kept.proofs.Keys.{numbered}
+use Rattle.rc_lines.specs.Keyed.{key_of}
+use Rattle.rc_lines.proofs.KeptKeys.{numbered}
 use Rattle.rc_numbering.proofs.Tabled.{type_is}
 use Rattle.rc_tables.proofs.Places.{equal_tests, bytes_is, bytes_self}
 

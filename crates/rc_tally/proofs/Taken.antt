@@ -13,7 +13,7 @@ use Rattle.rc_core.specs.Heap.{Value, names}
 use Rattle.rc_store.specs.Kept.{object_refs}
 use Rattle.rc_store.specs.Values.{is_counted}
 use Rattle.rc_cells.specs.Codes.{decoded}
-use Rattle.rc_counts.specs.Follow.{cell_refs}
+use Rattle.rc_cells.specs.Follow.{cell_refs}
 use Rattle.rc_slots.specs.declared.entry.Entry.{Entry}
 use Rattle.rc_slots.specs.Entries.{IsEntry, counted, entry_at, lowered, member_of, members_of, raised}
 use Rattle.rc_areas.specs.Shapes.{Shape, has_counted}

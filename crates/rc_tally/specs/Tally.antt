@@ -4,7 +4,7 @@ use Rattle.rc_core.specs.declared.layouts.Kind.{Kind}
 use Rattle.rc_core.specs.Heap.{Value, names}
 use Rattle.rc_store.specs.Kept.{KeptObject, object_refs}
 use Rattle.rc_cells.specs.Codes.{decoded}
-use Rattle.rc_counts.specs.Follow.{cell_refs}
+use Rattle.rc_cells.specs.Follow.{cell_refs}
 use Rattle.rc_slots.specs.declared.entry.Entry.{Entry}
 use Rattle.rc_slots.specs.Entries.{IsEntry, counted, entry_at, members_of}
 

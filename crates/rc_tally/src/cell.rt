@@ -1,7 +1,7 @@
 // One cell at a time.
 ghost use Rattle.std.specs.Prelude.{◌≡◌, ◌<◌, ◌≤◌, ◌+◌, ℕ, length, slice_index};
 ghost use Rattle.rc_cells.specs.Codes.{decoded};
-ghost use Rattle.rc_counts.specs.Follow.{cell_refs};
+ghost use Rattle.rc_cells.specs.Follow.{cell_refs};
 ghost use Rattle.rc_slots.specs.Entries.{counted, entry_at};
 ghost use Rattle.rc_tally.specs.Tally.{IsGiven, IsTaken, MayBeGiven};
 

@@ -16,9 +16,9 @@ use Rattle.rc_task_trees.specs.Programs.{TypesTasks}
 use Rattle.rc_task_trees.proofs.Meanings.{has_program, means_tasks}
 use Rattle.rc_task_trees.proofs.Bytes.{all_bytes}
 use Rattle.rc_task_programs.specs.Accepted.{tasks_in}
-use Rattle.rc_well_typed.proofs.Texts.{well_typed}
-use Rattle.rc_well_typed.proofs.Words.{words_in_range}
-use Rattle.rc_well_typed.proofs.Trees.{items_in_range}
+use Rattle.rc_compile.proofs.Texts.{well_typed}
+use Rattle.rc_compile.proofs.Words.{words_in_range}
+use Rattle.rc_compile.proofs.Trees.{items_in_range}
 
 types : (text digits : List ℕ) (program : Program) → Every IsByte text → AreChoices digits → (accepted : Accepted (task_text_of text digits) program) → TypesTasks text digits accepted.has_program.tree.items program
 types text digits program bytes good accepted =

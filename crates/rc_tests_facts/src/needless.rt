@@ -1,8 +1,7 @@
 // Of small programs how many stores to annotated cells there are, and of how many the check may go. The
 // numbers follow from the rules of facts, by hand.
 
-use rc_inspect::inspect;
-use rc_reports::removed_count;
+use rc_reports::{inspect, removed_count};
 use std::alloc::Global;
 use std::test::Fail;
 

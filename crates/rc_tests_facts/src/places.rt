@@ -3,8 +3,8 @@ ghost use Rattle.std.specs.Prelude.{◌≡◌, IfOk, IsTrue};
 ghost use Rattle.rc_facts.specs.Facts.{is_over};
 
 use rc_base::NoMemory;
+use rc_edges::Facts;
 use rc_facts::{Fact, FactSet};
-use rc_region_facts::Facts;
 use std::alloc::Global;
 use std::test::Fail;
 

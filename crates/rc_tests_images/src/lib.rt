@@ -1,7 +1,11 @@
-//! Tests of images.
+//! Tests of images, and of the parts of a machine: the stack of calls and the short form of images.
 #![tactic(auto)]
 
 #[cfg(test)]
 mod bytes;
+#[cfg(test)]
+mod decoding;
+#[cfg(test)]
+mod piles;
 #[cfg(test)]
 mod table;

@@ -1,7 +1,7 @@
 // Texts in several files.
 use rc_answers::Fault;
 use rc_base::{Drawer, MOST_TEXT_BYTES, Shelf};
-use rc_text_files::{FileText, load_texts};
+use rc_files::{FileText, load_texts};
 use std::alloc::Global;
 use std::test::Fail;
 

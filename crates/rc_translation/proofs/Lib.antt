@@ -17,3 +17,11 @@ pub mod Theorem
 pub mod RegionComputed
 pub mod Fitting
 pub mod StatementFitting
+pub mod Kinding
+pub mod Defined
+pub mod Nesting
+pub mod AccessPlaces
+pub mod Standing
+pub mod VariablesCounted
+pub mod RulesWhole
+pub mod RulesTheorem

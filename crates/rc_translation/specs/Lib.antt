@@ -1,3 +1,4 @@
 pub mod Translation
 pub mod Means
 pub mod RegionExamples
+pub mod Keeps

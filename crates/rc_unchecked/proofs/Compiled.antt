@@ -6,8 +6,8 @@ use Rattle.rc_rlang.specs.RegionCode.{Routine}
 use Rattle.rc_rlang.specs.Bounds.{IsWithinBounds}
 use Rattle.rc_rlang.specs.Sites.{Site, code_sites}
 use Rattle.rc_translation.specs.Translation.{region_of_program}
-use Rattle.rc_region_rules.proofs.Theorem.{fits_together}
-use Rattle.rc_greatest.proofs.Marks.{marks_decided}
+use Rattle.rc_translation.proofs.RulesTheorem.{fits_together}
+use Rattle.rc_edges.proofs.Marks.{marks_decided}
 use Rattle.rc_elim.proofs.OneMask.{one_mask}
 use Rattle.rc_code.specs.declared.image.Parts.{Parts}
 use Rattle.rc_marks.specs.InOrder.{routine_marks, functions_marks}

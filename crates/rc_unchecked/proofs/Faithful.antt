@@ -27,10 +27,10 @@ use Rattle.rc_worlds.proofs.Layouts.{own_storage}
 use Rattle.rc_worlds.proofs.Reached.{same_steps}
 use Rattle.rc_worlds.proofs.Whole.{view_is_sound}
 use Rattle.rc_numbering.specs.Numbered.{image_of}
-use Rattle.rc_image_rules.specs.Small.{IsSmall}
-use Rattle.rc_marked.specs.InOrder.{OnlyWhereAsked}
-use Rattle.rc_joined.specs.Programs.{image_of_program}
-use Rattle.rc_joined.proofs.Joined as Joined
+use Rattle.rc_numbering.specs.Small.{IsSmall}
+use Rattle.rc_labels.specs.InOrder.{OnlyWhereAsked}
+use Rattle.rc_numbering.specs.Programs.{image_of_program}
+use Rattle.rc_numbering.proofs.Joined as Joined
 use Rattle.rc_unchecked.specs.Regions.{NoMarkedCheckFails, MarkedImagesDoWhatTheirCodeDoes}
 use Rattle.rc_unchecked.specs.Right.{MarksAreRight}
 use Rattle.rc_translation.specs.Translation.{region_of_program}

@@ -15,7 +15,7 @@ use Rattle.rc_numbering.proofs.SourceWaits.{waiting, source_waits}
 use Rattle.rc_code.specs.Running.{Reading}
 use Rattle.rc_worlds.specs.Worlds.{watched, watched_put, passing}
 use Rattle.rc_worlds.proofs.Turns.{KeepsTurns}
-use Rattle.rc_label_rules.specs.PutLaws.{MakesNoTurns, KeepsWaiting}
+use Rattle.rc_labels.specs.PutLaws.{MakesNoTurns, KeepsWaiting}
 
 module _ (apart : Bool) (P : Unit {0} → World → Type 0) (line : ℕ) (w : World) where
   goes_on : (b c d e f : Bool) (w1 : World) → P tt w1 → IfGoes P (touching b line w (tested c Bounds line w (tested d Bounds line w (touching e line w (passing apart f line w (Go tt w1))))))

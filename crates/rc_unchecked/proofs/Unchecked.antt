@@ -16,7 +16,7 @@ use Rattle.rc_rlang.specs.RegionRuns.{run_main}
 use Rattle.rc_rlang.specs.Sites.{Site, code_sites}
 use Rattle.rc_translation.specs.Translation.{region_of_program}
 use Rattle.rc_translation.proofs.Theorem.{region_code_means}
-use Rattle.rc_region_rules.proofs.Theorem as Region
+use Rattle.rc_translation.proofs.RulesTheorem as Region
 use Rattle.rc_annotations.specs.Heights.{temporaries_of}
 use Rattle.rc_emission.proofs.SourceTurns.{source_turns}
 use Rattle.rc_checks.proofs.Whole.{removed_never_fail}
@@ -38,17 +38,17 @@ use Rattle.rc_numbering.specs.Means.{view_of, IsNumberable}
 use Rattle.rc_numbering.specs.Numbered.{image_of}
 use Rattle.rc_numbering.proofs.Programs.{rlang_is_numberable}
 use Rattle.rc_numbering.proofs.SourceWaits.{waiting, source_waits}
-use Rattle.rc_image_rules.specs.Small.{IsSmall}
-use Rattle.rc_marked_rules.proofs.Kept.{marked_sound, marked_fields_fit}
+use Rattle.rc_numbering.specs.Small.{IsSmall}
+use Rattle.rc_marks.proofs.Kept.{marked_sound, marked_fields_fit}
 use Rattle.rc_marks.specs.InOrder.{functions_marks, mask_of}
 use Rattle.rc_marks.specs.Marked.{marked_image}
 use Rattle.rc_marks.proofs.MarksCounted.{no_marks}
-use Rattle.rc_marked.specs.InOrder.{OnlyWhereAsked}
-use Rattle.rc_marked.proofs.Asked.{only_where_asked}
-use Rattle.rc_marked.proofs.MarkedImages.{does_what_marked_code_does}
-use Rattle.rc_joined.specs.Programs.{image_of_program}
-use Rattle.rc_joined.specs.Regions.{region_world}
-use Rattle.rc_joined.proofs.Joined as Joined
+use Rattle.rc_labels.specs.InOrder.{OnlyWhereAsked}
+use Rattle.rc_labels.proofs.Asked.{only_where_asked}
+use Rattle.rc_labels.proofs.MarkedImages.{does_what_marked_code_does}
+use Rattle.rc_numbering.specs.Programs.{image_of_program}
+use Rattle.rc_numbering.specs.Regions.{region_world}
+use Rattle.rc_numbering.proofs.Joined as Joined
 use Rattle.rc_unchecked.specs.Regions.{NoMarkedCheckFails, MeansItsCode, BareMeansItsCode}
 use Rattle.rc_unchecked.specs.Unchecked.{image_with, MayGo, MeansTheSameUnchecked, LeavesTheSameUnchecked}
 use Rattle.rc_unchecked.proofs.Trusted.{trusting}

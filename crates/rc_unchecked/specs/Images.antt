@@ -15,10 +15,10 @@ use Rattle.rc_code.specs.declared.image.Parts.{Parts}
 use Rattle.rc_code.specs.ImageMeaning.{image_meaning, image_left}
 use Rattle.rc_code.specs.Soundness.{Sound}
 use Rattle.rc_code.specs.Faithful.{Faithful}
-use Rattle.rc_image_rules.specs.Small.{IsSmall}
-use Rattle.rc_joined.specs.Programs.{image_of_program}
+use Rattle.rc_numbering.specs.Small.{IsSmall}
+use Rattle.rc_numbering.specs.Programs.{image_of_program}
 use Rattle.rc_marks.specs.Marked.{image_stores}
-use Rattle.rc_counted.specs.Counted.{all_sites, stored, HasAsMany}
+use Rattle.rc_marks.specs.Counted.{all_sites, stored, HasAsMany}
 use Rattle.rc_unchecked.specs.Compiled.{IsCompiled}
 
 abbrev pub HasMeaningOf : Program → Parts → Type 0

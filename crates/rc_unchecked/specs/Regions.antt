@@ -18,8 +18,8 @@ use Rattle.rc_along.specs.MarkedRuns.{Put, main_marked}
 use Rattle.rc_along.specs.MarkedLaws.{Trusting}
 use Rattle.rc_marks.specs.InOrder.{mask_of}
 use Rattle.rc_marks.specs.Marked.{marked_image}
-use Rattle.rc_marked.specs.InOrder.{OnlyWhereAsked}
-use Rattle.rc_joined.specs.Regions.{region_world, region_meaning}
+use Rattle.rc_labels.specs.InOrder.{OnlyWhereAsked}
+use Rattle.rc_numbering.specs.Regions.{region_world, region_meaning}
 
 -- in one run
 abbrev pub NoMarkedCheckFails : Rlang → (marks : (function point : ℕ) → Bool) → (input : List ℕ) → Limits → Type 0

@@ -1,3 +1,4 @@
 pub mod Values
 pub mod Outcomes
 pub mod Cells
+pub mod Objects

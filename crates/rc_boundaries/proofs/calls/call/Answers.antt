@@ -1,7 +1,7 @@
 use Rattle.std.proofs.Common.{◌∙◌, sym, subst, arith}
 use Rattle.rc_facts.specs.Facts.{Known}
 use Rattle.rc_graph.specs.Nodes.{node_of, nodes_of}
-use Rattle.rc_searching.specs.Boundaries.{CallsGive, NodeReady}
+use Rattle.rc_edges.specs.Boundaries.{CallsGive, NodeReady}
 use Rattle.rc_boundaries.proofs.Handing.{node_ready_same, calls_step, node_at, set_there, or_true, or_false}
 use Rattle.rc_boundaries.proofs.calls.call.Goals as goal
 use Rattle.rc_boundaries.proofs.calls.call.Goals.{then-lost, else-lost}

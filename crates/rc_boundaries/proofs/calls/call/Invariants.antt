@@ -1,6 +1,6 @@
 use Rattle.rc_graph.specs.Nodes.{nodes_of}
-use Rattle.rc_searching.specs.Reading.{Loses}
-use Rattle.rc_searching.specs.Boundaries.{CallsGive}
+use Rattle.rc_edges.specs.Reading.{Loses}
+use Rattle.rc_edges.specs.Boundaries.{CallsGive}
 use Rattle.rc_boundaries.proofs.calls.call.Given as goal
 
 abbrev pub invariant-loop-p : goal.invariant-loop-p

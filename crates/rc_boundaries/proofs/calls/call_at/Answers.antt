@@ -1,8 +1,8 @@
 use Rattle.std.proofs.Common.{refl, sym, subst}
 use Rattle.rc_graph.specs.declared.node.Node.TheVariants.{Fork}
 use Rattle.rc_graph.specs.Nodes.{effect_of, node_of}
-use Rattle.rc_searching.specs.Reading.{Loses}
-use Rattle.rc_searching.specs.Boundaries.{CallGives, NodeGives, NodeReady}
+use Rattle.rc_edges.specs.Reading.{Loses}
+use Rattle.rc_edges.specs.Boundaries.{CallGives, NodeGives, NodeReady}
 use Rattle.rc_boundaries.proofs.Handing.{node_ready_same, fork_gives, or_true, or_false, go_returned}
 use Rattle.rc_boundaries.proofs.calls.call_at.Goals as goal
 

@@ -1,6 +1,6 @@
 use Rattle.std.proofs.Common.{sym, ap, subst}
 use Rattle.rc_graph.specs.Nodes.{effect_of}
-use Rattle.rc_searching.specs.Boundaries.{Callable}
+use Rattle.rc_edges.specs.Boundaries.{Callable}
 use Rattle.rc_boundaries.proofs.calls.give.Goals as goal
 
 pub give_call-requires : goal.give_call-requires

@@ -1,7 +1,7 @@
 use Rattle.std.proofs.Common.{suc, ◌||◌, IsTrue, ◌↔◌, ◌∙◌, subst, arith}
 use Rattle.rc_facts.specs.Facts.{holds}
 use Rattle.rc_facts.specs.Derivable.{Derivable}
-use Rattle.rc_searching.specs.Boundaries.{given_facts}
+use Rattle.rc_edges.specs.Boundaries.{given_facts}
 use Rattle.rc_boundaries.proofs.Handing.{given_back, exit_long, exit_below}
 use Rattle.rc_boundaries.proofs.returns.give.Goals as goal
 

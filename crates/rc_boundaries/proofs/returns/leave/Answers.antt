@@ -1,7 +1,7 @@
 use Rattle.std.proofs.Common.{◌≡◌, ◌∙◌, sym, subst, arith}
 use Rattle.rc_graph.specs.Nodes.{node_of, nodes_of}
-use Rattle.rc_searching.specs.Reading.{Loses}
-use Rattle.rc_searching.specs.Boundaries.{ReturnsGive}
+use Rattle.rc_edges.specs.Reading.{Loses}
+use Rattle.rc_edges.specs.Boundaries.{ReturnsGive}
 use Rattle.rc_boundaries.proofs.Handing.{returns_step, node_at, or_true, or_false}
 use Rattle.rc_boundaries.proofs.returns.leave.Goals as goal
 use Rattle.rc_boundaries.proofs.returns.leave.Goals.{then-lost, else-lost}

@@ -1,7 +1,7 @@
 use Rattle.std.proofs.Common.{◌≡◌}
 use Rattle.rc_graph.specs.Nodes.{nodes_of}
-use Rattle.rc_searching.specs.Reading.{Loses}
-use Rattle.rc_searching.specs.Boundaries.{ReturnsGive}
+use Rattle.rc_edges.specs.Reading.{Loses}
+use Rattle.rc_edges.specs.Boundaries.{ReturnsGive}
 use Rattle.rc_boundaries.proofs.returns.leave.Given as goal
 
 abbrev pub invariant-loop-p : goal.invariant-loop-p

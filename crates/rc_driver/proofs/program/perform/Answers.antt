@@ -7,13 +7,13 @@ use Rattle.rc_outcomes.specs.Performing.{Performs}
 use Rattle.rc_requests.specs.Request.{Request, Run, Slow, Compile, Exec, Listing, Upgrade, Script, Checks, Soak, Tasks}
 use Rattle.rc_requests.specs.declared.request.Request.{Request as Asked}
 use Rattle.rc_answers.specs.declared.answer.Done.TheVariants.{Usage}
-use Rattle.rc_evaluation.proofs.Rows.{slow_row}
-use Rattle.rc_programs.proofs.Rows.{compile_row, run_row, tasks_row}
-use Rattle.rc_exec.proofs.Executions.{exec_row}
-use Rattle.rc_image_files.proofs.ImageFiles.{list_row, upgrade_row}
-use Rattle.rc_scripts.proofs.Rows.{script_row}
-use Rattle.rc_inspections.proofs.Rows.{checks_row}
-use Rattle.rc_soaks.proofs.Rows.{soak_row}
+use Rattle.rc_driver.proofs.EvaluationRows.{slow_row}
+use Rattle.rc_driver.proofs.ProgramRows.{compile_row, run_row, tasks_row}
+use Rattle.rc_driver.proofs.Executions.{exec_row}
+use Rattle.rc_files.proofs.ImageFiles.{list_row, upgrade_row}
+use Rattle.rc_driver.proofs.ScriptRows.{script_row}
+use Rattle.rc_driver.proofs.InspectionRows.{checks_row}
+use Rattle.rc_driver.proofs.SoakRows.{soak_row}
 use Rattle.rc_outcomes.proofs.Ways.{asks_usage}
 use Rattle.rc_driver.proofs.program.perform.Goals as goal
 

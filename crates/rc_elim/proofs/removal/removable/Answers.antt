@@ -3,7 +3,7 @@ use Rattle.rc_core.specs.Shapes.{struct_of}
 use Rattle.rc_core.specs.WellTyped.{StructsFit}
 use Rattle.rc_rlang.specs.Shapes.{rlang_of}
 use Rattle.rc_rlang.specs.declared.code.RegionParts.{RegionParts}
-use Rattle.rc_region_facts.specs.Inferred.{Inferred}
+use Rattle.rc_edges.specs.Inferred.{Inferred}
 use Rattle.rc_elim.specs.Masks.{HasPoints, MarksRemovable, marks_in, rows_of}
 use Rattle.rc_elim.proofs.Removing.{has_points, marks_removable}
 use Rattle.rc_elim.proofs.removal.removable.Goals as goal

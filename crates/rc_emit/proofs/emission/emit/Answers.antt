@@ -2,12 +2,12 @@ use Rattle.std.proofs.Common.{◌≡◌, map, sym, subst}
 use Rattle.rc_code.specs.Soundness.{Sound}
 use Rattle.rc_code.specs.declared.image.Parts.{Parts}
 use Rattle.rc_elim.specs.Masks.{marks_in}
-use Rattle.rc_image_rules.specs.Small.{IsSmall}
-use Rattle.rc_marked_rules.proofs.Kept.{marked_sound}
+use Rattle.rc_numbering.specs.Small.{IsSmall}
+use Rattle.rc_marks.proofs.Kept.{marked_sound}
 use Rattle.rc_marks.specs.InOrder.{mask_of}
 use Rattle.rc_marks.specs.Marked.{image_stores}
-use Rattle.rc_counted.specs.Counted.{all_sites, stored}
-use Rattle.rc_counted.proofs.Counted.{stores_are_sites}
+use Rattle.rc_marks.specs.Counted.{all_sites, stored}
+use Rattle.rc_marks.proofs.Counted.{stores_are_sites}
 use Rattle.rc_numbering.proofs.Programs.{rlang_is_numberable}
 use Rattle.rc_numbering.specs.Numbered.{image_of}
 use Rattle.rc_rlang.specs.Shapes.{rlang_of}

@@ -4,9 +4,9 @@ use Rattle.std.proofs.lemmas.Option.{slice_get_within}
 use Rattle.rc_core.specs.Shapes.{struct_of}
 use Rattle.rc_core.specs.WellTyped.{StructsFit}
 use Rattle.rc_rlang.specs.Shapes.{rlang_of, routine_in}
-use Rattle.rc_region_facts.specs.Inferred.{family_of}
-use Rattle.rc_searching.specs.Searching.{Gone}
-use Rattle.rc_searching.proofs.Steps.{begun, ended}
+use Rattle.rc_edges.specs.Inferred.{family_of}
+use Rattle.rc_edges.specs.Searching.{Gone}
+use Rattle.rc_edges.proofs.Steps.{begun, ended}
 use Rattle.rc_infer.specs.Turning.{AreGraphs}
 use Rattle.rc_infer.proofs.rounds.infer.Goals as goal
 

@@ -1,6 +1,6 @@
 use Rattle.rc_rlang.specs.Shapes.{rlang_of}
-use Rattle.rc_region_facts.specs.Inferred.{family_of}
-use Rattle.rc_searching.specs.Searching.{Searching, facts_between}
+use Rattle.rc_edges.specs.Inferred.{family_of}
+use Rattle.rc_edges.specs.Searching.{Searching, facts_between}
 use Rattle.rc_infer.proofs.rounds.infer.Given as goal
 
 abbrev pub invariant-rounds : goal.invariant-rounds

@@ -2,8 +2,8 @@ use Rattle.std.proofs.Common.{◌∙◌, ◌+◌, ◌<◌, ◌||◌, length, sym
 use Rattle.std.proofs.lemmas.List.{length-map}
 use Rattle.rc_rlang.specs.declared.code.RegionParts.{RegionParts}
 use Rattle.rc_rlang.specs.Shapes.{rlang_of, routine_in}
-use Rattle.rc_region_facts.specs.Inferred.{family_of}
-use Rattle.rc_searching.specs.Searching.{Gone}
+use Rattle.rc_edges.specs.Inferred.{family_of}
+use Rattle.rc_edges.specs.Searching.{Gone}
 use Rattle.rc_infer.proofs.Places.{some_at}
 use Rattle.rc_infer.proofs.Visits.{gone_more}
 use Rattle.rc_infer.proofs.rounds.round.Goals as goal

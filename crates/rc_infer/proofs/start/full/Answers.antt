@@ -2,7 +2,7 @@ use Rattle.std.proofs.Common.{◌≡◌, ◌∙◌, length, map, ap, subst, arit
 use Rattle.std.proofs.lemmas.List.{length-map}
 use Rattle.rc_rlang.specs.declared.code.RegionParts.{RegionParts}
 use Rattle.rc_rlang.specs.Shapes.{rlang_of, routine_in}
-use Rattle.rc_region_facts.specs.Inferred.{family_of}
+use Rattle.rc_edges.specs.Inferred.{family_of}
 use Rattle.rc_infer.specs.Starting.{Started}
 use Rattle.rc_infer.proofs.Places.{found, pushed, sets_of}
 use Rattle.rc_infer.proofs.Starts.{few_variables, few_copies, started_at, started_more, started_all}

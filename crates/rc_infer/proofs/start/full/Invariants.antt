@@ -1,5 +1,5 @@
 use Rattle.rc_rlang.specs.Shapes.{rlang_of}
-use Rattle.rc_region_facts.specs.Inferred.{family_of}
+use Rattle.rc_edges.specs.Inferred.{family_of}
 use Rattle.rc_infer.specs.Starting.{Started}
 use Rattle.rc_infer.proofs.start.full.Given as goal
 

@@ -6,8 +6,8 @@ use Rattle.std.proofs.lemmas.Option.{slice_get_within}
 use Rattle.rc_facts.specs.Facts.{Known}
 use Rattle.rc_flow.specs.Flow.{no_set}
 use Rattle.rc_graph.specs.Nodes.{node_of, nodes_of}
-use Rattle.rc_region_facts.specs.Inferred.{family_of}
-use Rattle.rc_searching.specs.Boundaries.{NodeReady}
+use Rattle.rc_edges.specs.Inferred.{family_of}
+use Rattle.rc_edges.specs.Boundaries.{NodeReady}
 use Rattle.rc_infer.proofs.Places.{own_points}
 use Rattle.rc_infer.proofs.steps.call_others.Goals as goal
 

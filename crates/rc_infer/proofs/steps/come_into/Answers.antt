@@ -1,6 +1,6 @@
 use Rattle.std.proofs.Common.{refl}
 use Rattle.rc_graph.specs.Nodes.{nodes_of}
-use Rattle.rc_searching.specs.Searching.{Lowered}
+use Rattle.rc_edges.specs.Searching.{Lowered}
 use Rattle.rc_infer.proofs.Places.{if_ok, changed_at}
 use Rattle.rc_infer.proofs.steps.come_into.Goals as goal
 

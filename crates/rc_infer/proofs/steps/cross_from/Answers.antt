@@ -1,7 +1,7 @@
 use Rattle.std.proofs.Common.{get_or}
 use Rattle.rc_flow.specs.Flow.{no_set}
 use Rattle.rc_graph.specs.Nodes.{nodes_of}
-use Rattle.rc_searching.specs.Searching.{Lowered}
+use Rattle.rc_edges.specs.Searching.{Lowered}
 use Rattle.rc_infer.proofs.Places.{if_ok, changed_at, same_or}
 use Rattle.rc_infer.proofs.steps.cross_from.Goals as goal
 

@@ -1,5 +1,5 @@
 use Rattle.rc_graph.specs.Nodes.{nodes_of}
-use Rattle.rc_searching.specs.Searching.{Passed}
+use Rattle.rc_edges.specs.Searching.{Passed}
 use Rattle.rc_infer.proofs.Places.{if_ok, changed_at}
 use Rattle.rc_infer.proofs.steps.pass_through.Goals as goal
 

@@ -1,5 +1,5 @@
 use Rattle.rc_rlang.specs.Shapes.{rlang_of}
-use Rattle.rc_region_facts.specs.Inferred.{family_of}
+use Rattle.rc_edges.specs.Inferred.{family_of}
 use Rattle.rc_infer.proofs.Carrying.{turning_on}
 use Rattle.rc_infer.proofs.Visits.{swept_both, swept_none}
 use Rattle.rc_infer.proofs.turns.sweep.Goals as goal

@@ -1,5 +1,5 @@
 use Rattle.rc_rlang.specs.Shapes.{rlang_of}
-use Rattle.rc_region_facts.specs.Inferred.{family_of}
+use Rattle.rc_edges.specs.Inferred.{family_of}
 use Rattle.rc_infer.proofs.Carrying.{called_in, left_in, lowered_in, ready_in, turning_on}
 use Rattle.rc_infer.proofs.Visits.{swept_both}
 use Rattle.rc_infer.proofs.turns.turn.Goals as goal

@@ -1,7 +1,7 @@
 use Rattle.std.proofs.Common.{◌∙◌, ◌||◌, sym, ap, subst}
 use Rattle.rc_rlang.specs.Shapes.{rlang_of, routine_in}
-use Rattle.rc_region_facts.specs.Inferred.{family_of}
-use Rattle.rc_searching.specs.Searching.{Visited}
+use Rattle.rc_edges.specs.Inferred.{family_of}
+use Rattle.rc_edges.specs.Searching.{Visited}
 use Rattle.rc_infer.proofs.Places.{found, some_is}
 use Rattle.rc_infer.proofs.Visits.{ready, after_pass, after_calls, visited}
 use Rattle.rc_infer.proofs.visit.visit.Goals as goal

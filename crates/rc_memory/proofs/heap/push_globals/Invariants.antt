@@ -2,7 +2,7 @@ use Rattle.std.proofs.Common.{◌≡◌, ◌++◌, List, map, take}
 use Rattle.rc_core.specs.Heap.{global_object}
 use Rattle.rc_core.specs.Programs.{Struct}
 use Rattle.rc_core.specs.Shapes.{global_of}
-use Rattle.rc_objects.specs.Objects.{kept_object}
+use Rattle.rc_values.specs.Objects.{kept_object}
 use Rattle.rc_core.specs.Laid.{AreLaidOut}
 use Rattle.rc_memory.proofs.heap.push_globals.Given as goal
 

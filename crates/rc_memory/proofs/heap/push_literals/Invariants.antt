@@ -1,7 +1,7 @@
 use Rattle.std.proofs.Common.{◌≡◌, ◌++◌, map, take}
 use Rattle.rc_core.specs.Heap.{literal}
 use Rattle.rc_core.specs.Shapes.{bytes_of}
-use Rattle.rc_objects.specs.Objects.{kept_object}
+use Rattle.rc_values.specs.Objects.{kept_object}
 use Rattle.rc_memory.proofs.heap.push_literals.Given as goal
 
 abbrev pub invariant-loop-string : goal.invariant-loop-string

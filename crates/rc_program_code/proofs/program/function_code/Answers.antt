@@ -7,7 +7,7 @@ use Rattle.rc_rlang.specs.RegionRuns.{deletes}
 use Rattle.rc_rlang.specs.Shapes.{rlang_of}
 use Rattle.rc_lines.specs.Bare.{bare_code, lines_of}
 use Rattle.rc_lines.specs.Gathered.{all_kept}
-use Rattle.rc_kept_table.specs.Numbering.{wide_of}
+use Rattle.rc_program_code.specs.Numbering.{wide_of}
 use Rattle.rc_program_code.specs.Listing.{structs_of, routine_of}
 use Rattle.rc_program_code.proofs.Functions.{body_same, function_is}
 use Rattle.rc_program_code.proofs.program.function_code.Goals as goal

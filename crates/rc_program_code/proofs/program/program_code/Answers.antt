@@ -7,7 +7,7 @@ use Rattle.rc_rlang.specs.RegionPoints.{code_points, routine_points}
 use Rattle.rc_rlang.specs.RegionRuns.{deletes}
 use Rattle.rc_rlang.specs.Shapes.{rlang_of}
 use Rattle.rc_lines.specs.Over.{Listed}
-use Rattle.rc_function_code.specs.ProgramCode.{function_of, IsFunctionCode}
+use Rattle.rc_lines.specs.ProgramCode.{function_of, IsFunctionCode}
 use Rattle.rc_program_code.specs.Listing.{routine_of}
 use Rattle.rc_program_code.proofs.Maps.{map_listed}
 use Rattle.rc_program_code.proofs.Functions.{Making, one_listed, one_more, one_fits}

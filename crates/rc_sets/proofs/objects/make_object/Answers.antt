@@ -1,5 +1,5 @@
 use Rattle.std.proofs.Common.{◌∙◌, ◌+◌, ℕ, Some, ap, arith, set, subst, sym}
-use Rattle.rc_commands.specs.Commands.{Cells}
+use Rattle.rc_replies.specs.Commands.{Cells}
 use Rattle.rc_replies.specs.declared.reply.Reply.TheVariants.{Object}
 use Rattle.rc_store.specs.Stores.{allocated}
 use Rattle.rc_sets.specs.Obeying.{DidLine}

@@ -1,5 +1,5 @@
 use Rattle.std.proofs.Common.{◌∙◌, ◌+◌, ◌++◌, ◌∷◌, [], Some, ap, arith, subst, sym}
-use Rattle.rc_commands.specs.Commands.{Pin}
+use Rattle.rc_replies.specs.Commands.{Pin}
 use Rattle.rc_core.specs.Heap.{Handle}
 use Rattle.rc_replies.specs.declared.reply.Reply.TheVariants.{Done}
 use Rattle.rc_store.specs.Kept.{KeptStore}

@@ -1,5 +1,5 @@
 use Rattle.std.proofs.Common.{◌∙◌, ◌+◌, ◌-◌, Some, arith, subst, sym}
-use Rattle.rc_commands.specs.Commands.{Unpin}
+use Rattle.rc_replies.specs.Commands.{Unpin}
 use Rattle.rc_replies.specs.declared.reply.Reply.TheVariants.{Done}
 use Rattle.rc_sets.specs.Obeying.{DidLine}
 use Rattle.rc_sets.specs.Records.{RecordsState}

@@ -1,5 +1,5 @@
 use Rattle.std.proofs.Common.{◌∙◌, Some, subst, sym}
-use Rattle.rc_commands.specs.Commands.{New}
+use Rattle.rc_replies.specs.Commands.{New}
 use Rattle.rc_replies.specs.declared.reply.Reply.TheVariants.{Region}
 use Rattle.rc_sets.specs.Obeying.{DidLine}
 use Rattle.rc_sets.specs.Records.{RecordsState}

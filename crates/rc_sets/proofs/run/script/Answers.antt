@@ -1,6 +1,6 @@
 use Rattle.std.proofs.Common.{subst, inr, List, ℕ, sym}
 use Rattle.rc_store.specs.Kept.{KeptStore}
-use Rattle.rc_commands.specs.Commands.{lines_of}
+use Rattle.rc_replies.specs.Commands.{lines_of}
 use Rattle.rc_replies.specs.Replies.{first_store, heap_store, heap_text, replies, reply_text}
 use Rattle.rc_replies.proofs.Same.{replies_same, stores_same}
 use Rattle.rc_sets.specs.Scripts.{limits_of}

@@ -1,5 +1,5 @@
 use Rattle.std.proofs.Common.{length}
-use Rattle.rc_commands.specs.Commands.{lines_of}
+use Rattle.rc_replies.specs.Commands.{lines_of}
 use Rattle.rc_replies.specs.Replies.{first_store, heap_store, heap_text, replies, store_behind}
 use Rattle.rc_replies.specs.Stores.{IsSame}
 use Rattle.rc_sets.specs.Records.{IsKeptBy}

@@ -1,7 +1,7 @@
 use Rattle.std.proofs.Common.{◌+◌, take, drop, get_or, arith}
 use Rattle.rc_core.specs.declared.layouts.Kind.TheVariants.{Number as NumberKind}
 use Rattle.rc_cells.specs.Codes.{decoded}
-use Rattle.rc_counts.specs.Follow.{cell_refs}
+use Rattle.rc_cells.specs.Follow.{cell_refs}
 use Rattle.rc_tally.specs.Tally.{codes_refs}
 use Rattle.rc_tally.proofs.Taken.{cell_less, cell_more, enough_left, taken_more}
 use Rattle.rc_tally.proofs.area.take_back_element.Goals as goal

@@ -3,7 +3,7 @@ use Rattle.rc_core.specs.declared.ty.Note.TheVariants.{Plain}
 use Rattle.rc_store.specs.Kept.{KeptStore, Regions}
 use Rattle.rc_store.specs.Stores.{MayStand, kind_at, live_in}
 use Rattle.rc_store.specs.Values.{note_of, value_of}
-use Rattle.rc_counts.specs.Follow.{IsThere}
+use Rattle.rc_cells.specs.Follow.{IsThere}
 use Rattle.rc_tally.specs.Tally.{value_refs}
 use Rattle.rc_count.specs.Counted.{IsCounted}
 use Rattle.rc_count.proofs.Counting.{counted_written, fresh_live, live_set, new_few, old_few}

@@ -3,7 +3,7 @@ use Rattle.rc_core.specs.Heap.{Number}
 use Rattle.rc_store.specs.Kept.{KeptStore, Regions}
 use Rattle.rc_store.specs.Stores.{MayStand, kind_at}
 use Rattle.rc_store.specs.Values.{suits, value_of}
-use Rattle.rc_counts.specs.Follow.{IsThere}
+use Rattle.rc_cells.specs.Follow.{IsThere}
 use Rattle.rc_count.specs.Counted.{IsCounted}
 use Rattle.rc_count.proofs.Counting.{counted_number}
 use Rattle.rc_count.proofs.count.CountHeapHeap.write_counted.Goals as goal

@@ -4,7 +4,7 @@ use Rattle.rc_core.specs.Heap.{fits}
 use Rattle.rc_store.specs.Kept.{KeptStore, Regions}
 use Rattle.rc_store.specs.Stores.{MayStand, kind_at, parent_in}
 use Rattle.rc_store.specs.Values.{note_of, value_of}
-use Rattle.rc_counts.specs.Follow.{IsThere}
+use Rattle.rc_cells.specs.Follow.{IsThere}
 use Rattle.rc_count.specs.Counted.{IsCounted}
 use Rattle.rc_count.proofs.Counting.{counted_kept}
 use Rattle.rc_count.proofs.count.CountHeapHeap.write_kept.Goals as goal

@@ -2,8 +2,8 @@ use Rattle.std.proofs.Common.{◌≡◌, ◌<◌, ◌≤◌, ◌+◌, ◌-◌, �
 use Rattle.std.proofs.lemmas.Bool.{false≢true}
 use Rattle.rc_store.specs.Kept.{KeptStore, Regions}
 use Rattle.rc_store.specs.Sets.{IsSet, deleted_all, has_child_outside, set_refs}
-use Rattle.rc_counts.specs.Together.{without}
-use Rattle.rc_counts.proofs.Together.{sets_follow}
+use Rattle.rc_cells.specs.Together.{without}
+use Rattle.rc_cells.proofs.Together.{sets_follow}
 use Rattle.rc_space.specs.Spaces.{SpaceState, count_of}
 use Rattle.rc_count.specs.Counted.{IsCounted}
 use Rattle.rc_count.specs.Together.{all_held, cells_among}

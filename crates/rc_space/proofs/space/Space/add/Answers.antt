@@ -2,7 +2,7 @@ use Rattle.std.proofs.Common.{◌≡◌, ◌∙◌, [], ◌∷◌, ◌++◌, Som
 use Rattle.rc_space.specs.Spaces.{AreFreed, IsSpace, SpaceState, area_at, no_area, regions_of}
 use Rattle.rc_space.proofs.Grown.{behind_same, behind_there, freed_behind, freed_more, regions_added, space_behind}
 use Rattle.rc_space.proofs.Sets.{clear_more}
-use Rattle.rc_groups.specs.Groups.{AreClear}
+use Rattle.rc_registry.specs.Groups.{AreClear}
 use Rattle.rc_space.proofs.space.Space.add.Goals as goal
 
 pub returns-then-slot-len-clause-ok : goal.returns-then-slot-len-clause-ok

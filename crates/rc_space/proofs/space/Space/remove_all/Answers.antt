@@ -2,9 +2,9 @@ use Rattle.std.proofs.Common.{◌∙◌, length, get_or, sym, ap, subst}
 use Rattle.std.proofs.lemmas.Bool.{false≢true}
 use Rattle.std.proofs.lemmas.List.{with_items_is}
 use Rattle.rc_store.specs.Sets.{has_child_outside}
-use Rattle.rc_counts.specs.Together.{without}
+use Rattle.rc_cells.specs.Together.{without}
 use Rattle.rc_registry.specs.Registries.{at_slots}
-use Rattle.rc_groups.specs.Groups.{AreClear}
+use Rattle.rc_registry.specs.Groups.{AreClear}
 use Rattle.rc_space.specs.Spaces.{AreFreed, IsSpace, SpaceState, no_area, regions_of}
 use Rattle.rc_space.proofs.Sets.{freed_left, outside_shown, regions_left, space_left}
 use Rattle.rc_space.proofs.Shown.{live_shown}

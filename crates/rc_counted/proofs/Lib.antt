@@ -1,3 +1,0 @@
-pub mod SitedBy
-pub mod Sited
-pub mod Counted

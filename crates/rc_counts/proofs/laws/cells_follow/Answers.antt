@@ -1,5 +1,0 @@
-use Rattle.rc_counts.proofs.Cells.{cells_follow}
-use Rattle.rc_counts.proofs.laws.cells_follow.Goals as goal
-
-pub returns : goal.returns
-returns c = cells_follow

@@ -1,0 +1,26 @@
+use Rattle.std.proofs.Common.{◌∙◌, ℕ, List, Err, ap, subst, sym}
+use Rattle.rc_answers.specs.declared.answer.Fault.{Fault}
+use Rattle.rc_outcomes.specs.Outcome.{ReportsOn, as_they_are}
+use Rattle.rc_outcomes.specs.Outside.{outside}
+use Rattle.rc_outcomes.specs.Performing.{Performs}
+use Rattle.rc_files.specs.Texts.{LoadedText}
+use Rattle.rc_files.proofs.TextFiles.{failed, too_long}
+use Rattle.rc_driver.specs.Checking.{CheckedText}
+use Rattle.rc_driver.proofs.Checked.{checked}
+use Rattle.rc_driver.proofs.check.check_file.Goals as goal
+
+pub returns-in-Ok : goal.returns-in-Ok
+returns-in-Ok g c = λ request input err heap row.
+    checked request c.args.name.now row (outside (g.F.Shelf.state c.args.files.now) input (g.O.Sink.state c.args.out.now) err heap) (g.F.Shelf.state c.load_text.new.files) c.in-Ok.text c.in-Ok.ensures (g.O.Sink.state c.check_text.new.out) c.check_text.result
+    (subst (λ (text : List ℕ). CheckedText text (g.O.Sink.state c.args.out.now) (g.O.Sink.state c.check_text.new.out) c.check_text.result) c.as_slice.ensures c.check_text.ensures)
+
+pub returns-in-Err-TooLong : goal.returns-in-Err-TooLong
+returns-in-Err-TooLong g c = λ request input err heap row.
+    too_long request c.args.name.now as_they_are ReportsOn row.text (outside (g.F.Shelf.state c.args.files.now) input (g.O.Sink.state c.args.out.now) err heap) (g.F.Shelf.state c.load_text.new.files)
+    (subst (LoadedText c.args.name.now (g.F.Shelf.state c.args.files.now) (g.F.Shelf.state c.load_text.new.files)) (c.in-Err-TooLong.is ∙ ap Err c.in-Err-TooLong.field-0-is) c.load_text.ensures)
+
+pub returns-in-Err-Failed : goal.returns-in-Err-Failed
+returns-in-Err-Failed g c = λ request input err heap row.
+    subst (λ (fault : Fault). Performs request (outside (g.F.Shelf.state c.args.files.now) input (g.O.Sink.state c.args.out.now) err heap) (outside (g.F.Shelf.state c.load_text.new.files) input (g.O.Sink.state c.args.out.now) err heap) (Err fault)) (sym c.in-Err-Failed.fault-is)
+    (failed request c.args.name.now as_they_are ReportsOn row.text (outside (g.F.Shelf.state c.args.files.now) input (g.O.Sink.state c.args.out.now) err heap) (g.F.Shelf.state c.load_text.new.files) c.in-Err-Failed.fault
+    (subst (LoadedText c.args.name.now (g.F.Shelf.state c.args.files.now) (g.F.Shelf.state c.load_text.new.files)) (c.in-Err-Failed.is ∙ ap Err c.in-Err-Failed.field-0-is) c.load_text.ensures))

@@ -1,5 +1,0 @@
-use Rattle.rc_edges.proofs.Adding.{news_are}
-use Rattle.rc_edges.proofs.effects_add_lists.Goals as goal
-
-pub returns : goal.returns
-returns c = news_are

@@ -1,5 +1,0 @@
-use Rattle.rc_edges.proofs.Owning.{functions_own}
-use Rattle.rc_edges.proofs.effects_speak_of_own_variables.Goals as goal
-
-pub returns : goal.returns
-returns c = functions_own

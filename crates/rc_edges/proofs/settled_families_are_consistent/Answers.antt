@@ -1,8 +1,0 @@
-use Rattle.rc_edges.proofs.Settling.{settled_consistent, search_keeps}
-use Rattle.rc_edges.proofs.settled_families_are_consistent.Goals as goal
-
-pub returns-clause-consistent : goal.returns-clause-consistent
-returns-clause-consistent c = settled_consistent
-
-pub returns-clause-kept : goal.returns-clause-kept
-returns-clause-kept c = search_keeps

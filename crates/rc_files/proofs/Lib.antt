@@ -1,0 +1,4 @@
+pub mod TextFiles
+pub mod RunTexts
+pub mod SeveralTexts
+pub mod ImageFiles

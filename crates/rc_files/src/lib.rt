@@ -1,0 +1,16 @@
+//! Texts and images in files. A text is loaded, and one that is no program is refused: `specs/Texts` says
+//! what the rows of the tables have to say of a request for it, and `specs/Programs` what it comes to to
+//! run a text. Images are loaded, listed, and stored in the newest version of their format.
+#![tactic(auto)]
+
+mod image_file;
+mod list;
+mod text_file;
+mod text_files;
+mod upgrade;
+
+pub use image_file::{NoImage, load_image};
+pub use list::list_image;
+pub use text_file::{NoText, load_text};
+pub use text_files::{FileText, load_texts};
+pub use upgrade::{store_image, upgrade_image};

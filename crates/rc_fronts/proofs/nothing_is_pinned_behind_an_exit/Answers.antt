@@ -1,5 +1,0 @@
-use Rattle.rc_fronts.proofs.Come.{exits_unpinned}
-use Rattle.rc_fronts.proofs.nothing_is_pinned_behind_an_exit.Goals as goal
-
-pub returns : goal.returns
-returns c = exits_unpinned

@@ -1,6 +1,0 @@
-pub mod Search
-pub mod Closing
-pub mod Lists
-pub mod Downward
-pub mod Reached
-pub mod Marks

@@ -1,5 +1,0 @@
-pub mod Rows
-pub mod Sounds
-pub mod TypesNamed
-pub mod Fields
-pub mod Marks

@@ -1,5 +1,0 @@
-use Rattle.rc_image_rules.proofs.Fields.{fields_fit}
-use Rattle.rc_image_rules.proofs.images_keep_the_rules_of_fields.Goals as goal
-
-pub returns : goal.returns
-returns c r fits numberable small = fields_fit r fits numberable small

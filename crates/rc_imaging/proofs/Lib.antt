@@ -1,4 +1,0 @@
-pub mod Backs
-mod Functions
-mod Laid
-mod Whole

@@ -1,8 +1,0 @@
-use Rattle.std.proofs.Common.{map, take}
-use Rattle.rc_core.specs.Layout.{layouts_of}
-use Rattle.rc_core.specs.Shapes.{struct_of}
-use Rattle.rc_imaging.specs.Cells.{AreCells}
-use Rattle.rc_imaging.proofs.cells.all_cells.Given as goal
-
-abbrev pub invariant-loop-structure : goal.invariant-loop-structure
-invariant-loop-structure l = AreCells l.numbers (layouts_of (map struct_of (take l.structure-index l.structs))) l.all.items

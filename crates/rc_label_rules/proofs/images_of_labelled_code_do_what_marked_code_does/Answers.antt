@@ -1,5 +1,0 @@
-use Rattle.rc_label_rules.proofs.Images.{image_does}
-use Rattle.rc_label_rules.proofs.images_of_labelled_code_do_what_marked_code_does.Goals as goal
-
-pub returns : goal.returns
-returns g c n ops put waiting turning no_turns waits keeps marks r is = image_does n ops put waiting turning no_turns waits keeps marks r is

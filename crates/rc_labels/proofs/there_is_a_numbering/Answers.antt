@@ -1,5 +1,0 @@
-use Rattle.rc_labels.proofs.Numberings.{read_there}
-use Rattle.rc_labels.proofs.there_is_a_numbering.Goals as goal
-
-pub returns : goal.returns
-returns c l = read_there l

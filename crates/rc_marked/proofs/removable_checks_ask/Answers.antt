@@ -1,5 +1,0 @@
-use Rattle.rc_marked.proofs.Asked.{only_where_asked}
-use Rattle.rc_marked.proofs.removable_checks_ask.Goals as goal
-
-pub returns : goal.returns
-returns c r temporaries marks may_go = only_where_asked r temporaries marks may_go

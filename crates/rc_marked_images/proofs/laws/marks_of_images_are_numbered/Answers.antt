@@ -1,5 +1,0 @@
-use Rattle.rc_marked_images.proofs.Numbered.{marks_numbered}
-use Rattle.rc_marked_images.proofs.laws.marks_of_images_are_numbered.Goals as goal
-
-pub returns : goal.returns
-returns c bits r numberable = marks_numbered r bits numberable

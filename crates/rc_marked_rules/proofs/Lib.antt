@@ -1,4 +1,0 @@
-pub mod Bare
-pub mod Standing
-pub mod Rules
-pub mod Kept

@@ -1,5 +1,0 @@
-use Rattle.rc_marks.proofs.Written.{stores_written}
-use Rattle.rc_marks.proofs.stores_are_those_of_the_code.Goals as goal
-
-pub returns : goal.returns
-returns c r = stores_written r

@@ -1,3 +1,0 @@
-pub mod Bared
-pub mod Seen
-mod Structs

@@ -1,8 +1,0 @@
-use Rattle.std.proofs.Common.{◌≡◌, List, drop}
-use Rattle.rc_core.specs.Programs.{Struct}
-use Rattle.rc_rlang.specs.RegionPoints.{steps_points}
-use Rattle.rc_rlang.specs.Shapes.{steps_of}
-use Rattle.rc_points.proofs.points.+steps.Given as goal
-
-abbrev pub invariant-steps_points-loop-i : goal.invariant-steps_points-loop-i
-invariant-steps_points-loop-i l = (structs : List Struct) → l.count ≡ steps_points (steps_of structs (drop l.i l.steps))

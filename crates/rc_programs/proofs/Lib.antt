@@ -1,4 +1,0 @@
-pub mod Ran
-pub mod Compiled
-pub mod Rows
-pub mod TasksRan

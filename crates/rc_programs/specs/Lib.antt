@@ -1,4 +1,0 @@
-pub mod Ends
-pub mod Running
-pub mod Tasking
-pub mod Compiling

@@ -1,8 +1,0 @@
-use Rattle.rc_region_facts.proofs.Restricting.{inside_either, only_consistent}
-use Rattle.rc_region_facts.proofs.annotations_of_the_code_are_enough.Goals as goal
-
-pub returns-clause-consistent : goal.returns-clause-consistent
-returns-clause-consistent c = only_consistent
-
-pub returns-clause-inside : goal.returns-clause-inside
-returns-clause-inside c = inside_either

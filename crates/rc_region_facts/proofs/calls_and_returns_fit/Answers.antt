@@ -1,8 +1,0 @@
-use Rattle.rc_region_facts.proofs.Fitting.{calls_fit, returns_fit}
-use Rattle.rc_region_facts.proofs.calls_and_returns_fit.Goals as goal
-
-pub returns-clause-calls : goal.returns-clause-calls
-returns-clause-calls c = calls_fit
-
-pub returns-clause-returns : goal.returns-clause-returns
-returns-clause-returns c = returns_fit

@@ -1,5 +1,0 @@
-use Rattle.rc_region_rules.proofs.VariablesCounted.{has_its_variables}
-use Rattle.rc_region_rules.proofs.region_code_needs_the_same.Goals as goal
-
-pub returns : goal.returns
-returns c program f = has_its_variables program f

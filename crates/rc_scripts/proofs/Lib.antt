@@ -1,3 +1,0 @@
-pub mod Flushed
-pub mod Rows
-pub mod Scripts

@@ -1,8 +1,0 @@
-use Rattle.rc_searching.proofs.Steps.{begun, ended}
-use Rattle.rc_searching.proofs.searches_come_to_the_greatest.Goals as goal
-
-pub returns-clause-begins : goal.returns-clause-begins
-returns-clause-begins c = begun
-
-pub returns-clause-ends : goal.returns-clause-ends
-returns-clause-ends c = ended

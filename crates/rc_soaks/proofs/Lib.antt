@@ -1,4 +1,0 @@
-pub mod Alone
-pub mod Ends
-pub mod Rows
-pub mod Soaks

@@ -1,5 +1,0 @@
-use Rattle.rc_steps.proofs.Readiness.{ready}
-use Rattle.rc_steps.proofs.instructions_are_ready.Goals as goal
-
-pub returns : goal.returns
-returns c = ready

@@ -1,5 +1,0 @@
-use Rattle.rc_steps.proofs.Marks.{marks_fit}
-use Rattle.rc_steps.proofs.marked_values_fit.Goals as goal
-
-pub returns : goal.returns
-returns c = marks_fit

@@ -1,5 +1,0 @@
-use Rattle.rc_stored.proofs.Keeping.{changes_the_store}
-use Rattle.rc_stored.proofs.laws.the_store_is_changed.Goals as goal
-
-pub returns : goal.returns
-returns c = changes_the_store c.a_heap_keeps_the_store.ensures

@@ -1,0 +1,10 @@
+use Rattle.rc_core.specs.Shapes.{ty_of}
+use Rattle.rc_emission.specs.KeptOperands.{same_type}
+use Rattle.rc_numbering.specs.Names.{pointed_to}
+use Rattle.rc_tables.specs.Kept.{all_types}
+use Rattle.rc_tables.proofs.Seen.{flat_step}
+use Rattle.rc_tables.proofs.named_types.add_all_pointed.Goals as goal
+
+pub loop-ty-preserved : goal.loop-ty-preserved
+loop-ty-preserved c =
+    flat_step same_type c.args.tys.now c.loop-ty.ty-index c.ty-item.result c.loop-ty-test.true c.ty-item.is (all_types c.args.types.now) (all_types c.loop-ty.types) (all_types c.add_pointed.new.types) pointed_to ty_of c.loop-ty.invariant c.in_ok-add_pointed.ensures

@@ -1,5 +1,0 @@
-//! Tests of compiling, from texts to the listings of images.
-#![tactic(auto)]
-
-#[cfg(test)]
-mod listings;

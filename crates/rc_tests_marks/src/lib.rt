@@ -1,5 +1,0 @@
-//! Tests of marks: which stores of a program's image make no check.
-#![tactic(auto)]
-
-#[cfg(test)]
-mod marks;

@@ -1,3 +1,0 @@
-pub mod TextFiles
-pub mod RunTexts
-pub mod SeveralTexts

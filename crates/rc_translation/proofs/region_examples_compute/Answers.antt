@@ -1,5 +1,0 @@
-use Rattle.rc_translation.proofs.RegionComputed.{examples}
-use Rattle.rc_translation.proofs.region_examples_compute.Goals as goal
-
-pub returns : goal.returns
-returns c = examples
