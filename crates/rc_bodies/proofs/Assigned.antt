@@ -8,14 +8,13 @@ use Rattle.rc_deletes.specs.Scopes.{Context, Scope}
 use Rattle.rc_deletes.specs.Values.{Meant, Typed, spot_of}
 use Rattle.rc_deletes.specs.Expressions.{meant, value, strings_in}
 use Rattle.rc_deletes.specs.Statements.{simple, RightSide, right_side, assignment, update_of}
-use Rattle.rc_defined.proofs.Stops.{both_ruled, part_held}
+use Rattle.rc_defined.proofs.Stops.{both_ruled}
 
 module _ (context : Context) (names : Scope) (before before1 : List (List ℕ)) (at : Spot) (l r : t.Expr) (m : Meant) (left : meant context names before l ≡ Holds m) (grown : before1 ≡ before ++ strings_in l) where
-  pub assign_is : (n : Meant) (w : RightSide) → meant context names before1 r ≡ Holds n → right_side (spot_of r) n ≡ Holds w → simple context names before (t.assign at l r) ≡ fitting at (assignment context at.line m w)
-  assign_is n w k q =
-      let right : with_part (meant context names (before ++ strings_in l) r) (right_side (spot_of r)) ≡ Holds w =
-      part_held (meant context names (before ++ strings_in l) r) n (right_side (spot_of r)) (Holds w) (subst (λ ss. meant context names ss r ≡ Holds n) grown k) q in
-      both_ruled (meant context names before l) m (with_part (meant context names (before ++ strings_in l) r) (right_side (spot_of r))) w (λ m w. fitting at (assignment context at.line m w)) (fitting at (assignment context at.line m w)) left right refl
+  pub assign_is : (w : RightSide) → with_part (meant context names before1 r) (right_side (spot_of r)) ≡ Holds w → simple context names before (t.assign at l r) ≡ fitting at (assignment context at.line m w)
+  assign_is w k =
+      both_ruled (meant context names before l) m (with_part (meant context names (before ++ strings_in l) r) (right_side (spot_of r))) w (λ m w. fitting at (assignment context at.line m w)) (fitting at (assignment context at.line m w)) left
+      (subst (λ ss. with_part (meant context names ss r) (right_side (spot_of r)) ≡ Holds w) grown k) refl
 
   pub update_is : (op : BinaryOp) (v : Typed) → value context names before1 r ≡ Holds v → simple context names before (t.update at op l r) ≡ fitting at (update_of at.line (spot_of l).line op m v)
   update_is op v k =

@@ -10,7 +10,7 @@ ghost use Rattle.rc_defined.specs.Contexts.{context_of, scope_of};
 ghost use Rattle.rc_bodies.specs.Here.{here_of};
 
 use crate::here::Here;
-use crate::nodes::{block, empty_block};
+use crate::nodes::{add_step, block, empty_block};
 use crate::own::{own_simple, own_value};
 use rc_core::stmt::Stmt as Step;
 use rc_core::ty::Ty;
@@ -119,7 +119,7 @@ pub(crate) fn locals_of(
     let mut steps = Vec::new(alloc);
     for l in ls {
         let step = local(l, alloc, context, here)?;
-        add(&mut steps, Box::into_inner(step))?;
+        add_step(&mut steps, step)?;
     }
     Ok(steps)
 }

@@ -1,12 +1,21 @@
 // Statements, made of their parts.
-ghost use Rattle.std.specs.Prelude.{◌≡◌, option_map, IfOk, IfErr};
+ghost use Rattle.std.specs.Prelude.{◌≡◌, ◌++◌, ◌∷◌, [], map, option_map, IfOk, IfErr, OnOk};
 ghost use Rattle.rc_core.specs.Programs as p;
 ghost use Rattle.rc_core.specs.Shapes.{expr_of, stmt_of, stmts_of};
 
 use rc_core::expr::Expr as Value;
 use rc_core::stmt::Stmt as Step;
-use rc_typed_values::{Stop, boxed};
+use rc_typed_values::{Stop, add, boxed};
 use std::alloc::Global;
+
+/// Puts a statement after those before it.
+#[tactic(auto, using(rc_defined::proofs::Lists::map_push))]
+pub(crate) fn add_step(steps: &mut Vec<Step>, step: Box<Step>) -> Result<(), Stop>
+    ensures ok { OnOk result (map stmt_of steps.new.items ≡ map stmt_of steps.old.items ++ stmt_of step.value ∷ []) }
+    ensures err { IfErr result (λ s. s ≡ Stop.Memory) }
+{
+    add(steps, Box::into_inner(step))
+}
 
 /// A block of these statements.
 #[tactic(auto, using(rc_core::proofs::ShapeRows::made_block))]

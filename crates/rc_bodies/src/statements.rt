@@ -14,24 +14,35 @@ ghost use Rattle.rc_bodies.specs.Here.{here_of};
 use crate::enclosing::Enclosing;
 use crate::here::Here;
 use crate::locals::{for_start, local};
-use crate::nodes::{block, branch, do_loop, empty_block, for_loop, while_loop};
+use crate::nodes::{add_step, block, branch, do_loop, empty_block, for_loop, while_loop};
 use crate::own::{own_condition, own_condition_option, own_simple, own_simple_option, own_value};
 use rc_core::stmt::Stmt as Step;
 use rc_deletes::Refusal;
 use rc_item_rules::{fitting, returned};
 use rc_syntax::tree::{Expr, ForStart, Simple, Spot, Stmt};
-use rc_typed_values::{Stop, add, boxed, fails};
+use rc_typed_values::{Stop, boxed, fails};
 use std::alloc::Global;
 
-/// A statement that stands in loops alone.
-fn in_loop(alloc: Global, looping: bool, at: Spot, step: Step) -> Result<Box<Step>, Stop>
-    ensures ok { IfOk result (λ s. rule.in_a_loop looping at (stmt_of step) ≡ Holds (stmt_of s.value)) }
-    ensures err { IfErr result (StopsAt (rule.in_a_loop looping at (stmt_of step))) }
+/// `break`, which stands in loops alone.
+fn type_break(alloc: Global, looping: bool, at: Spot) -> Result<Box<Step>, Stop>
+    ensures ok { IfOk result (λ s. rule.in_a_loop looping at (p.break at.line) ≡ Holds (stmt_of s.value)) }
+    ensures err { IfErr result (StopsAt (rule.in_a_loop looping at (p.break at.line))) }
 {
-    if looping {
-        return boxed(alloc, step);
+    if !looping {
+        return fails(at, Refusal::Mistyped);
     }
-    fails(at, Refusal::Mistyped)
+    boxed(alloc, Step::Break { line: at.line })
+}
+
+/// `continue`, which stands in loops alone.
+fn type_continue(alloc: Global, looping: bool, at: Spot) -> Result<Box<Step>, Stop>
+    ensures ok { IfOk result (λ s. rule.in_a_loop looping at (p.continue at.line) ≡ Holds (stmt_of s.value)) }
+    ensures err { IfErr result (StopsAt (rule.in_a_loop looping at (p.continue at.line))) }
+{
+    if !looping {
+        return fails(at, Refusal::Mistyped);
+    }
+    boxed(alloc, Step::Continue { line: at.line })
 }
 
 /// `return`, with a value or without.
@@ -195,14 +206,8 @@ pub(crate) fn stmt(s: &Stmt, enclosing: &Enclosing<'_>, here: &mut Here) -> Resu
         Stmt::While(at, c, a) => type_while(*at, c, a, enclosing, here),
         Stmt::Do(at, a, c) => type_do(*at, a, c, enclosing, here),
         Stmt::For(at, start, c, next, a) => type_for(*at, start, c, next, a, enclosing, here),
-        Stmt::Break(at) => {
-            let line = at.line;
-            in_loop(alloc, enclosing.looping, *at, Step::Break { line })
-        }
-        Stmt::Continue(at) => {
-            let line = at.line;
-            in_loop(alloc, enclosing.looping, *at, Step::Continue { line })
-        }
+        Stmt::Break(at) => type_break(alloc, enclosing.looping, *at),
+        Stmt::Continue(at) => type_continue(alloc, enclosing.looping, *at),
         Stmt::Return(at, e) => type_return(*at, e, enclosing, here),
     }
 }
@@ -222,7 +227,7 @@ pub fn stmts(body: &[Stmt], enclosing: &Enclosing<'_>, here: &mut Here) -> Resul
     let mut steps = Vec::new(enclosing.alloc);
     for s in body {
         let step = stmt(s, enclosing, here)?;
-        add(&mut steps, Box::into_inner(step))?;
+        add_step(&mut steps, step)?;
     }
     Ok(steps)
 }

@@ -1,10 +1,13 @@
 // Simple statements and conditions.
 ghost use Rattle.std.specs.Prelude.{◌≡◌, ◌++◌, map, option_map, IfOk, IfErr, OnOk};
 ghost use Rattle.rc_core.specs.Shapes.{bytes_of, expr_of, stmt_of};
-ghost use Rattle.rc_deletes.specs.Judged.{Holds};
+ghost use Rattle.rc_deletes.specs.Judged.{Holds, with_part, fitting as fits};
+ghost use Rattle.rc_deletes.specs.Expressions as terms;
 ghost use Rattle.rc_deletes.specs.Expressions.{strings_in, strings_in_all};
 ghost use Rattle.rc_deletes.specs.Statements as rule;
-ghost use Rattle.rc_typed_values.specs.Shapes.{typed_of};
+ghost use Rattle.rc_deletes.specs.Values as values;
+ghost use Rattle.rc_typed_values.specs.Shapes.{typed_of, meant_of};
+ghost use Rattle.rc_item_rules.specs.Sides.{right_of};
 ghost use Rattle.rc_typed_values.specs.Stops.{StopsAt};
 ghost use Rattle.rc_syntax.specs.Shape as written;
 ghost use Rattle.rc_syntax.specs.Tree.{call, assign, update, step_after};
@@ -14,11 +17,14 @@ use crate::nodes::empty_block;
 use rc_core::expr::Expr as Value;
 use rc_core::stmt::Stmt as Step;
 use rc_defined::{Environment, meaning};
-use rc_item_rules::{alone_rule, assignment, fitting, one, right_side, step_operator, update_of};
+use rc_item_rules::{
+    RightSide, alone_rule, assignment, fitting, one, right_side, step_operator, update_of,
+};
 use rc_rules::{call_statement, callee_rule};
 use rc_syntax::tree::{BinaryOp, Expr, Name, Simple, Spot, StepOp};
 use rc_terms::{arguments, meant, spot_of, value};
-use rc_typed_values::{Stop, Typed, condition_rule};
+use rc_typed_values::{Meant, Stop, Typed, condition_rule};
+use std::alloc::Global;
 
 /// A value that may be absent.
 #[tactic(auto, using(rc_defined::proofs::Stops::part_stops, rc_defined::proofs::Stops::part_held, rc_defined::proofs::Lists::no_strings))]
@@ -124,8 +130,38 @@ fn expression_alone(
     }
 }
 
+/// The right side of `=`.
+#[tactic(auto, using(rc_defined::proofs::Stops::part_stops, rc_defined::proofs::Stops::part_ruled, rc_defined::proofs::Stops::part_held))]
+fn right(
+    r: &Expr,
+    environment: &Environment<'_>,
+    strings: &mut Vec<Vec<u8>>,
+) -> Result<RightSide, Stop>
+    ensures ok { IfOk result (λ w. with_part (terms.meant (context_in environment.now) (scope_in environment.now) (map bytes_of strings.old.items) (written.expr_of r.now)) (rule.right_side (values.spot_of (written.expr_of r.now))) ≡ Holds (right_of w)) }
+    ensures strings { OnOk result (map bytes_of strings.new.items ≡ map bytes_of strings.old.items ++ strings_in (written.expr_of r.now)) }
+    ensures err { IfErr result (StopsAt (with_part (terms.meant (context_in environment.now) (scope_in environment.now) (map bytes_of strings.old.items) (written.expr_of r.now)) (rule.right_side (values.spot_of (written.expr_of r.now))))) }
+{
+    let m = meant(r, environment, strings)?;
+    right_side(environment.alloc, spot_of(r), m)
+}
+
+/// The assignment of a right side to what the left side is.
+fn assigning(
+    at: Spot,
+    environment: &Environment<'_>,
+    left: Meant,
+    right: RightSide,
+) -> Result<Box<Step>, Stop>
+    ensures ok { IfOk result (λ s. fits at (rule.assignment (context_in environment.now) at.line (meant_of left) (right_of right)) ≡ Holds (stmt_of s.value)) }
+    ensures err { IfErr result (StopsAt (fits at (rule.assignment (context_in environment.now) at.line (meant_of left) (right_of right)))) }
+{
+    let sizes = environment.context.sizes.as_slice();
+    let step = assignment(environment.alloc, at.line, sizes, left, right)?;
+    fitting(at, step)
+}
+
 /// An assignment: a struct is assigned whole where it is small enough.
-#[tactic(auto, using(rc_defined::proofs::Stops::left_stops, rc_defined::proofs::Stops::right_stops, rc_defined::proofs::Stops::part_stops, rc_defined::proofs::Stops::part_ruled, rc_defined::proofs::Stops::both_stop, rc_defined::proofs::Stops::both_ruled))]
+#[tactic(auto, using(rc_defined::proofs::Stops::left_stops, rc_defined::proofs::Stops::right_stops, rc_defined::proofs::Stops::both_stop, rc_defined::proofs::Stops::both_ruled))]
 fn assigned(
     at: Spot,
     l: &Expr,
@@ -138,10 +174,23 @@ fn assigned(
     ensures err { IfErr result (StopsAt (rule.simple (context_in environment.now) (scope_in environment.now) (map bytes_of strings.old.items) (assign at (written.expr_of l.now) (written.expr_of r.now)))) }
 {
     let left = meant(l, environment, strings)?;
-    let m = meant(r, environment, strings)?;
-    let right = right_side(environment.alloc, spot_of(r), m)?;
-    let sizes = environment.context.sizes.as_slice();
-    let step = assignment(environment.alloc, at.line, sizes, left, right)?;
+    let right = right(r, environment, strings)?;
+    assigning(at, environment, left, right)
+}
+
+/// The update, by `op`, of what the left side is, which stands in this line.
+fn updating(
+    alloc: Global,
+    at: Spot,
+    line: u32,
+    op: BinaryOp,
+    left: Meant,
+    v: Typed,
+) -> Result<Box<Step>, Stop>
+    ensures ok { IfOk result (λ s. fits at (rule.update_of at.line line op (meant_of left) (typed_of v)) ≡ Holds (stmt_of s.value)) }
+    ensures err { IfErr result (StopsAt (fits at (rule.update_of at.line line op (meant_of left) (typed_of v)))) }
+{
+    let step = update_of(alloc, at.line, line, op, left, v)?;
     fitting(at, step)
 }
 
@@ -161,8 +210,7 @@ fn updated(
 {
     let left = meant(l, environment, strings)?;
     let v = value(r, environment, strings)?;
-    let step = update_of(environment.alloc, at.line, spot_of(l).line, op, left, v)?;
-    fitting(at, step)
+    updating(environment.alloc, at, spot_of(l).line, op, left, v)
 }
 
 /// `++` or `--`.
@@ -181,8 +229,7 @@ fn stepped(
     let left = meant(l, environment, strings)?;
     let added = one(environment.alloc, at.line)?;
     let op = step_operator(op);
-    let step = update_of(environment.alloc, at.line, spot_of(l).line, op, left, added)?;
-    fitting(at, step)
+    updating(environment.alloc, at, spot_of(l).line, op, left, added)
 }
 
 /// What a statement or the head of a `for` does by itself.
