@@ -26,6 +26,10 @@ pub joined : (line : ℕ) (a b : List Instruction) → at line (bare_all a) ++ a
 joined line [] b = refl
 joined line (i ∷ a) b = ap (λ ls. record { line = line; instruction = bare 0 i } ∷ ls) (joined line a b)
 
+pub at_both : (line : ℕ) (a b : List Instruction) → at line (a ++ b) ≡ at line a ++ at line b
+at_both line [] b = refl
+at_both line (i ∷ a) b = ap (λ ls. record { line = line; instruction = i } ∷ ls) (at_both line a b)
+
 -- two pieces that were added are one
 pub added : (line : ℕ) (a b : List Instruction) (o l1 l2 : List Line) → l1 ≡ o ++ at line (bare_all a) → l2 ≡ l1 ++ at line (bare_all b) → l2 ≡ o ++ at line (bare_all (a ++ b))
 added line a b o l1 l2 e f = behind o (at line (bare_all a)) (at line (bare_all b)) l1 l2 e f ∙ ap (λ ls. o ++ ls) (joined line a b)

@@ -1,5 +1,5 @@
 -- Places in lists of instructions.
-use Rattle.std.proofs.Common.{◌≡◌, ◌-◌, ℕ, suc, List, ◌∷◌, ◌++◌, length, refl, sym, ap, ◌∙◌, arith}
+use Rattle.std.proofs.Common.{◌≡◌, ◌-◌, ℕ, suc, List, [], ◌∷◌, ◌++◌, length, refl, sym, ap, ◌∙◌, arith}
 use Rattle.std.specs.Prelude.{slice_set}
 use Rattle.std.proofs.lemmas.List.{map-set, set_at, length-map, length-append}
 use Rattle.rc_emission.specs.StackCode.{Line}
@@ -14,3 +14,11 @@ length_behind items place before after left e h =
     let a = sym (length-map items line_of) ∙ ap length e ∙ length-append before (left ∷ after) in
     let b : length (left ∷ after) ≡ suc (length after) = refl in
     omega (arith, a, b, h)
+
+-- one line more
+pub length_on : (old new : List CodeLine) (x : Line) → lines_of new ≡ lines_of old ++ x ∷ [] → suc (length old) ≡ length new
+length_on old new x e =
+    let a = sym (length-map new line_of) ∙ ap length e ∙ length-append (lines_of old) (x ∷ []) in
+    let b = length-map old line_of in
+    let u : length (x ∷ []) ≡ 1 = refl in
+    omega (arith, a, b, u)

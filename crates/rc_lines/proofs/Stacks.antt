@@ -1,5 +1,5 @@
 -- Stacks of operands: what is on top, and what is below it.
-use Rattle.std.proofs.Common.{◌≡◌, ◌<◌, ◌-◌, ◌+◌, ℕ, zero, suc, List, [], ◌∷◌, ◌++◌, length, get_or, map, take, drop, length-drop, refl, sym, ap, ◌∙◌, arith}
+use Rattle.std.proofs.Common.{◌≡◌, ◌<◌, ◌≤◌, ◌-◌, ◌+◌, ℕ, zero, suc, List, [], ◌∷◌, ◌++◌, length, get_or, map, take, drop, length-drop, refl, sym, ap, ◌∙◌, arith}
 use Rattle.std.proofs.Math.Seq.{take-suc, take-append_seam, drop-append_seam}
 use Rattle.std.proofs.lemmas.List.{map-append, length-map, take-append-drop, append-nil}
 use Rattle.std.specs.List.{take-map, drop-map}
@@ -101,3 +101,11 @@ place_below operands a tys n e h =
 pub place_above : (operands : List Operand) (a : Access) (tys : List Ty) (n : ℕ) → n ≡ width a → types_on operands ≡ pushed (place_types a ++ tys) [] → map type_of (drop n operands) ≡ tys
 place_above operands a tys n e h =
     sym (drop-map type_of n operands) ∙ ap (drop n) (from_below (map type_of operands) (place_types a ++ tys) h) ∙ ap (λ k. drop k (place_types a ++ tys)) (e ∙ sym (place_width a)) ∙ drop-append_seam (place_types a) tys
+
+-- the topmost, above all others
+pub on_top : (xs : List Operand) (m : ℕ) → m ≡ length xs - 1 → 1 ≤ length xs → (top : Ty) × (types_on xs ≡ top ∷ types_on (take m xs))
+on_top xs m e some = by_types (types_on xs) (let n = length_types xs in omega (arith, n, some)) (types_left 1 m xs e)
+  where
+    by_types : (tys : List Ty) → 1 ≤ length tys → types_on (take m xs) ≡ dropped 1 tys → (top : Ty) × (tys ≡ top ∷ types_on (take m xs))
+    by_types [] l d = absurd (omega arith)
+    by_types (ty ∷ tys) l d = (ty, ap (λ ys. ty ∷ ys) (sym d))

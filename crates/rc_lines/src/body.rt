@@ -1,10 +1,11 @@
 // What the code of a function is made over.
-ghost use Rattle.std.specs.Prelude.{◌≡◌, IfOk, true};
+ghost use Rattle.std.specs.Prelude.{◌≡◌, ◌+◌, IfOk, true};
 ghost use Rattle.rc_core.specs.Shapes.{ty_of};
 ghost use Rattle.rc_emission.specs.StatementCode.{call_pins};
 ghost use Rattle.rc_rlang.specs.LiveLists.{held_if};
 ghost use Rattle.rc_rlang.specs.LiveMaps.{IsPoint};
 ghost use Rattle.rc_rlang.specs.RegionRuns.{pins_from};
+ghost use Rattle.rc_scope.specs.Names.{number_of};
 ghost use Rattle.rc_lines.specs.Over.{deleting_in, types_in, slot_in, Listed};
 
 use crate::keys::kept_key;
@@ -57,15 +58,22 @@ impl<'a, 'k> Body<'a, 'k> {
         &[]
     }
 
+    /// The local for the operand of a key.
+    fn local(&self, key: &[u8]) -> Result<u32, NoMemory>
+        ensures { IfOk result (λ r. r ≡ self.now.first + number_of self.now.kept.now key.now) }
+    {
+        let number = match self.kept.find(key) {
+            Some(number) => number,
+            None => u32::try_from(self.kept.len()).map_err(|_| NoMemory)?,
+        };
+        Ok(self.first.checked_add(number).ok_or(NoMemory)?)
+    }
+
     /// The local for an operand of the type at the height.
     pub fn slot(&self, height: usize, ty: &Ty) -> Result<u32, NoMemory>
         ensures { IfOk result (λ r. r ≡ slot_in self.now height (ty_of ty.now)) }
     {
         let key = kept_key(self.alloc, height, ty)?;
-        let number = match self.kept.find(key.as_slice()) {
-            Some(number) => number,
-            None => u32::try_from(self.kept.len()).map_err(|_| NoMemory)?,
-        };
-        Ok(self.first.checked_add(number).ok_or(NoMemory)?)
+        self.local(key.as_slice())
     }
 }

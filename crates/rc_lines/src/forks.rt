@@ -1,6 +1,9 @@
 // Expressions: steps one after another, and those that fork.
-ghost use Rattle.std.specs.Prelude.{◌≡◌, ◌++◌, ◌+◌, ◌≤◌, [], length, List, OnOk, IfOk};
+ghost use Rattle.std.specs.Prelude.{◌≡◌, ◌++◌, ◌∷◌, ◌+◌, ◌≤◌, ◌<◌, [], suc, length, List, OnOk, IfOk};
 ghost use Rattle.rc_core.specs.Shapes.{ty_of};
+ghost use Rattle.rc_core.specs.Types.{int};
+ghost use Rattle.rc_emission.specs.OperationCode.{at, line_of, spills, reloads, test_code};
+ghost use Rattle.rc_emission.specs.StackCode.{get, set, jump, jump_zero, pop};
 ghost use Rattle.rc_emission.specs.StatementCode.{steps_lines, step_lines};
 ghost use Rattle.rc_rlang.specs.LiveLists.{steps_lists, step_lists};
 ghost use Rattle.rc_rlang.specs.RegionFits.{steps_types};
@@ -77,6 +80,81 @@ pub fn steps<'a>(
     })
 }
 
+/// The height of the topmost of so many operands, of which there has to be one; the lowest has the height
+/// `base`.
+fn top_height(base: usize, count: usize) -> Result<usize, NoMemory>
+    ensures height { IfOk result (λ r. suc r ≡ base + count) }
+    ensures some { OnOk result (1 ≤ count) }
+    ensures within { OnOk result (base + count < 18446744073709551616) }
+{
+    if count == 0 {
+        return Err(NoMemory);
+    }
+    let end = base.checked_add(count).ok_or(NoMemory)?;
+    Ok(end - 1)
+}
+
+/// The operands go into their locals, and the topmost is tested. It answers the place that is left for
+/// the jump past the way that is gone where it is true.
+fn look<'a>(
+    out: &mut Vec<Line<'a>>,
+    body: &Body<'a, '_>,
+    line: u32,
+    base: usize,
+    operands: &[Operand<'a>],
+    ty: &'a Ty,
+) -> Result<usize, NoMemory>
+    requires some { 1 ≤ length operands.now }
+    requires within { base + length operands.now < 18446744073709551616 }
+    ensures lines { (top : _) (below : _) → types_on operands.now ≡ top ∷ below → OnOk result (lines_of out.new.items ≡ (lines_of out.old.items ++ bare_code 0 (at line (spills (slot_in body.now) base (top ∷ below)) ++ at line (get (slot_in body.now (base + length below) top) ∷ test_code (ty_of ty.now)))) ++ line_of line pop ∷ []) }
+    ensures place { IfOk result (λ r. suc r ≡ length out.new.items) }
+{
+    keep(out, body, line, base, operands)?;
+    let top = operands.len() - 1;
+    let kept = body.slot(base + top, operands[top].ty)?;
+    push(out, line, Instruction::Get(kept))?;
+    test(out, line, ty)?;
+    leave_place(out, line)
+}
+
+/// The value of the first way goes into its local, and the jump past that way is set. It answers the
+/// place that is left for the jump past the second.
+fn turn(out: &mut Vec<Line<'_>>, line: u32, given: u32, to_no: usize) -> Result<usize, NoMemory>
+    ensures lines { (before after : _) (left : _) → lines_of out.old.items ≡ before ++ (left ∷ after) → length before ≡ to_no → OnOk result (lines_of out.new.items ≡ (before ++ (line_of line (jump_zero (suc (suc (length after)))) ∷ (after ++ line_of line (set given int) ∷ []))) ++ line_of line pop ∷ []) }
+    ensures place { (before after : _) (left : _) → lines_of out.old.items ≡ before ++ (left ∷ after) → length before ≡ to_no → IfOk result (λ r. suc r ≡ length out.new.items) }
+{
+    push(out, line, Instruction::Set(given))?;
+    let to_end = leave_place(out, line)?;
+    set_jump(out, line, to_no, When::IfZero)?;
+    Ok(to_end)
+}
+
+/// Where the ways of a fork meet: the local for its value, and the place of the jump past the second.
+#[derive(Clone, Copy)]
+struct Joined {
+    given: u32,
+    to_end: usize,
+}
+
+/// The value of the second way goes into its local, the jump past that way is set, and what stands below
+/// the value comes back, and the value itself.
+fn join<'a>(
+    out: &mut Vec<Line<'a>>,
+    body: &Body<'a, '_>,
+    line: u32,
+    base: usize,
+    below: &[Operand<'a>],
+    joined: Joined,
+) -> Result<(), NoMemory>
+    requires { base + length below.now < 18446744073709551616 }
+    ensures { (before after : _) (left : _) → lines_of out.old.items ≡ before ++ (left ∷ after) → length before ≡ joined.to_end → OnOk result (lines_of out.new.items ≡ before ++ (line_of line (jump (suc (length after))) ∷ (after ++ (line_of line (set joined.given int) ∷ (bare_code 0 (at line (reloads (slot_in body.now) base (types_on below.now))) ++ line_of line (get joined.given) ∷ []))))) }
+{
+    push(out, line, Instruction::Set(joined.given))?;
+    set_jump(out, line, joined.to_end, When::Always)?;
+    bring_back(out, body, line, base, below)?;
+    push(out, line, Instruction::Get(joined.given))
+}
+
 /// A fork with its two ways, whose operands on the stack are these; the lowest has the height `base`. It
 /// answers the point behind them.
 #[cycle(steps)]
@@ -105,26 +183,13 @@ fn two_ways<'a>(
         return Err(NoMemory);
     };
     let line = *line;
-    if operands.is_empty() {
-        return Err(NoMemory);
-    }
-    let end = base.checked_add(operands.len()).ok_or(NoMemory)?;
-    let height = end - 1;
-    let top = operands.len() - 1;
-    keep(out, body, line, base, operands)?;
-    let kept = body.slot(height, operands[top].ty)?;
+    let height = top_height(base, operands.len())?;
     let given = body.slot(height, result)?;
-    push(out, line, Instruction::Get(kept))?;
-    self::test(out, line, test)?;
-    let to_no = leave_place(out, line)?;
-    let behind_yes = steps(out, body, yes, height, next(point)?)?;
-    push(out, line, Instruction::Set(given))?;
-    let to_end = leave_place(out, line)?;
-    set_jump(out, line, to_no, When::IfZero)?;
-    let behind_no = steps(out, body, no, height, behind_yes.point)?;
-    push(out, line, Instruction::Set(given))?;
-    set_jump(out, line, to_end, When::Always)?;
-    bring_back(out, body, line, base, &operands[..top])?;
-    push(out, line, Instruction::Get(given))?;
-    Ok(behind_no.point)
+    let to_no = look(out, body, line, base, operands, test)?;
+    let behind_yes = steps(out, body, yes, height, next(point)?)?.point;
+    let to_end = turn(out, line, given, to_no)?;
+    let behind_no = steps(out, body, no, height, behind_yes)?.point;
+    let below = &operands[..operands.len() - 1];
+    join(out, body, line, base, below, Joined { given, to_end })?;
+    Ok(behind_no)
 }

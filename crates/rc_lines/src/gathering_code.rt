@@ -1,7 +1,8 @@
 // The operands that code keeps in locals.
-ghost use Rattle.std.specs.Prelude.{◌≡◌, ◌++◌, OnOk};
-ghost use Rattle.rc_emission.specs.KeptOperands.{kept_act, kept_code, kept_codes};
-ghost use Rattle.rc_rlang.specs.Shapes.{act_of, code_of, codes_of};
+ghost use Rattle.std.specs.Prelude.{◌≡◌, ◌++◌, [], OnOk};
+ghost use Rattle.rc_emission.specs.KeptOperands.{kept_act, kept_code, kept_codes, kept_steps};
+ghost use Rattle.rc_rlang.specs.RegionFits.{steps_types};
+ghost use Rattle.rc_rlang.specs.Shapes.{act_of, steps_of, code_of, codes_of};
 ghost use Rattle.rc_lines.specs.Gathered.{all_kept};
 ghost use Rattle.rc_lines.specs.Operands.{types_on};
 
@@ -9,6 +10,7 @@ use crate::gathering::{KeptOperand, gather, gather_all};
 use crate::operands::Operand;
 use rc_base::NoMemory;
 use rc_rlang::code::{Act, Code};
+use rc_rlang::steps::Step;
 use std::alloc::Global;
 
 /// Those that an act keeps, of the operands that stand.
@@ -30,6 +32,33 @@ fn gather_act<'a>(
     }
 }
 
+/// Those that steps keep, whatever stands behind them.
+fn gather_steps<'a>(
+    alloc: Global,
+    out: &mut Vec<KeptOperand<'a>>,
+    steps: &'a [Step],
+) -> Result<(), NoMemory>
+    ensures { (structs : _) → OnOk result (all_kept out.new.items ≡ all_kept out.old.items ++ kept_steps (steps_of structs steps.now) 0 []) }
+{
+    gather(alloc, out, steps, 0)?;
+    Ok(())
+}
+
+/// Those that steps keep, and behind them the act.
+#[tactic(auto, using(crate::proofs::Gathers::appended))]
+fn gather_simple<'a>(
+    alloc: Global,
+    out: &mut Vec<KeptOperand<'a>>,
+    steps: &'a [Step],
+    act: &'a Act,
+) -> Result<(), NoMemory>
+    ensures { (structs : _) → OnOk result (all_kept out.new.items ≡ all_kept out.old.items ++ (kept_steps (steps_of structs steps.now) 0 [] ++ kept_act (act_of structs act.now) (steps_types (steps_of structs steps.now) []))) }
+{
+    let operands = gather(alloc, out, steps, 0)?;
+    gather_act(out, act, operands.as_slice())?;
+    Ok(())
+}
+
 /// Those that a statement's code keeps, in the order of the definition.
 #[cycle(gathering_code)]
 #[tactic(auto, using(rc_rlang::proofs::ShapeRows::block_is, crate::proofs::Gathers::appended))]
@@ -41,13 +70,10 @@ pub fn gather_code<'a>(
     ensures { (structs : _) → OnOk result (all_kept out.new.items ≡ all_kept out.old.items ++ kept_code (code_of structs code.now)) }
 {
     match code {
-        Code::Simple { steps, act } => {
-            let operands = gather(alloc, out, steps, 0)?;
-            gather_act(out, act, operands.as_slice())?;
-        }
+        Code::Simple { steps, act } => gather_simple(alloc, out, steps, act)?,
         Code::Block { body } => gather_codes(alloc, out, body)?,
         Code::Branch { steps, yes, no, .. } => {
-            gather(alloc, out, steps, 0)?;
+            gather_steps(alloc, out, steps)?;
             gather_code(alloc, out, yes)?;
             gather_code(alloc, out, no)?;
         }
@@ -57,13 +83,13 @@ pub fn gather_code<'a>(
             body,
             ..
         } => {
-            gather(alloc, out, steps, 0)?;
+            gather_steps(alloc, out, steps)?;
             gather_code(alloc, out, third)?;
             gather_code(alloc, out, body)?;
         }
         Code::Repeat { body, steps, .. } => {
             gather_code(alloc, out, body)?;
-            gather(alloc, out, steps, 0)?;
+            gather_steps(alloc, out, steps)?;
         }
         Code::Clear { .. } | Code::Break { .. } | Code::Continue { .. } => {}
     }

@@ -1,5 +1,5 @@
 // Lists of instructions that grow at their ends.
-ghost use Rattle.std.specs.Prelude.{◌≡◌, ◌∷◌, [], ◌++◌, length, OnOk, IfOk};
+ghost use Rattle.std.specs.Prelude.{◌≡◌, ◌∷◌, [], ◌++◌, suc, length, OnOk, IfOk};
 ghost use Rattle.rc_emission.specs.OperationCode.{at, line_of};
 ghost use Rattle.rc_lines.specs.declared.instruction.Instruction.TheVariants.{Pop};
 ghost use Rattle.rc_lines.specs.Bare.{instruction_of, instructions_of, jump_past, lines_of};
@@ -34,7 +34,7 @@ pub(crate) fn add<'a>(
 
 /// Leaves a place for a jump whose length isn't known yet, and answers which.
 pub(crate) fn leave_place(out: &mut Vec<Line<'_>>, line: u32) -> Result<usize, NoMemory>
-    ensures place { IfOk result (λ r. r ≡ length out.old.items) }
+    ensures place { IfOk result (λ r. suc r ≡ length out.new.items) }
     ensures lines { OnOk result (lines_of out.new.items ≡ lines_of out.old.items ++ line_of line (instruction_of Pop) ∷ []) }
 {
     let place = out.len();
