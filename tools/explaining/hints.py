@@ -2,7 +2,7 @@
 
 # What each refusal of a text means, and what to do.
 REFUSALS = {
-    1: ("too-long", "a text has at most 1,048,576 bytes, and a program is one file: make it shorter"),
+    1: ("too-long", "a text has at most 1,048,576 bytes: make it shorter, or several files, which rc link takes"),
     2: ("byte", "a byte on this line begins no word: leave it out"),
     3: ("token", "a number, a character or a string isn't well formed, or a comment has no end"),
     4: (
@@ -54,6 +54,26 @@ REFUSALS = {
         "flatter expressions",
     ),
     16: ("points", "the program has more than 65,536 points, its steps when it is translated: make it shorter"),
+}
+
+# What keeps files apart that rc link is given, and what to do.
+LINK_REFUSALS = {
+    32: (
+        "disagree",
+        "a struct has other fields here, or a function another head, than in an earlier file: write it in both "
+        "files in the same words",
+    ),
+    33: (
+        "double",
+        "a function is defined in an earlier file too, or a name is a global of one file and a global or a "
+        "function of another: rename one of them, or declare it here in place of defining it",
+    ),
+    34: ("missing", "a function is called here that no file defines: name the file that does, or define it"),
+    35: ("entry", "no file defines main: name the file that does"),
+    36: (
+        "large",
+        "the globals of all files have more than 1,048,576 cells: make them smaller, or take memory of a region",
+    ),
 }
 
 # What each refusal of an image means.

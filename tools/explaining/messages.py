@@ -2,14 +2,16 @@
 import collections
 import re
 
-from explaining.hints import ENDS, IMAGE_REFUSALS, REFUSALS, TRAPS
+from explaining.hints import ENDS, IMAGE_REFUSALS, LINK_REFUSALS, REFUSALS, TRAPS
 
-Message = collections.namedtuple("Message", "what name line number offset function instruction")
+Message = collections.namedtuple("Message", "what name line number offset function instruction file", defaults=[None])
 FORMS = [
     re.compile(form)
     for form in (
         r"rc: line (?P<line>\d+): (?P<what>trap) (?P<name>[a-z]+)",
         r"rc: (?:line (?P<line>\d+): )?(?P<what>refused) (?P<number>\d+) (?P<name>[a-z-]+)",
+        r"rc: file (?P<file>\d+): (?:line (?P<line>\d+): )?(?P<what>refused) (?P<number>\d+) (?P<name>[a-z-]+)",
+        r"rc: (?:file (?P<file>\d+): line (?P<line>\d+): )?(?P<what>link refused) (?P<number>\d+) (?P<name>[a-z]+)",
         r"rc: image (?P<what>refused) (?P<number>\d+) (?P<name>[a-z]+)(?: at (?P<offset>\d+))?",
         r"rc: image (?P<what>refused) (?P<number>\d+) (?P<name>[a-z]+) in (?P<function>\d+) at (?P<instruction>\d+)",
         r"rc: line (?P<line>\d+): (?P<name>stale image)",
@@ -35,6 +37,8 @@ def is_known(message):
         return message.name in TRAPS
     if message.what == "refused":
         return {**REFUSALS, **IMAGE_REFUSALS}.get(message.number, ("",))[0] == message.name
+    if message.what == "link refused":
+        return LINK_REFUSALS.get(message.number, ("",))[0] == message.name
     return message.name in ENDS
 
 

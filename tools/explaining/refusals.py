@@ -114,3 +114,30 @@ def habits(number, words):
     """Returns what to write for the C of a line that isn't in RC, of the habits that may cause this refusal."""
     found = [(re.search(form, words), text) for numbers, form, text in HABITS if number in numbers]
     return [text.format(it.group()) for it, text in found if it][:2]
+
+
+def declared_in(text):
+    """Returns what a text declares outside of functions: each name, its line, and whether it is defined there."""
+    read = text.read
+    found = [(it.name, it.line, True) for it in read.functions + read.globals]
+    found += [(it.name, it.line, False) for it in read.declared]
+    for at, it in enumerate(text.tokens):
+        if it.text == "struct" and [other.text for other in text.tokens[at + 2 : at + 3]] == ["{"]:
+            found.append((f"struct {text.tokens[at + 1].text}", it.line, True))
+    return found
+
+
+def apart(number, files, at, line):
+    """Says of a line of one of several files, each a name and a text, what of the others keeps it apart."""
+    text = files[at][1]
+    if number == 34:
+        defined = {it.name for _, other in files for it in other.read.functions} | set(BUILT_IN)
+        missing = dict.fromkeys(text.tokens[call].text for call in text.read.calls_on(line))
+        yield f"defined in no file: {', '.join(it for it in missing if it not in defined)}"
+        return
+    for name in dict.fromkeys(it for it, there, _ in declared_in(text) if there == line):
+        for other, earlier in files[:at]:
+            all_there = [it for it in declared_in(earlier) if it[0] == name]
+            lines = [str(there) for _, there, is_defined in all_there if is_defined or number == 32]
+            if lines:
+                yield f"{name} stands in {other} on line {listed(lines)}"

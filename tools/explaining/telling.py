@@ -1,14 +1,15 @@
 """What is told of each line of rc, with what the program's text shows of it."""
+import copy
 import os
 
-from explaining.hints import ENDS, IMAGE_REFUSALS, REFUSALS, TRAPS
+from explaining.hints import ENDS, IMAGE_REFUSALS, LINK_REFUSALS, REFUSALS, TRAPS
 from explaining.images import image_of
 from explaining.messages import noted
 from explaining.programs import Program
 from explaining.references import References
-from explaining.refusals import DETAILS, habits
+from explaining.refusals import DETAILS, apart, habits
 from explaining.running import Scratch
-from explaining.texts import data_of
+from explaining.texts import Text, data_of
 
 # What each command works on, which stands first behind it, and all its words.
 OPTIONS = "[--turns N] [--regions N] [--blocks N]"
@@ -23,6 +24,7 @@ COMMANDS = {
     "heap": ("script", "FILE [--regions N] [--blocks N]"),
     "soak": ("number", "N"),
     "tasks": ("text", f"FILE CHOICES {OPTIONS}"),
+    "link": ("files", "IMAGE FILE .."),
 }
 MOST_IMAGE_BYTES = 268435456
 # The limits of a run without options.
@@ -56,17 +58,29 @@ class Teller:
     """Tells what rc said of a command."""
 
     def __init__(self, rc, words, text):
-        self.rc, self.words, self.text = rc, words, text
+        self.rc, self.words, self.text, self.files = rc, words, text, None
         self.name = words[1] if len(words) > 1 else "rc"
         self.subject = COMMANDS[words[0]][0]
+        if self.subject == "files":
+            self.text, self.files = None, text
 
     def place(self, line):
-        return f"{self.name}:{line}" if self.subject == "text" else f"{self.name}: line {line} of its text"
+        if self.subject == "text":
+            return f"{self.name}:{line}"
+        return f"{self.name}: line {line} of {'one of its files' if self.files else 'its text'}"
+
+    def of_file(self, number):
+        """Returns the teller of one of several files."""
+        teller = copy.copy(self)
+        teller.name, teller.text, teller.subject = self.words[number + 1], self.files[number - 1], "text"
+        return teller
 
     def told(self, message):
         """Returns the lines that tell a message."""
         if message.name == "usage":
             return self.usage()
+        if message.file is not None and self.subject == "files":
+            return self.of_file(message.file).told(message)
         lines = [f"{self.name if message.line is None else self.place(message.line)}: {self.head(message)}"]
         if message.line is not None and self.text:
             lines += self.text.shown(message.line)
@@ -91,6 +105,8 @@ class Teller:
         lines = [f"usage: rc {self.words[0]} {options}"]
         if "CHOICES" in options:
             lines.append(noted("CHOICES are 1 to 1,000 decimal digits, each the number of a task"))
+        if self.files is not None:
+            lines.append(noted("there are from 1 to 16 files"))
         if "[" in options:
             last = "the choices" if "CHOICES" in options else "the file"
             lines.append(noted(f"options stand behind {last}, in this order, each at most once"))
@@ -103,6 +119,8 @@ class Teller:
             return self.of_trap(message)
         if message.what == "refused":
             return map(noted, self.of_refusal(message))
+        if message.what == "link refused":
+            return map(noted, self.of_link_refusal(message))
         return map(noted, self.of_end(message))
 
     def of_trap(self, message):
@@ -140,8 +158,22 @@ class Teller:
             return
         yield REFUSALS[message.number][1]
         if self.text and message.line is not None:
-            yield from DETAILS.get(message.number, lambda text, line: [])(self.text, message.line)
+            yield from DETAILS.get(message.number, lambda text, line: [])(self.text_by_itself(), message.line)
             yield from habits(message.number, self.text.words_on(message.line))
+
+    def text_by_itself(self):
+        """Returns the text, of which what is declared is defined in another file where there are several."""
+        if not self.files:
+            return self.text
+        text = Text(self.text.data)
+        text.read.functions, text.read.declared = text.read.functions + text.read.declared, []
+        return text
+
+    def of_link_refusal(self, message):
+        yield LINK_REFUSALS[message.number][1]
+        if message.file is not None and all(self.files):
+            files = list(zip(self.words[2:], self.files))
+            yield from apart(message.number, files, message.file - 1, message.line)
 
     def of_image_refusal(self, message):
         yield IMAGE_REFUSALS[message.number][1]
@@ -160,11 +192,14 @@ class Teller:
 
     def faults(self):
         """Says which file it may be that failed, and why."""
-        why = why_unreadable(self.name)
+        reads, stores = self.words[1:2], self.words[2:3]
+        if self.files is not None:
+            reads, stores = self.words[2:], self.words[1:2]
+        why = next(filter(None, map(why_unreadable, reads)), None)
         if why:
             yield why
-        elif self.words[0] in ("compile", "upgrade") and len(self.words) == 3:
-            yield why_not_stored(self.words[2])
+        elif self.words[0] in ("compile", "upgrade", "link"):
+            yield from map(why_not_stored, stores)
 
     def limit(self, option):
         """Returns a limit of the run, as its words gave it or else as it is."""

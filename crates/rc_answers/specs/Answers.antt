@@ -7,6 +7,8 @@ use Rattle.rc_answers.specs.declared.answer.Fault.{Fault}
 use Rattle.rc_answers.specs.declared.image_refusal.ImageRefusal.{ImageRefusal}
 use Rattle.rc_answers.specs.declared.image_refusal.ImageRefusal.TheVariants.{Magic, Version, Short, Extra, Field, Target, Height, Kind, Number}
 use Rattle.rc_answers.specs.declared.answer.Fault.TheVariants.{FileFault, ReadFault, WriteFault, Memory}
+use Rattle.rc_compile.specs.declared.refusal.Refusal.{Refusal}
+use Rattle.rc_compile.specs.declared.refusal.Refusal.TheVariants.{Points, Variables}
 
 -- bytes are refused as an image before anything is asked of its code
 abbrev pub IsOfBytes : ImageRefusal → Type 0
@@ -24,6 +26,12 @@ IsOfCode (Height function instruction) = Unit {0}
 IsOfCode (Kind function instruction) = Unit {0}
 IsOfCode (Number function instruction) = Unit {0}
 IsOfCode _ = ⊥
+
+-- a program is refused for what it needs too much of
+abbrev pub IsOfCounts : Refusal → Type 0
+IsOfCounts (Variables line) = Unit {0}
+IsOfCounts Points = Unit {0}
+IsOfCounts _ = ⊥
 
 -- the answers behind which the output was flushed
 abbrev pub WritesOut : Done → Type 0

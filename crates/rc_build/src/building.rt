@@ -1,12 +1,12 @@
-// The image of a text: that of its program.
+// The image of a program, and of a text: that of its program.
 ghost use Rattle.std.specs.Prelude.{IfOk};
 ghost use Rattle.rc_core.specs.Shapes.{program_of};
-ghost use Rattle.rc_build.specs.Built.{Builds};
+ghost use Rattle.rc_build.specs.Built.{Builds, Finishes};
 ghost use Rattle.rc_unchecked.specs.Images.{HasImage};
 
 use rc_base::NoMemory;
 use rc_code::{Image, Loaded};
-use rc_compile::{CompileFault, program};
+use rc_compile::{CompileFault, typed_program, within_bounds};
 use rc_core::program::Program;
 use rc_emit::compile_program;
 use std::alloc::Global;
@@ -27,19 +27,33 @@ pub fn image(alloc: Global, program: &Program) -> Result<Image, NoMemory>
     }
 }
 
-/// The image of a text's program, in which exactly the checks are left out that facts prove needless.
+/// The image of a program, in which exactly the checks are left out that facts prove needless.
+///
+/// # Errors
+///
+/// As `within_bounds` of rc_compile answers: too many region variables or points, or out of memory.
+#[tactic(auto, using(crate::proofs::Finishing::not_finished))]
+pub fn finish(alloc: Global, program: &Program) -> Result<Image, CompileFault>
+    ensures { Finishes (program_of program.now) result }
+{
+    within_bounds(alloc, program)?;
+    match image(alloc, program) {
+        Ok(image) => Ok(image),
+        Err(_) => Err(CompileFault::Memory),
+    }
+}
+
+/// The image of a text's program, as `finish` makes it.
 ///
 /// # Errors
 ///
 /// The text's refusal, as `program` of rc_compile answers it, or out of memory.
+#[tactic(auto, using(crate::proofs::Finishing::finished_text))]
 pub fn compile(alloc: Global, text: &[u8]) -> Result<Image, CompileFault>
     ensures { Builds text.now result }
 {
-    let program = program(alloc, text)?;
-    match image(alloc, &program) {
-        Ok(image) => Ok(image),
-        Err(_) => Err(CompileFault::Memory),
-    }
+    let program = typed_program(alloc, text)?;
+    finish(alloc, &program)
 }
 
 /// The same image, to be run.

@@ -21,10 +21,10 @@ use Rattle.rc_core.specs.Programs.{Function, Program}
 use Rattle.rc_deletes.specs.Answer as rules
 use Rattle.rc_deletes.specs.Items.{judged}
 use Rattle.rc_deletes.specs.Judged.{Judged, Holds, Faulty}
-use Rattle.rc_rlang.specs.Bounds.{AllNarrow, FirstWide, IsNarrow}
+use Rattle.rc_rlang.specs.Bounds.{AllNarrow, FirstWide, IsNarrow, IsWithinBounds}
 use Rattle.rc_rlang.specs.Points.{program_points}
 use Rattle.rc_rlang.specs.Variables.{region_variables}
-use Rattle.rc_compile.specs.Acceptance.{Accepted, HasProgram, HasTree, HasWords, Refused, Unread, byte, deep, in_counts, in_rules, in_tree, in_words, points, rule_refusal, syntax, token, too_long, variables}
+use Rattle.rc_compile.specs.Acceptance.{Accepted, HasProgram, HasTree, HasWords, Refused, TooMuch, Unread, byte, deep, in_counts, in_rules, in_tree, in_words, points, rule_refusal, syntax, token, too_long, variables}
 use Rattle.rc_compile.specs.declared.refusal.Refusal.{Refusal}
 use Rattle.rc_compile.specs.declared.refusal.Refusal.TheVariants.{TooLong, Byte, Token as BadToken, Syntax, Deep, Variables, Points}
 
@@ -58,13 +58,20 @@ wide_or_narrow (f ∷ fs) = by (le_or_more (region_variables f) 128) (wide_or_na
   by (inl narrow) (inl (line, first)) = inl (line, record { number = suc first.number; function = first.function; there = first.there; wide = first.wide; on_line = first.on_line; narrow_before = before_the_next narrow first.number first.narrow_before })
   by (inl narrow) (inr all) = inr (each narrow all)
 
--- a program needs no more than it may, or is refused
+-- a program needs no more than it may, or too much
+pub fits_or_too_much : (program : Program) → IsWithinBounds program ⊎ ((refusal : Refusal) × TooMuch program refusal)
+fits_or_too_much program = by (wide_or_narrow program.functions) (le_or_more (program_points program) 65536) where
+  by : ((line : ℕ) × FirstWide program.functions line) ⊎ AllNarrow program.functions → (program_points program ≤ 65536) ⊎ (65536 < program_points program) → IsWithinBounds program ⊎ ((refusal : Refusal) × TooMuch program refusal)
+  by (inl (line, first)) few = inr (Variables line, variables line first)
+  by (inr narrow) (inl few) = inl (record { narrow = narrow; few_points = few })
+  by (inr narrow) (inr many) = inr (Points, points (record { narrow = narrow; many = many }))
+
+-- so the text is accepted as this program, or is refused
 counts_decided : (text : List ℕ) (program : Program) → HasProgram text program → IsDecided text
-counts_decided text program has = by (wide_or_narrow program.functions) (le_or_more (program_points program) 65536) where
-  by : ((line : ℕ) × FirstWide program.functions line) ⊎ AllNarrow program.functions → (program_points program ≤ 65536) ⊎ (65536 < program_points program) → IsDecided text
-  by (inl (line, first)) few = inr (Variables line, in_counts program has (variables line first))
-  by (inr narrow) (inl few) = inl (program, record { has_program = has; bounds = record { narrow = narrow; few_points = few } })
-  by (inr narrow) (inr many) = inr (Points, in_counts program has (points (record { narrow = narrow; many = many })))
+counts_decided text program has = by (fits_or_too_much program) where
+  by : IsWithinBounds program ⊎ ((refusal : Refusal) × TooMuch program refusal) → IsDecided text
+  by (inl bounds) = inl (program, record { has_program = has; bounds = bounds })
+  by (inr (refusal, much)) = inr (refusal, in_counts program has much)
 
 -- a tree has a program, or the rules refuse it
 rules_decided : (text : List ℕ) (tree : Tree) → HasTree text tree → IsDecided text

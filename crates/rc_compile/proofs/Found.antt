@@ -9,12 +9,11 @@ use Rattle.rc_syntax.specs.Words.{UnreadByte, UnreadToken}
 use Rattle.rc_syntax.specs.Place.{AnswersAll, StopsAtLine, SinksAtLine}
 use Rattle.rc_syntax.proofs.Whole.{one_tree, of_text}
 use Rattle.rc_core.specs.Programs.{Program}
-use Rattle.rc_deletes.specs.Answer as rules
-use Rattle.rc_rlang.specs.Bounds.{FirstWide, HasManyPoints}
-use Rattle.rc_compile.specs.Acceptance.{HasWords, byte, token, syntax, deep, variables, points}
+use Rattle.rc_deletes.specs.Answer.{IsProgramOf}
+use Rattle.rc_compile.specs.Acceptance.{HasProgram, HasWords, byte, token, syntax, deep}
 use Rattle.rc_compile.specs.Answers.{IsOnlyRefusal, IsOnlyTree}
-use Rattle.rc_compile.specs.declared.refusal.Refusal.TheVariants.{Byte, Token as BadToken, Syntax, Deep, Variables, Points}
-use Rattle.rc_compile.proofs.OneAnswer.{only_tree, unread_only, no_tree_only, counts_only}
+use Rattle.rc_compile.specs.declared.refusal.Refusal.TheVariants.{Byte, Token as BadToken, Syntax, Deep}
+use Rattle.rc_compile.proofs.OneAnswer.{only_tree, unread_only, no_tree_only}
 
 pub byte_only : (text : List ℕ) (line : ℕ) → (length text ≤ 1048576) × UnreadByte text line → IsOnlyRefusal text (Byte line)
 byte_only text line x = unread_only text (Byte line) x.0 (byte line x.1)
@@ -31,8 +30,5 @@ syntax_only text tokens line has x = no_tree_only text tokens (Syntax line) has 
 pub deep_only : (text : List ℕ) (tokens : List Token) (line : ℕ) → HasWords text tokens → SinksAtLine tokens line → IsOnlyRefusal text (Deep line)
 deep_only text tokens line has x = no_tree_only text tokens (Deep line) has (deep line x)
 
-pub variables_only : (text : List ℕ) (tree : Tree) (p : Program) (line : ℕ) → IsOnlyTree text tree → rules.IsProgramOf tree p → FirstWide p.functions line → IsOnlyRefusal text (Variables line)
-variables_only text tree p line only typed wide = counts_only text tree p (Variables line) only typed (variables line wide)
-
-pub points_only : (text : List ℕ) (tree : Tree) (p : Program) → IsOnlyTree text tree → rules.IsProgramOf tree p → HasManyPoints p → IsOnlyRefusal text Points
-points_only text tree p only typed many = counts_only text tree p Points only typed (points many)
+pub program_found : (text : List ℕ) (tree : Tree) (p : Program) → IsOnlyTree text tree → IsProgramOf tree p → HasProgram text p
+program_found text tree p only typed = record { tree = tree; has_tree = only.is_tree; typed = typed }

@@ -23,7 +23,8 @@ none_misplaced (Some line) faults is = absurd cc
 all_in_place : (is : List t.Item) (made : Made) → items (context_of is) at_the_start is ≡ Holds made → deletes_faults (record { items = is }) (program_of is made) ≡ [] → AllInPlace (program_of is made) (context_of is) made.functions
 all_in_place is made held none = of_held (AreInPlace (program_of is made) (context_of is) is) (items (context_of is) at_the_start is) made (functions_in_place (program_of is made) (context_of is) is at_the_start) held [] refl none
 
-deletes_in_place : (tree : t.Tree) (program : p.Program) → IsProgramOf tree program → DeletesInPlace program
+-- a program of a tree that nothing refuses deletes in place
+pub deletes_in_place : (tree : t.Tree) (program : p.Program) → IsProgramOf tree program → DeletesInPlace program
 deletes_in_place tree program is =
     let by = held_by (items (context_of tree.items) at_the_start tree.items) tree.items program is.0 in
     let answered : first_of tree (Holds program) ≡ None = subst (λ x. first_of tree x ≡ None) is.0 is.1 in

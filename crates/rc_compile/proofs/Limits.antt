@@ -10,7 +10,7 @@ use Rattle.rc_syntax.specs.Literals.{Writes, WritesAll}
 use Rattle.rc_syntax.specs.Words.{Piece, blank, line_comment, block_comment, skipped_line, identifier, keyword, integer_constant, character_constant, string_literal, punctuator, Cut, end, piece, with_line}
 use Rattle.rc_syntax.specs.Bytes.{line_behind}
 use Rattle.rc_syntax.specs.Tree.{Tree}
-use Rattle.rc_syntax.specs.Grammar.{placed}
+use Rattle.rc_syntax.specs.Grammar.{Placed, Text, Derives, node, placed}
 use Rattle.rc_syntax.proofs.CutLaws.{reads_look}
 use Rattle.rc_syntax.proofs.PieceLaws.{look_fits}
 use Rattle.rc_deletes.specs.Limits.{AreShort, IsShort}
@@ -125,8 +125,14 @@ same_count i [] = refl
 same_count i (t ∷ tokens) = ap suc (same_count (i + 1) tokens)
 
 -- the tree of a text is that of few words, whose strings are no longer than the text
-pub is_written : (text : List ℕ) (tree : Tree) → IsOnlyTree text tree → IsWritten tree
-is_written text tree only =
+pub record IsOfFewWords (tree : Tree) : Type 0 where
+  pub words : List Placed
+  pub derived : Derives words (node Text tree.items)
+  pub few : length words ≤ 1048576
+  pub short : AreShort words
+
+pub of_few_words : (text : List ℕ) (tree : Tree) → IsOnlyTree text tree → IsOfFewWords tree
+of_few_words text tree only =
     let is = only.is_tree in
     let few = few_words text is.tokens is.has_words in
     let count = same_count 0 is.tokens in
@@ -136,3 +142,9 @@ is_written text tree only =
       few = omega (arith, few, count);
       short = are_short 0 is.tokens (strings_fit 1048576 is.has_words.short is.has_words.words);
     }
+
+pub is_written : (text : List ℕ) (tree : Tree) → IsOnlyTree text tree → IsWritten tree
+is_written text tree only =
+    let is = of_few_words text tree only in
+    let few = is.few in
+    record { words = is.words; derived = is.derived; few = omega (arith, few); short = is.short }

@@ -1,5 +1,5 @@
 -- A text has at most one answer: each stage has one outcome, and a refusal at a stage leaves the next ones nothing.
-use Rattle.std.proofs.Common.{◌≡◌, ◌<◌, ◌≤◌, ◌+◌, ◌⊎◌, ◌∙◌, ℕ, List, [], ◌∷◌, ◌++◌, length, drop, Option, Some, None, refl, sym, ap, subst, inl, inr, arith, append_assoc, length-append, slice_get}
+use Rattle.std.proofs.Common.{◌≡◌, ◌<◌, ◌≤◌, ◌+◌, ◌⊎◌, ◌∙◌, ℕ, List, [], ◌∷◌, ◌++◌, length, drop, Option, Some, None, Err, refl, sym, ap, subst, inl, inr, arith, append_assoc, length-append, slice_get}
 use Rattle.std.proofs.Math.Nat.{lt_of_not-le}
 use Rattle.std.proofs.Math.Seq.{drop-append_seam}
 use Rattle.rc_syntax.specs.Tokens.{Token}
@@ -15,6 +15,9 @@ use Rattle.rc_deletes.specs.Judged.{Judged, Holds}
 use Rattle.rc_rlang.specs.Bounds.{FirstWide, IsNarrow, IsWithinBounds}
 use Rattle.rc_compile.specs.Acceptance.{Accepted, HasWords, HasTree, HasProgram, Unread, byte, token, NoTree, syntax, deep, rule_refusal, TooMuch, variables, points, Refused, too_long, in_words, in_tree, in_rules, in_counts}
 use Rattle.rc_compile.specs.Answers.{IsOnlyProgram, IsOnlyRefusal, IsOnlyTree}
+use Rattle.rc_compile.specs.Compiles.{IsReason, KeepsWithin}
+use Rattle.rc_compile.specs.declared.fault.CompileFault.{CompileFault}
+use Rattle.rc_compile.specs.declared.fault.CompileFault.TheVariants as faults
 use Rattle.rc_compile.specs.declared.refusal.Refusal.{Refusal}
 use Rattle.rc_compile.specs.declared.refusal.Refusal.TheVariants.{TooLong, Byte, Token as BadToken, Syntax, Deep, Variables}
 
@@ -143,13 +146,13 @@ one_wide p m n x y =
 wide_or_narrow : (p : Program) (m : ℕ) → FirstWide p.functions m → ((k : ℕ) (f : Function) → slice_get p.functions k ≡ Some f → IsNarrow f) → ⊥
 wide_or_narrow p m x narrow = let is = narrow x.number x.function x.there in omega (arith, is, x.wide)
 
-one_too_much : (p : Program) (k l : Refusal) → TooMuch p k → TooMuch p l → k ≡ l
+pub one_too_much : (p : Program) (k l : Refusal) → TooMuch p k → TooMuch p l → k ≡ l
 one_too_much p k l (variables m x) (variables n y) = ap Variables (one_wide p m n x y)
 one_too_much p k l (variables m x) (points y) = absurd (wide_or_narrow p m x y.narrow)
 one_too_much p k l (points x) (variables n y) = absurd (wide_or_narrow p n y x.narrow)
 one_too_much p k l (points x) (points y) = refl
 
-too_much_or_bounds : (p : Program) (k : Refusal) → TooMuch p k → IsWithinBounds p → ⊥
+pub too_much_or_bounds : (p : Program) (k : Refusal) → TooMuch p k → IsWithinBounds p → ⊥
 too_much_or_bounds p k (variables m x) within = wide_or_narrow p m x within.narrow
 too_much_or_bounds p k (points x) within = let few = within.few_points in let many = x.many in omega (arith, few, many)
 
@@ -276,3 +279,12 @@ one_refusal text one other a b = (only_refusal each_one text other b).only one a
 
 pub not_both : (text : List ℕ) (p : Program) (k : Refusal) → Accepted text p → Refused text k → ⊥
 not_both text p k accepted refused = (only_program each_one text p accepted).not_refused k refused
+
+-- a program by the rules that keeps within the bounds is the text's one program
+pub typed_only : (text : List ℕ) (p : Program) → HasProgram text p → IsWithinBounds p → IsOnlyProgram text p
+typed_only text p has within = only_program each_one text p (record { has_program = has; bounds = within })
+
+-- and what it needs too much of is the text's one refusal
+pub much_only : (text : List ℕ) (p : Program) (fault : CompileFault) → HasProgram text p → KeepsWithin {T = Unit {0}} p (Err fault) → IsReason text fault
+much_only text p (faults.Refused k) has much = only_refusal each_one text k (in_counts p has much)
+much_only text p faults.Memory has much = tt

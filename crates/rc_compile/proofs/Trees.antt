@@ -1,10 +1,10 @@
 -- The trees of words whose numbers are in range have such numbers alone.
-use Rattle.std.specs.Prelude.{ℕ, List, [], ◌∷◌, ◌++◌, map, Option, Some, None}
+use Rattle.std.specs.Prelude.{ℕ, List, [], ◌∷◌, ◌++◌, map}
 use Rattle.rc_syntax.specs.declared.tree.Spot.{Spot}
 use Rattle.rc_syntax.specs.declared.tree.Base.{Base}
 use Rattle.rc_syntax.specs.Tree as t
 use Rattle.rc_syntax.specs.Grammar as g
-use Rattle.rc_syntax.specs.Grammar.{Symbol, TreeOf, Placed, Part, word, node, Rule, BeginAt, Derives, LocalDeclarator, GlobalDeclarator, joined, stmts_of, with_last, global, local}
+use Rattle.rc_syntax.specs.Grammar.{Symbol, TreeOf, Placed, Part, word, node, Rule, Derives, LocalDeclarator, GlobalDeclarator, joined, stmts_of, with_last, global, local}
 use Rattle.rc_deletes.specs.Ranges.{IsInRange, AreInRange, OptionInRange, SimpleInRange, SimpleOptionInRange, LocalsInRange, StartInRange, StmtInRange, StmtsInRange, BodyInRange, ItemsInRange}
 use Rattle.rc_judgements.proofs.Derived.{KnownAll, k_done, k_word, k_node, derived}
 use Rattle.rc_compile.proofs.Words.{WordInRange, WordsInRange}

@@ -4,7 +4,7 @@ use Rattle.std.specs.Prelude.{◌==◌, nat_le}
 use Rattle.std.specs.List.{AllByRecursion as Every}
 use Rattle.std.proofs.lemmas.Bool.Decides.{nat_tests}
 use Rattle.rc_core.specs.Numbers.{IsByte}
-use Rattle.rc_syntax.specs.Tokens.{Word, Token, name, number, character, string, key, mark}
+use Rattle.rc_syntax.specs.Tokens.{Word, Token, number, character, string}
 use Rattle.rc_syntax.specs.Bytes.{Each, is_hexadecimal, line_behind}
 use Rattle.rc_syntax.specs.Numerals as numerals
 use Rattle.rc_syntax.specs.Numerals.{Number, digit_value, number_type, value_in}

@@ -6,12 +6,12 @@ use Rattle.rc_syntax.specs.declared.tree.Tree as declared_tree
 use Rattle.rc_syntax.specs.WordShapes.{tokens_of}
 use Rattle.rc_syntax.specs.Tokens.{Token}
 use Rattle.rc_syntax.specs.Place.{last_line}
-use Rattle.rc_syntax.specs.Tree.{Tree}
 use Rattle.rc_syntax.specs.Shape.{tree_of}
 use Rattle.rc_core.specs.declared.parts.Parts.{Parts}
 use Rattle.rc_core.specs.Shapes.{program_of}
-use Rattle.rc_deletes.specs.Answer.{IsProgramOf}
-use Rattle.rc_compile.specs.Acceptance.{HasWords}
+use Rattle.rc_core.specs.Programs.{Program}
+use Rattle.rc_rlang.specs.Bounds.{IsWithinBounds}
+use Rattle.rc_compile.specs.Acceptance.{HasProgram, HasWords, TooMuch}
 use Rattle.rc_compile.specs.Answers.{IsOnlyProgram, IsOnlyRefusal, IsOnlyTree}
 use Rattle.rc_compile.specs.declared.fault.CompileFault.{CompileFault}
 use Rattle.rc_compile.specs.declared.fault.CompileFault.TheVariants.{Refused, Memory}
@@ -46,7 +46,7 @@ IsOfReading Memory = Unit {0}
 abbrev pub EndsOnLine : List ℕ → ℕ → Type 0
 EndsOnLine text line = (tokens : List Token) → HasWords text tokens → line ≡ last_line tokens
 
--- the text's words, its one tree, its one program: or why there is none
+-- the text's words, its one tree: or why there is none
 abbrev pub FindsWords : List ℕ → Result (Vec CodeToken Global) CompileFault → Type 0
 FindsWords text (Ok tokens) = HasWords text (tokens_of tokens.items)
 FindsWords text (Err fault) = IsReason text fault × IsOfReading fault
@@ -55,10 +55,18 @@ abbrev pub FindsTree : List ℕ → Result declared_tree.Tree CompileFault → T
 FindsTree text (Ok tree) = IsOnlyTree text (tree_of tree) × EndsOnLine text tree.last
 FindsTree text (Err fault) = IsReason text fault × IsOfReading fault
 
-abbrev pub FindsTyping : Tree → List ℕ → Result Parts CompileFault → Type 0
-FindsTyping tree text (Ok program) = IsProgramOf tree (program_of program)
-FindsTyping tree text (Err fault) = IsReason text fault
+-- its program by the rules, or why there is none
+abbrev pub FindsProgram : List ℕ → Result Parts CompileFault → Type 0
+FindsProgram text (Ok program) = HasProgram text (program_of program)
+FindsProgram text (Err fault) = IsReason text fault
 
+-- a program needs no more than one may, or this is what it needs too much of
+abbrev pub KeepsWithin : {T : Type 0} → Program → Result T CompileFault → Type 0
+KeepsWithin program (Ok x) = IsWithinBounds program
+KeepsWithin program (Err (Refused refusal)) = TooMuch program refusal
+KeepsWithin program (Err Memory) = Unit {0}
+
+-- the one program of a text, or its one refusal
 abbrev pub Compiles : List ℕ → Result Parts CompileFault → Type 0
 Compiles text (Ok program) = IsOnlyProgram text (program_of program)
 Compiles text (Err fault) = IsReason text fault

@@ -4,11 +4,10 @@ ghost use Rattle.rc_syntax.specs.Shape.{tree_of};
 ghost use Rattle.rc_syntax.specs.Tree.{Tree as WrittenTree};
 ghost use Rattle.rc_syntax.specs.WordShapes.{tokens_of};
 ghost use Rattle.rc_core.specs.Shapes.{program_of};
-ghost use Rattle.rc_deletes.specs.Answer.{IsProgramOf};
 ghost use Rattle.rc_typing.specs.Checks.{Refuses};
 ghost use Rattle.rc_compile.specs.Acceptance.{HasWords};
 ghost use Rattle.rc_compile.specs.Answers.{IsOnlyTree};
-ghost use Rattle.rc_compile.specs.Compiles.{Compiles, FindsTree, FindsTyping, FindsWords, IsReason};
+ghost use Rattle.rc_compile.specs.Compiles.{Compiles, FindsProgram, FindsTree, FindsWords, IsReason, KeepsWithin};
 
 use crate::fault::CompileFault;
 use crate::refusal::Refusal;
@@ -83,7 +82,7 @@ fn reason(fault: TypeFault) -> CompileFault
 /// The program of the tree of a text by the rules of types, of `main` and of deletions.
 fn typed(alloc: Global, _text: &[u8], tree: &Tree) -> Result<Program, CompileFault>
     requires { IsOnlyTree _text.now (tree_of tree.now) }
-    ensures { FindsTyping (tree_of tree.now) _text.now result }
+    ensures { FindsProgram _text.now result }
 {
     match check(alloc, tree) {
         Ok(program) => Ok(program),
@@ -91,19 +90,32 @@ fn typed(alloc: Global, _text: &[u8], tree: &Tree) -> Result<Program, CompileFau
     }
 }
 
-/// The program, if it needs no more than one may.
-fn within_bounds(
-    alloc: Global,
-    _text: &[u8],
-    _tree: &Tree,
-    program: Program,
-) -> Result<Program, CompileFault>
-    requires tree { IsOnlyTree _text.now (tree_of _tree.now) }
-    requires typed { IsProgramOf (tree_of _tree.now) (program_of program) }
-    ensures { Compiles _text.now result }
+/// The program of a text, by its words, its tree, and the rules of types, of `main` and of deletions.
+/// What its translation needs isn't counted yet.
+///
+/// # Errors
+///
+/// `Refused` with the text's one refusal, where it is one of the first fourteen: not `Variables` and
+/// not `Points`. `Memory` when out of memory.
+pub fn typed_program(alloc: Global, text: &[u8]) -> Result<Program, CompileFault>
+    ensures { FindsProgram text.now result }
 {
-    match count(alloc, &program) {
-        Ok(()) => Ok(program),
+    let tree = tree(alloc, text)?;
+    typed(alloc, text, &tree)
+}
+
+/// Whether a program needs no more than one may: at most 128 region variables in each function, and
+/// 65,536 points in all of them.
+///
+/// # Errors
+///
+/// `Refused` with `Variables` on the line of the first function that needs too many, or else with
+/// `Points`. `Memory` when out of memory.
+pub fn within_bounds(alloc: Global, program: &Program) -> Result<(), CompileFault>
+    ensures { KeepsWithin (program_of program.now) result }
+{
+    match count(alloc, program) {
+        Ok(()) => Ok(()),
         Err(ElabFault::Variables(line)) => Err(CompileFault::Refused(Refusal::Variables(line))),
         Err(ElabFault::Points) => Err(CompileFault::Refused(Refusal::Points)),
         Err(ElabFault::Memory) => Err(CompileFault::Memory),
@@ -115,10 +127,11 @@ fn within_bounds(
 /// A text goes through its words, its tree, the rules of types, of `main` and of deletions, and the
 /// counts of what its translation needs. It is refused by the first of these that it fails, and at no
 /// other place: a text has one program or one refusal. Want of memory is the one other answer.
+#[tactic(auto, using(crate::proofs::OneAnswer::typed_only, crate::proofs::OneAnswer::much_only))]
 pub fn program(alloc: Global, text: &[u8]) -> Result<Program, CompileFault>
     ensures { Compiles text.now result }
 {
-    let tree = tree(alloc, text)?;
-    let program = typed(alloc, text, &tree)?;
-    within_bounds(alloc, text, &tree, program)
+    let program = typed_program(alloc, text)?;
+    within_bounds(alloc, &program)?;
+    Ok(program)
 }

@@ -1,5 +1,5 @@
 -- Requests that report on the checks of a file's program.
-use Rattle.std.proofs.Common.{◌≡◌, ◌∙◌, ℕ, List, Option, Result, Ok, Err, IsTrue, refl, sym, ap, subst}
+use Rattle.std.proofs.Common.{◌≡◌, ◌∙◌, ℕ, List, Option, Result, IsTrue, refl, sym, ap, subst}
 use Rattle.rc_base.specs.Shelves.{ShelfState}
 use Rattle.rc_base.specs.Sinks.{SinkState}
 use Rattle.rc_compile.specs.Acceptance.{Accepted}

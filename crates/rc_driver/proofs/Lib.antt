@@ -12,6 +12,8 @@ pub mod Ran
 pub mod Compiled
 pub mod ProgramRows
 pub mod TasksRan
+pub mod Linked
+pub mod Units
 pub mod Alone
 pub mod Ends
 pub mod SoakRows

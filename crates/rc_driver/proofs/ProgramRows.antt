@@ -1,15 +1,16 @@
--- The rows of a run, of tasks and of a compilation.
+-- The rows of a run, of tasks, of a compilation and of several files that are linked.
 use Rattle.std.proofs.Common.{ℕ, List, Some, refl, arith}
 use Rattle.rc_base.specs.declared.ends.Limits.{Limits}
 use Rattle.rc_answers.specs.declared.answer.Done.{Done}
 use Rattle.rc_answers.specs.declared.answer.Done.TheVariants.{Ended, StaleImage, Refused, ImageRefused, UnitRefused, LinkRefused, Wrote, Reported, Usage}
 use Rattle.rc_outcomes.specs.MayAnswer.{EndsOrIsRefused}
 use Rattle.rc_outcomes.proofs.Ways.{not_quiet, the_only}
-use Rattle.rc_requests.specs.Request.{Run, Compile, Tasks}
+use Rattle.rc_requests.specs.Request.{Run, Compile, Tasks, Link}
 use Rattle.rc_files.specs.Programs.{IsEnd}
 use Rattle.rc_driver.specs.Running.{RunsInHeap}
 use Rattle.rc_driver.specs.Tasking.{RunsTasksOf}
 use Rattle.rc_driver.specs.Compiling.{CompilesOf}
+use Rattle.rc_driver.specs.Linking.{LinksFiles}
 
 -- an end is among the answers of a run
 may_end : (done : Done) → IsEnd done → EndsOrIsRefused done
@@ -67,5 +68,18 @@ compile_row from to = record {
   };
   stores = refl;
   may_write = tt;
+  stores_program = λ files files' all. all;
+}
+
+pub link_row : (to : List ℕ) (wanted : List (List ℕ)) → LinksFiles (Some (Link to wanted)) to wanted
+link_row to wanted = record {
+  reads = refl;
+  stores = refl;
+  may_write = tt;
+  may_refuse_one = λ number refusal none. none;
+  may_keep_apart = λ refusal. tt;
+  may_refuse_all = λ refusal is. is;
+  is_outcome = λ files input outcome is. is;
+  outcome_is = λ files input outcome is. is;
   stores_program = λ files files' all. all;
 }

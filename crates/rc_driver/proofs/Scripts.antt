@@ -1,5 +1,5 @@
 -- Requests that run the script of a file.
-use Rattle.std.proofs.Common.{◌≡◌, ◌<◌, ◌≤◌, ◌∙◌, ℕ, true, false, List, Option, Result, Ok, Err, IsTrue, length, refl, sym, ap, subst, arith, inl}
+use Rattle.std.proofs.Common.{◌≡◌, ◌<◌, ◌≤◌, ◌∙◌, ℕ, true, false, List, Option, Result, Ok, Err, IsTrue, length, sym, ap, subst, arith, inl}
 use Rattle.std.specs.Prelude.{nat_le, if◌then◌else◌}
 use Rattle.rc_base.specs.Shelves.{ShelfState}
 use Rattle.rc_base.specs.Sinks.{SinkState}
@@ -10,7 +10,6 @@ use Rattle.rc_store.specs.Kept.{KeptStore}
 use Rattle.rc_answers.specs.declared.answer.Done.{Done}
 use Rattle.rc_answers.specs.declared.answer.Done.TheVariants.{Refused}
 use Rattle.rc_answers.specs.declared.answer.Fault.{Fault}
-use Rattle.rc_answers.specs.declared.answer.Fault.TheVariants.{WriteFault}
 use Rattle.rc_outcomes.specs.Footprint.{UsesFiles, footprint}
 use Rattle.rc_outcomes.specs.Loading.{Loaded, NotLoaded}
 use Rattle.rc_outcomes.specs.Outcome.{Comes, IsOutcome, Outcome, SameAs, answers, reports_leaving, script_outcome}

@@ -13,12 +13,13 @@ use Rattle.rc_answers.specs.Lines.{done_line}
 use Rattle.rc_outcomes.specs.Outcome.{Comes, IsOutcome, Outcome, Performed, StoppedShort}
 use Rattle.rc_outcomes.specs.Outside.{NoneRose, Outside, outside}
 use Rattle.rc_outcomes.specs.Performing.{Performs}
-use Rattle.rc_requests.specs.Request.{Request, Run, Slow, Compile, Exec, Listing, Upgrade, Script, Checks, Soak, Tasks}
+use Rattle.rc_requests.specs.Request.{Request, Run, Slow, Compile, Exec, Listing, Upgrade, Script, Checks, Soak, Tasks, Link}
 use Rattle.rc_answers.specs.Telling.{Tells, ToldDone, ToldFault, Untold}
 use Rattle.rc_answers.specs.declared.answer.Done.{Done}
 use Rattle.rc_answers.specs.declared.answer.Done.TheVariants.{Ended, StaleImage, Refused, ImageRefused, UnitRefused, LinkRefused, Wrote, Reported, Usage}
 use Rattle.rc_answers.specs.declared.answer.Fault.{Fault}
 use Rattle.rc_answers.specs.declared.answer.Fault.TheVariants.{FileFault, ReadFault, WriteFault, ErrFault, Memory}
+use Rattle.rc_outcomes.proofs.Linked.{there_of_all}
 use Rattle.rc_outcomes.proofs.Ways.{the_only, there_is}
 
 -- an answer that stays the usage
@@ -134,6 +135,7 @@ there (Some (Script file limits)) before outcome is (name, read, lacks) = there_
 there (Some (Checks file)) before outcome is (name, read, lacks) = there_is before.files.names file name is.0 (the_only file name read) is.1 lacks.none
 there (Some (Soak n)) before outcome is (name, read, lacks) = let low = read.1 in omega (arith, low)
 there (Some (Tasks file choices limits)) before outcome is (name, read, lacks) = there_is before.files.names file name is.0 (the_only file name read) is.1 lacks.none
+there (Some (Link to wanted)) before outcome is (name, read, lacks) = there_of_all before.files.names wanted is.0 is.1 name read lacks.none
 
 complete_fault : (request : Option Request) (before : Outside) (files' : ShelfState) (input' : SourceState) (out' err' : SinkState) (heap' : KeptStore) (fault : Fault) → Performs request before (outside files' input' out' before.err heap') (Err fault) → NoneRose before (outside files' input' out' err' heap') → (outcome : Outcome) → Comes request before outcome → fault ≡ Memory
 complete_fault request before files' input' out' err' heap' FileFault p none outcome comes = absurd (no_file (p.file_fault refl).cause) where

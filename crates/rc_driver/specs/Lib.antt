@@ -7,4 +7,5 @@ pub mod Ends
 pub mod Running
 pub mod Tasking
 pub mod Compiling
+pub mod Linking
 pub mod Soaking

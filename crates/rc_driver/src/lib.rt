@@ -2,15 +2,17 @@
 //! is defined in rc_outcomes, specs/Outcome.
 //!
 //! `run` runs the image of a program by the machine over the heap, and `tasks` the same with the lines that
-//! run its tasks; `compile` stores it, and `exec` runs one that was stored. `slow` runs a program node by
-//! node, `checks` reports which of its checks are kept, and `heap` runs a script of heap commands. `soak`
-//! makes a large program from a number, compiles and runs it, and writes a line that sums it up.
+//! run its tasks; `compile` stores it, `link` that of the program that several files are together, and
+//! `exec` runs one that was stored. `slow` runs a program node by node, `checks` reports which of its checks
+//! are kept, and `heap` runs a script of heap commands. `soak` makes a large program from a number, compiles
+//! and runs it, and writes a line that sums it up.
 #![tactic(auto)]
 
 mod check;
 mod compile;
 mod evaluation;
 mod execute;
+mod link;
 mod made;
 mod program;
 mod run;

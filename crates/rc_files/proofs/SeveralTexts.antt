@@ -1,5 +1,5 @@
 -- Files that are loaded one behind the other.
-use Rattle.std.proofs.Common.{◌≡◌, ◌∙◌, ◌<◌, ◌≤◌, ◌+◌, ℕ, List, [], ◌∷◌, ◌++◌, IsTrue, get_or, length, take, refl, sym, ap, subst, arith, inl, inr}
+use Rattle.std.proofs.Common.{◌≡◌, ◌∙◌, ◌<◌, ◌≤◌, ◌+◌, ℕ, List, [], ◌∷◌, ◌++◌, IsTrue, get_or, length, take, refl, sym, ap, subst, arith, inl, inr, length-append}
 use Rattle.std.specs.Prelude.{Contains, Some, String, string_bytes}
 use Rattle.std.specs.declared.alloc.Global.{Global}
 use Rattle.std.proofs.lemmas.List.{get_or-map, length-map, take_more}
@@ -12,7 +12,7 @@ use Rattle.rc_outcomes.specs.Loading.{HoldInOrder, LoadAllCause, LoadCause, Load
 module _ {T : Type 0} (Holds : T → List ℕ → Type 0) where
   -- of no file nothing is loaded
   pub loaded_none : (files : ShelfState) → LoadedAll Holds [] files files []
-  loaded_none files = record { tells = refl; names = λ told. refl; kept = refl; holds = λ told. tt }
+  loaded_none files = record { tells = refl; names = λ told. refl; kept = refl; count = refl; holds = λ told. tt }
 
   in_order_then : (files : Names) (wanted : List (List ℕ)) (all : List T) (name : List ℕ) (made : T) → HoldInOrder Holds files wanted all → (bytes : List ℕ) × (files name ≡ Some bytes) × Holds made bytes → HoldInOrder Holds files (wanted ++ name ∷ []) (all ++ made ∷ [])
   in_order_then files [] [] name made holds next = (next, tt)
@@ -26,6 +26,7 @@ module _ {T : Type 0} (Holds : T → List ℕ → Type 0) where
     tells = one.tells ∙ l.tells;
     names = λ told. one.names (l.tells ∙ told) ∙ l.names told;
     kept = one.kept ∙ l.kept;
+    count = (let same = l.count in omega (arith, same, length-append all (made ∷ []), length-append wanted (name ∷ [])));
     holds = λ told. (let next = one.holds (l.tells ∙ told) in in_order_then a.names wanted all name made (l.holds told) (next.0, sym (ap (λ (names : Names). names name) (l.names told)) ∙ next.1, next.2));
   }
 

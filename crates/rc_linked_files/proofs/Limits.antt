@@ -122,7 +122,7 @@ append_strings (t.struct at name fields ∷ is) ys = append_strings is ys
 append_strings (t.global at ty name count c ∷ is) ys = append_strings is ys
 append_strings (t.function at deletes result name params body ∷ is) ys = ap (λ x. strings_in_body body ++ x) (append_strings is ys) ∙ sym (append_assoc (strings_in_body body) (strings_in_items is) (strings_in_items ys))
 
-joined_strings : (trees : List t.Tree) (earlier : List t.Item) (n : ℕ) → strings_in_items (joined_behind earlier n trees) ≡ strings_in_items (all_items trees)
+pub joined_strings : (trees : List t.Tree) (earlier : List t.Item) (n : ℕ) → strings_in_items (joined_behind earlier n trees) ≡ strings_in_items (all_items trees)
 joined_strings [] earlier n = refl
 joined_strings (tree ∷ trees) earlier n =
     let later = joined_behind (earlier ++ tree.items) (n + most_text_bytes) trees in

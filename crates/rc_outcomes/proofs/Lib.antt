@@ -1,5 +1,6 @@
 pub mod Files
 pub mod Flushing
+pub mod Linked
 pub mod MadeTexts
 pub mod OneOutcome
 pub mod Reports

@@ -9,6 +9,7 @@ use Rattle.rc_compile.specs.declared.refusal.Refusal.{Refusal}
 use Rattle.rc_compile.proofs.EveryText.{decided}
 use Rattle.rc_compile.proofs.InPlace.{accepted_in_place}
 use Rattle.rc_compile.proofs.OneAnswer.{not_both, one_program, one_refusal}
+use Rattle.rc_core.specs.Deletes.{DeletesInPlace}
 use Rattle.rc_core.specs.Meaning.{meaning}
 use Rattle.rc_core.specs.Programs.{Program}
 use Rattle.rc_core.specs.Runs.{Ends}
@@ -28,8 +29,9 @@ use Rattle.rc_outcomes.specs.Images.{Carried, carried_by}
 use Rattle.rc_outcomes.specs.Footprint.{AreThere, footprint}
 use Rattle.rc_outcomes.specs.Bytes.{AreBytes, HasBytes}
 use Rattle.rc_outcomes.specs.Outcome.{Compiles, Executes, IsOutcome, Leaving, Lists, OfImage, OfRead, OfScriptFile, OfTasksFile, OfText, OfTextFile, Outcome, ReportsOn, Runs, RunsTasks, Soaks, Upgrades, accepts, answers, as_left, as_they_are, broken, came, refusal_of_code, refuses, reports, reports_leaving, runs, script_outcome, sound, stores, unpinned, unsaid}
-use Rattle.rc_requests.specs.Request.{Request, Run, Slow, Compile, Exec, Listing, Upgrade, Script, Checks, Soak, Tasks, usual_limits}
+use Rattle.rc_requests.specs.Request.{Request, Run, Slow, Compile, Exec, Listing, Upgrade, Script, Checks, Soak, Tasks, Link, usual_limits}
 use Rattle.rc_answers.specs.declared.answer.Done.TheVariants.{ImageRefused, Refused, Usage}
+use Rattle.rc_outcomes.proofs.Linked.{files_linked, one_of_files}
 use Rattle.rc_outcomes.proofs.MadeTexts.{generated_bytes}
 use Rattle.rc_outcomes.proofs.Tasks.{by_tasks, one_by_tasks}
 use Rattle.rc_outcomes.proofs.Ways.{an_end, same_text}
@@ -63,11 +65,15 @@ file_outcome file text_of Made files input some there = by (files file) refl whe
   by None is = absurd (there is)
   by (Some bytes) is = let found = text_outcome (Made input) (text_of bytes) (some bytes is) in (found.0, (bytes, is, found.1))
 
--- a program that is accepted comes to an end
-pub run_outcome : (leaves : Leaving) (limits : Limits) (input text : List ℕ) (program : Program) → Accepted text program → (outcome : Outcome) × Runs leaves limits input program outcome
-run_outcome leaves limits input text program accepted =
-    let e = an_end (meaning program input limits).end (never_touches_deleted program input limits (accepted_in_place text program accepted)) in
+-- a program that deletes in place comes to an end
+pub run_of : (leaves : Leaving) (limits : Limits) (input : List ℕ) (program : Program) → DeletesInPlace program → (outcome : Outcome) × Runs leaves limits input program outcome
+run_of leaves limits input program in_place =
+    let e = an_end (meaning program input limits).end (never_touches_deleted program input limits in_place) in
     (runs (meaning program input limits).acts e.0 (leaves program input limits), record { end = e.0; ends = e.1; comes = refl })
+
+-- so does one that is accepted
+run_outcome : (leaves : Leaving) (limits : Limits) (input text : List ℕ) (program : Program) → Accepted text program → (outcome : Outcome) × Runs leaves limits input program outcome
+run_outcome leaves limits input text program accepted = run_of leaves limits input program (accepted_in_place text program accepted)
 
 -- the program of bytes has a report
 report_of : (text : List ℕ) → Every IsByte text → (program : Program) → Accepted text program → (all : List Entry) × IsReportOf program all
@@ -138,12 +144,13 @@ some_outcome (Some (Script file limits)) files input there bytes = script_some f
 some_outcome (Some (Checks file)) files input there bytes = file_outcome file as_they_are ReportsOn files input (λ text is. reported_outcome input text (bytes text is)) (there file (0, omega arith, refl))
 some_outcome (Some (Soak n)) files input there bytes = text_outcome (Soaks n) (generated n) (soaked_outcome n (generated n) (generated_bytes n))
 some_outcome (Some (Tasks file choices limits)) files input there bytes = tasks_some file choices limits files input bytes.0 bytes.1 (there file (0, omega arith, refl))
+some_outcome (Some (Link to wanted)) files input there bytes = files_linked to wanted files input bytes.0 bytes.1 there
 
 -- two outcomes of one text are one
 same_end : (program : Program) (input : List ℕ) (limits : Limits) (one other : End) → (meaning program input limits).end ≡ Ends one → (meaning program input limits).end ≡ Ends other → one ≡ other
 same_end program input limits one other is also = let e : Ends one ≡ Ends other = sym is ∙ also in cc
 
-one_run : (leaves : Leaving) (limits : Limits) (input : List ℕ) (one other : Outcome) (program : Program) → Runs leaves limits input program one → Runs leaves limits input program other → one ≡ other
+pub one_run : (leaves : Leaving) (limits : Limits) (input : List ℕ) (one other : Outcome) (program : Program) → Runs leaves limits input program one → Runs leaves limits input program other → one ≡ other
 one_run leaves limits input one other program is also =
     is.comes ∙ ap (λ (e : End). runs (meaning program input limits).acts e (leaves program input limits)) (same_end program input limits is.end also.end is.ends also.ends) ∙ sym also.comes
 
@@ -178,7 +185,7 @@ one_execution limits input one other carried (broken v a c) (broken w b d) = c �
 one_script : (file : List ℕ) (limits : Limits) (files : Names) (one other : Outcome) → OfScriptFile file limits files one → OfScriptFile file limits files other → one ≡ other
 one_script file limits files one other (text, is, so) (text', is', so') = so ∙ ap (script_outcome limits) (same_text files file text text' is is') ∙ sym so'
 
-one_compiled : (to input : List ℕ) (one other : Outcome) (program : Program) → Compiles to input program one → Compiles to input program other → one ≡ other
+pub one_compiled : (to input : List ℕ) (one other : Outcome) (program : Program) → Compiles to input program one → Compiles to input program other → one ≡ other
 one_compiled to input one other program is also =
     is.comes ∙ ap (λ (image : Parts). stores to (spelling Two image)) (one_image program is.image also.image is.compiled also.compiled) ∙ sym also.comes
 
@@ -212,6 +219,7 @@ one_outcome (Some (Script file limits)) files input one other is also = one_scri
 one_outcome (Some (Checks file)) files input one other is also = one_of_file file as_they_are ReportsOn files input one other (one_reported input one other) is also
 one_outcome (Some (Soak n)) files input one other is also = one_of_text (Soaks n) (generated n) one other (one_soaked n one other) is also
 one_outcome (Some (Tasks file choices limits)) files input one other is also = one_of_tasks file choices limits files input one other is also
+one_outcome (Some (Link to wanted)) files input one other is also = one_of_files wanted (Compiles to) files input one other (one_compiled to input one other) is also
 
 pub accepted_never : (text : List ℕ) (program : Program) (input : List ℕ) (limits : Limits) → Accepted text program → NeverTouchesDeleted program input limits
 accepted_never text program input limits accepted = never_touches_deleted program input limits (accepted_in_place text program accepted)

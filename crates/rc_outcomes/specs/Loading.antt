@@ -1,5 +1,5 @@
 -- Loading a file, and several files one behind the other.
-use Rattle.std.specs.Prelude.{◌≡◌, ◌⊎◌, ◌≤◌, ℕ, List, [], ◌∷◌, Some, Contains, IsTrue}
+use Rattle.std.specs.Prelude.{◌≡◌, ◌⊎◌, ◌≤◌, ℕ, List, [], ◌∷◌, length, Some, Contains, IsTrue}
 use Rattle.rc_base.specs.Causes.{Rose}
 use Rattle.rc_base.specs.Shelves.{Lacks, Names, ShelfState}
 use Rattle.rc_answers.specs.declared.answer.Fault.TheVariants.{FileFault, Memory}
@@ -32,11 +32,19 @@ HoldInOrder Holds files (name ∷ wanted) (made ∷ all) = ((bytes : List ℕ) �
 HoldInOrder Holds files [] (made ∷ all) = ⊥
 HoldInOrder Holds files (name ∷ wanted) [] = ⊥
 
--- all were read
+-- these are the bytes of each, in their order
+abbrev pub Have : Names → (wanted : List (List ℕ)) → (texts : List (List ℕ)) → Type 0
+Have files [] [] = Unit {0}
+Have files (name ∷ wanted) (text ∷ texts) = (files name ≡ Some text) × Have files wanted texts
+Have files [] (text ∷ texts) = ⊥
+Have files (name ∷ wanted) [] = ⊥
+
+-- all were read, and something was made of each
 pub record LoadedAll {T : Type 0} (Holds : T → List ℕ → Type 0) (wanted : List (List ℕ)) (files files' : ShelfState) (all : List T) : Type 0 where
   pub tells : files'.tells ≡ files.tells
   pub names : IsTrue files.tells → files'.names ≡ files.names
   pub kept : files'.faults ≡ files.faults
+  pub count : length all ≡ length wanted
   pub holds : IsTrue files.tells → HoldInOrder Holds files.names wanted all
 
 -- one isn't there, or the shelf failed, or there was no memory

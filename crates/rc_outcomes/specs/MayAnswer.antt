@@ -1,10 +1,10 @@
 -- Which answers a request may have.
 use Rattle.std.specs.Prelude.{◌≡◌, ◌⊎◌, Option, Some, None}
-use Rattle.rc_answers.specs.Answers.{IsOfBytes, IsOfCode}
+use Rattle.rc_answers.specs.Answers.{IsOfBytes, IsOfCode, IsOfCounts}
 use Rattle.rc_answers.specs.declared.answer.Done.{Done}
-use Rattle.rc_answers.specs.declared.answer.Done.TheVariants.{Ended, StaleImage, Refused, ImageRefused, Wrote, Reported, Usage}
+use Rattle.rc_answers.specs.declared.answer.Done.TheVariants.{Ended, StaleImage, Refused, ImageRefused, UnitRefused, LinkRefused, Wrote, Reported, Usage}
 use Rattle.rc_compile.specs.declared.refusal.Refusal.TheVariants.{TooLong}
-use Rattle.rc_requests.specs.Request.{Request, Run, Slow, Compile, Exec, Listing, Upgrade, Script, Checks, Soak, Tasks}
+use Rattle.rc_requests.specs.Request.{Request, Run, Slow, Compile, Exec, Listing, Upgrade, Script, Checks, Soak, Tasks, Link}
 
 -- a text ends its run or is refused
 abbrev pub EndsOrIsRefused : Done → Type 0
@@ -49,6 +49,14 @@ ReportsOrRefusesText Reported = Unit {0}
 ReportsOrRefusesText (Refused refusal) = Unit {0}
 ReportsOrRefusesText _ = ⊥
 
+-- files are linked, or refused: one by itself, never for the counts of a program, or all together, as a program only for these
+abbrev pub LinksOrIsRefused : Done → Type 0
+LinksOrIsRefused Wrote = Unit {0}
+LinksOrIsRefused (UnitRefused number refusal) = ¬ IsOfCounts refusal
+LinksOrIsRefused (LinkRefused refusal) = Unit {0}
+LinksOrIsRefused (Refused refusal) = IsOfCounts refusal
+LinksOrIsRefused _ = ⊥
+
 -- the row of each request; words that ask nothing have the usage alone
 abbrev pub MayAnswer : Option Request → Done → Type 0
 MayAnswer None done = done ≡ Usage
@@ -62,3 +70,4 @@ MayAnswer (Some (Script file limits)) done = ReportsOrIsTooLong done
 MayAnswer (Some (Checks file)) done = ReportsOrRefusesText done
 MayAnswer (Some (Soak n)) done = ReportsOrRefusesText done
 MayAnswer (Some (Tasks file choices limits)) done = EndsOrIsRefused done
+MayAnswer (Some (Link to wanted)) done = LinksOrIsRefused done

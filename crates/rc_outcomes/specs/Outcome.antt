@@ -9,7 +9,7 @@ use Rattle.rc_base.specs.Sources.{SourceState}
 use Rattle.rc_base.specs.declared.ends.End.{End}
 use Rattle.rc_base.specs.declared.ends.Limits.{Limits}
 use Rattle.rc_code.specs.declared.image.Parts.{Parts}
-use Rattle.rc_compile.specs.Acceptance.{Accepted, HasTree}
+use Rattle.rc_compile.specs.Acceptance.{Accepted, HasTree, TooMuch}
 use Rattle.rc_compile.specs.Acceptance as acceptance
 use Rattle.rc_compile.specs.declared.refusal.Refusal.{Refusal}
 use Rattle.rc_compile.specs.declared.refusal.Refusal.TheVariants as refusal
@@ -36,14 +36,19 @@ use Rattle.rc_replies.specs.Stores.{IsSame}
 use Rattle.rc_store.specs.Kept.{KeptStore}
 use Rattle.rc_outcomes.specs.Footprint.{TellsWhatIsUsed, footprint}
 use Rattle.rc_outcomes.specs.Images.{Carried, carried_by}
+use Rattle.rc_outcomes.specs.Loading.{Have}
 use Rattle.rc_outcomes.specs.Outside.{Outside}
-use Rattle.rc_requests.specs.Request.{Request, Run, Slow, Compile, Exec, Listing, Upgrade, Script, Checks, Soak, Tasks, usual_limits}
+use Rattle.rc_requests.specs.Request.{Request, Run, Slow, Compile, Exec, Listing, Upgrade, Script, Checks, Soak, Tasks, Link, usual_limits}
 use Rattle.rc_answers.specs.Answers.{IsQuiet}
 use Rattle.rc_answers.specs.declared.answer.Done.{Done}
-use Rattle.rc_answers.specs.declared.answer.Done.TheVariants.{Ended, StaleImage, Refused, ImageRefused, Wrote, Reported, Usage}
+use Rattle.rc_answers.specs.declared.answer.Done.TheVariants.{Ended, StaleImage, Refused, ImageRefused, UnitRefused, LinkRefused, Wrote, Reported, Usage}
 use Rattle.rc_answers.specs.declared.answer.Fault.{Fault}
 use Rattle.rc_answers.specs.declared.answer.Fault.TheVariants.{FileFault, ReadFault, WriteFault, ErrFault, Memory}
 use Rattle.rc_answers.specs.declared.image_refusal.ImageRefusal.{ImageRefusal}
+use Rattle.rc_answers.specs.declared.link_refusal.LinkRefusal.{LinkRefusal}
+use Rattle.rc_link.specs.Answers.{refusal_of}
+use Rattle.rc_linked_texts.specs.Texts.{AreApart, AreProgram, FirstRefused}
+use Rattle.rc_rlang.specs.Bounds.{IsWithinBounds}
 use Rattle.rc_answers.specs.declared.image_refusal.ImageRefusal.TheVariants.{Target, Height, Kind, Number}
 use Rattle.rc_image.specs.Spelling.{spelling}
 use Rattle.rc_image.specs.declared.version.Version.TheVariants.{Two}
@@ -185,6 +190,20 @@ abbrev pub OfTasksFile : (file choices : List ℕ) → Limits → Names → (inp
 OfTasksFile file choices limits files input outcome =
     (text : List ℕ) × (files file ≡ Some text) × OfText (RunsTasks limits choices (task_text_of text choices) input) (task_text_of text choices) outcome
 
+-- ---- several texts
+
+-- what is made of the program that texts are together. They are refused for the first that is no file of a program, for what keeps them
+-- apart, or for what their program needs too much of
+pub data OfTexts (Made : Program → Outcome → Type 0) (texts : List (List ℕ)) (outcome : Outcome) : Type 0 where
+  refuses_one : (number : ℕ) (refusal : Refusal) → FirstRefused 1 texts number refusal → outcome ≡ answers (UnitRefused number refusal) → OfTexts Made texts outcome
+  keeps_apart : (refusal : LinkRefusal) → AreApart texts (refusal_of refusal) → outcome ≡ answers (LinkRefused refusal) → OfTexts Made texts outcome
+  refuses_all : (program : Program) (refusal : Refusal) → AreProgram texts program → TooMuch program refusal → outcome ≡ answers (Refused refusal) → OfTexts Made texts outcome
+  links : (program : Program) → AreProgram texts program → IsWithinBounds program → Made program outcome → OfTexts Made texts outcome
+
+-- and of that which several files have
+abbrev pub OfFiles : (wanted : List (List ℕ)) → (Made : List ℕ → Program → Outcome → Type 0) → Names → (input : List ℕ) → Outcome → Type 0
+OfFiles wanted Made files input outcome = (texts : List (List ℕ)) × Have files wanted texts × OfTexts (Made input) texts outcome
+
 -- ---- images
 
 -- what comes of a file that carries an image; bytes that carry none are refused
@@ -240,6 +259,7 @@ IsOutcome (Some (Script file limits)) files input outcome = OfScriptFile file li
 IsOutcome (Some (Checks file)) files input outcome = OfTextFile file as_they_are ReportsOn files input outcome
 IsOutcome (Some (Soak n)) files input outcome = OfText (Soaks n) (generated n) outcome
 IsOutcome (Some (Tasks file choices limits)) files input outcome = OfTasksFile file choices limits files input outcome
+IsOutcome (Some (Link to wanted)) files input outcome = OfFiles wanted (Compiles to) files input outcome
 
 -- the outcome, where what comes to it tells what it has
 pub record Comes (request : Option Request) (before : Outside) (outcome : Outcome) : Type 0 where

@@ -9,7 +9,8 @@ ghost use Rattle.rc_compile.specs.Acceptance.{Accepted};
 ghost use Rattle.rc_core.specs.Numbers.{IsByte};
 ghost use Rattle.rc_core.specs.Programs.{Program};
 ghost use Rattle.rc_outcomes.specs.Bytes.{AreBytes};
-ghost use Rattle.rc_outcomes.specs.Compiled.{HasCompiled, RunsTheSame};
+ghost use Rattle.rc_linked_texts.specs.Texts.{AreProgram};
+ghost use Rattle.rc_outcomes.specs.Compiled.{HasCompiled, HasLinked, RunsAs, RunsTheSame};
 ghost use Rattle.rc_outcomes.specs.Footprint.{AreThere, footprint};
 ghost use Rattle.rc_outcomes.specs.Images.{IsSpelled, alone, carried_by};
 ghost use Rattle.rc_outcomes.specs.Outcome.{IsOutcome, OfText, Outcome, Runs, RunsTasks, as_left};
@@ -20,7 +21,8 @@ ghost use Rattle.rc_task_text.specs.TaskText.{AreChoices, task_text_of};
 /// Whatever the words ask comes to one outcome where the names that it reads are there, and never to
 /// two, whatever bytes the files and the input have. That the image of a file, a report on its checks and
 /// what its tasks do are outcomes needs that what the file has are bytes; and choices have to be digits,
-/// as they are where words ask for tasks.
+/// as they are where words ask for tasks. That the image of several files is needs besides that
+/// there are few enough of them.
 pub fn a_request_has_one_outcome()
     ensures some { (request : Option Request) (files : Names) (input : List ℕ) → AreThere (footprint request) files → AreBytes request files → (outcome : Outcome) × IsOutcome request files input outcome }
     ensures one { (request : Option Request) (files : Names) (input : List ℕ) (one other : Outcome) → IsOutcome request files input one → IsOutcome request files input other → one ≡ other }
@@ -43,6 +45,18 @@ pub fn an_image_is_what_its_bytes_spell()
 /// than an image may be.
 pub fn a_stored_image_runs_as_its_text()
     ensures { (files : Names) (from to : List ℕ) → HasCompiled files from to → RunsTheSame files from to }
+{}
+
+/// What was stored of several texts does what their program means: on every input of bytes and within all
+/// limits executing the image comes to just that. It is asked that it is no longer than an image may be.
+pub fn a_linked_image_runs_as_its_program()
+    ensures { (files : Names) (to : List ℕ) → (has : HasLinked files to) → RunsAs files to has.program }
+{}
+
+/// No run of the program that several texts are together ever touches a deleted region, whatever its input
+/// and its limits.
+pub fn a_linked_program_never_touches_deleted()
+    ensures { (texts : List (List ℕ)) (program : Program) (input : List ℕ) (limits : Limits) → AreProgram texts program → NeverTouchesDeleted program input limits }
 {}
 
 /// The tasks of a text do just what its program does, where the lines stand behind it that run them: a

@@ -8,6 +8,7 @@ use Rattle.std.specs.Str.{bytes_eq}
 use Rattle.std.specs.Str.Parse.{digits_value}
 use Rattle.rc_base.specs.declared.ends.Limits.{Limits}
 use Rattle.rc_base.specs.Limits.{most_turns, usual_turns, most_regions, most_blocks}
+use Rattle.rc_linking.specs.Limits.{most_files}
 
 pub data Request : Type 0 where
   -- to run the program of this file within these limits
@@ -30,6 +31,8 @@ pub data Request : Type 0 where
   Soak : (n : ℕ) → Request
   -- to run the tasks of this file by these choices within these limits
   Tasks : (file choices : List ℕ) → Limits → Request
+  -- to store the image of the program that these files are together under a name
+  Link : (to : List ℕ) → (files : List (List ℕ)) → Request
 
 -- the number of a word of decimal digits without a leading zero, where it is no more than `most`
 abbrev pub number_within : (most : ℕ) → List ℕ → Option ℕ
@@ -101,7 +104,11 @@ abbrev pub with_choices : ((choices : List ℕ) → Limits → Request) → List
 with_choices request (choices ∷ options) = if are_choices choices then option_map (request choices) (limits_of options) else None
 with_choices request [] = None
 
--- a verb, any word as the name of a file, and options, another name or choices, or a number; none for every other list of words
+-- from one to so many names of files
+abbrev pub with_files : (List (List ℕ) → Request) → List (List ℕ) → Option Request
+with_files request files = if nat_le 1 (length files) && nat_le (length files) most_files then Some (request files) else None
+
+-- a verb, any word as the name of a file, and options, other names or choices, or a number; none for every other list of words
 abbrev pub request_of : List (List ℕ) → Option Request
 request_of (verb ∷ file ∷ rest) =
     if bytes_eq verb (codes "run") then option_map (Run file) (limits_of rest) else
@@ -113,5 +120,6 @@ request_of (verb ∷ file ∷ rest) =
     if bytes_eq verb (codes "heap") then option_map (Script file) (limits_within 0 rest) else
     if bytes_eq verb (codes "checks") then ending (Checks file) rest else
     if bytes_eq verb (codes "soak") then ending_number Soak file rest else
-    if bytes_eq verb (codes "tasks") then with_choices (Tasks file) rest else None
+    if bytes_eq verb (codes "tasks") then with_choices (Tasks file) rest else
+    if bytes_eq verb (codes "link") then with_files (Link file) rest else None
 request_of _ = None

@@ -6,7 +6,7 @@ ghost use Rattle.std.specs.Option.{option_map};
 ghost use Rattle.std.specs.Fmt.{decimal};
 ghost use Rattle.std.specs.Str.{bytes_eq};
 ghost use Rattle.rc_requests.specs.Asking.{asks, bytes_of, chosen};
-ghost use Rattle.rc_requests.specs.Request.{Checks, Compile, Listing, Soak, Tasks, Upgrade, are_choices, ending, ending_in_name, ending_number, limits_of, limits_within, number_within, option, request_of, with_choices};
+ghost use Rattle.rc_requests.specs.Request.{Checks, Compile, Link, Listing, Soak, Tasks, Upgrade, are_choices, ending, ending_in_name, ending_number, limits_of, limits_within, number_within, option, request_of, with_choices, with_files};
 
 use itoa::Buffer;
 use rc_base::{Limits, MOST_BLOCKS, MOST_REGIONS, MOST_TURNS, USUAL_TURNS};
@@ -34,10 +34,16 @@ pub enum Request<'a> {
     Soak(u64),
     /// To run the tasks of the file by the choices, which are from 1 to 1,000 decimal digits.
     Tasks(&'a str, &'a str, Limits),
+    /// To store the image of the program that the files are together under the name. There are from 1
+    /// to 16 of them.
+    Link(&'a str, &'a [String]),
 }
 
 /// How many choices there may be.
 const MOST_CHOICES: usize = 1_000;
+
+/// How many files there may be of one program.
+const MOST_FILES: usize = 16;
 
 /// The number of an option, and the words behind it.
 #[derive(Clone, Copy)]
@@ -207,6 +213,20 @@ fn tasks<'a>(file: &'a str, rest: &'a [String]) -> Option<Request<'a>>
     Some(Request::Tasks(file, choices.as_str(), limits))
 }
 
+/// To store the image of a program of several files under this name, where from 1 to 16 names stand
+/// behind.
+fn link<'a>(to: &'a str, rest: &'a [String]) -> Option<Request<'a>>
+    ensures { option_map asks result ≡ with_files (Link to.now) (bytes_of rest.now) }
+{
+    if rest.is_empty() {
+        return None;
+    }
+    if rest.len() > MOST_FILES {
+        return None;
+    }
+    Some(Request::Link(to, rest))
+}
+
 fn asking<'a>(verb: &str, file: &'a str, rest: &'a [String]) -> Option<Request<'a>>
     ensures { option_map asks result ≡ request_of (verb.now ∷ file.now ∷ bytes_of rest.now) }
 {
@@ -244,11 +264,14 @@ fn asking<'a>(verb: &str, file: &'a str, rest: &'a [String]) -> Option<Request<'
     if verb == "tasks" {
         return tasks(file, rest);
     }
+    if verb == "link" {
+        return link(file, rest);
+    }
     None
 }
 
-/// What the words ask, if anything: a verb, a file's name, which may be any word, and options, another
-/// name or choices; or a verb and a number.
+/// What the words ask, if anything: a verb, a file's name, which may be any word, and options, other
+/// names or choices; or a verb and a number.
 pub fn request_of<'a>(words: &'a [String]) -> Option<Request<'a>>
     ensures { option_map asks result ≡ request_of (bytes_of words.now) }
 {

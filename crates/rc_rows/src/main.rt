@@ -48,7 +48,7 @@ use rc_row_files::compare_files;
 use row::Row;
 use std::process::ExitCode;
 
-const FILES: [&str; 17] = [
+const FILES: [&str; 18] = [
     "words.rows",
     "programs.rows",
     "values.rows",
@@ -66,6 +66,7 @@ const FILES: [&str; 17] = [
     "checks.rows",
     "soak.rows",
     "tasks.rows",
+    "link.rows",
 ];
 
 fn main(rt: HostRuntime) -> ExitCode {

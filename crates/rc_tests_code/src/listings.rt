@@ -1,7 +1,7 @@
 // The images of small programs, row by row: a text, and the listing of its image.
 
-use rc_compile::program;
-use rc_emit::compile_program;
+use rc_build::finish;
+use rc_compile::typed_program;
 use rc_listing::list;
 use std::alloc::Global;
 use std::test::Fail;
@@ -44,10 +44,8 @@ const ROWS: [(&[u8], &str); 7] = [
 
 /// Whether the image of the text has the listing.
 fn is_listed(alloc: Global, text: &[u8], listing: &str) -> Result<bool, Fail> {
-    let program = program(alloc, text)?;
-    let Ok(image) = compile_program(alloc, &program) else {
-        return Ok(false);
-    };
+    let program = typed_program(alloc, text)?;
+    let image = finish(alloc, &program)?;
     Ok(list(alloc, &image)?.as_slice() == listing.as_bytes())
 }
 

@@ -2,14 +2,15 @@
 // `count` refuses them is in rows of rc_rows.
 
 use crate::repeated::Repeated;
-use rc_compile::program;
+use rc_compile::{typed_program, within_bounds};
 use rc_elab::elaborate;
 use std::alloc::Global;
 use std::test::Fail;
 
-/// Whether the text is a program and is translated.
+/// Whether the text is a program, keeps within the bounds and is translated.
 fn is_translated(alloc: Global, text: &Repeated<'_>) -> Result<bool, Fail> {
-    let program = program(alloc, &text.text(alloc)?)?;
+    let program = typed_program(alloc, &text.text(alloc)?)?;
+    within_bounds(alloc, &program)?;
     Ok(elaborate(alloc, &program).is_ok())
 }
 

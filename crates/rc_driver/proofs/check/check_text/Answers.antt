@@ -1,4 +1,4 @@
-use Rattle.std.proofs.Common.{ℕ, List, Ok, refl, subst, sym}
+use Rattle.std.proofs.Common.{List, Ok, refl, subst, sym}
 use Rattle.rc_compile.specs.Compiles.{IsReason}
 use Rattle.rc_compile.specs.declared.fault.CompileFault.{CompileFault}
 use Rattle.rc_compile.specs.declared.refusal.Refusal.{Refusal}

@@ -1,14 +1,15 @@
-use Rattle.std.proofs.Common.{◌∙◌, map, Ok, Option, Some, ap, subst, sym}
+use Rattle.std.proofs.Common.{◌≤◌, ◌∙◌, map, Ok, Option, Some, ap, subst, sym}
 use Rattle.std.specs.Prelude.{string_bytes}
-use Rattle.rc_requests.specs.Asking.{asks}
-use Rattle.rc_requests.proofs.Choices.{asked_choices}
+use Rattle.std.proofs.lemmas.List.{length-map}
+use Rattle.rc_requests.specs.Asking.{asks, bytes_of}
+use Rattle.rc_requests.proofs.Asked.{asked_choices, asked_files}
 use Rattle.rc_outcomes.specs.Outside.{outside}
 use Rattle.rc_outcomes.specs.Performing.{Performs}
-use Rattle.rc_requests.specs.Request.{Request, Run, Slow, Compile, Exec, Listing, Upgrade, Script, Checks, Soak, Tasks}
+use Rattle.rc_requests.specs.Request.{Request, Run, Slow, Compile, Exec, Listing, Upgrade, Script, Checks, Soak, Tasks, Link}
 use Rattle.rc_requests.specs.declared.request.Request.{Request as Asked}
 use Rattle.rc_answers.specs.declared.answer.Done.TheVariants.{Usage}
 use Rattle.rc_driver.proofs.EvaluationRows.{slow_row}
-use Rattle.rc_driver.proofs.ProgramRows.{compile_row, run_row, tasks_row}
+use Rattle.rc_driver.proofs.ProgramRows.{compile_row, link_row, run_row, tasks_row}
 use Rattle.rc_driver.proofs.Executions.{exec_row}
 use Rattle.rc_files.proofs.ImageFiles.{list_row, upgrade_row}
 use Rattle.rc_driver.proofs.ScriptRows.{script_row}
@@ -71,6 +72,17 @@ pub returns-in-Some-Tasks : goal.returns-in-Some-Tasks
 returns-in-Some-Tasks g c = λ err. subst (λ (request : Option Request). Performs request (outside (g.F.Shelf.state c.args.files.now) (g.S.Source.state c.args.input.now) (g.O.Sink.state c.args.out.now) err (g.H.Heap.store c.args.heap.now)) (outside (g.F.Shelf.state c.run_tasks.new.files) (g.S.Source.state c.run_tasks.new.input) (g.O.Sink.state c.run_tasks.new.out) err (g.H.Heap.store c.run_tasks.new.heap)) c.run_tasks.result)
     (ap (λ (r : Asked). Some (asks r)) (sym c.in-Some-Tasks.field-0-is) ∙ c.in-Some-Tasks.ensures)
     (c.run_tasks.ensures (Some (Tasks c.in-Some-Tasks.file.now c.in-Some-Tasks.choices.now c.in-Some-Tasks.limits)) err (tasks_row c.in-Some-Tasks.file.now c.in-Some-Tasks.choices.now c.in-Some-Tasks.limits))
+
+pub link_files-requires : goal.link_files-requires
+link_files-requires g c =
+    subst (λ n. n ≤ 16) (length-map c.in-Some-Link.names.now string_bytes)
+    (asked_files (map string_bytes c.args.words.now) c.in-Some-Link.to.now (bytes_of c.in-Some-Link.names.now)
+    (sym (ap (λ (r : Asked). Some (asks r)) (sym c.in-Some-Link.field-0-is) ∙ c.in-Some-Link.ensures))).1
+
+pub returns-in-Some-Link : goal.returns-in-Some-Link
+returns-in-Some-Link g c = λ err. subst (λ (request : Option Request). Performs request (outside (g.F.Shelf.state c.args.files.now) (g.S.Source.state c.args.input.now) (g.O.Sink.state c.args.out.now) err (g.H.Heap.store c.args.heap.now)) (outside (g.F.Shelf.state c.link_files.new.files) (g.S.Source.state c.args.input.now) (g.O.Sink.state c.args.out.now) err (g.H.Heap.store c.args.heap.now)) c.link_files.result)
+    (ap (λ (r : Asked). Some (asks r)) (sym c.in-Some-Link.field-0-is) ∙ c.in-Some-Link.ensures)
+    (c.link_files.ensures (Some (Link c.in-Some-Link.to.now (bytes_of c.in-Some-Link.names.now))) (g.S.Source.state c.args.input.now) (g.O.Sink.state c.args.out.now) err (g.H.Heap.store c.args.heap.now) (link_row c.in-Some-Link.to.now (bytes_of c.in-Some-Link.names.now)))
 
 pub returns-in-None : goal.returns-in-None
 returns-in-None g c = λ err. subst (λ (request : Option Request). Performs request (outside (g.F.Shelf.state c.args.files.now) (g.S.Source.state c.args.input.now) (g.O.Sink.state c.args.out.now) err (g.H.Heap.store c.args.heap.now)) (outside (g.F.Shelf.state c.args.files.now) (g.S.Source.state c.args.input.now) (g.O.Sink.state c.args.out.now) err (g.H.Heap.store c.args.heap.now)) (Ok Usage)) c.in-None.ensures (asks_usage (outside (g.F.Shelf.state c.args.files.now) (g.S.Source.state c.args.input.now) (g.O.Sink.state c.args.out.now) err (g.H.Heap.store c.args.heap.now)))

@@ -1,7 +1,7 @@
 use Rattle.std.proofs.Common.{◌∙◌, arith, ap, sym}
 use Rattle.std.specs.Char.{is_ascii_digit}
 use Rattle.std.specs.List.{list_all}
-use Rattle.rc_requests.proofs.Choices.{choices_so}
+use Rattle.rc_requests.proofs.Asked.{choices_so}
 use Rattle.rc_requests.proofs.request.are_choices.Goals as goal
 
 pub returns : goal.returns

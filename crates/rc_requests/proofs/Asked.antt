@@ -1,4 +1,4 @@
--- What words ask of tasks has choices.
+-- What words ask of tasks has choices, and what they ask of several files has from one to so many.
 use Rattle.std.proofs.Common.{◌≡◌, ◌≤◌, ◌<◌, ◌∙◌, ◌&&◌, ℕ, Bool, true, false, List, [], ◌∷◌, length, nat_eq, Option, Some, None, IfSome, leb, refl, sym, ap, subst, arith}
 use Rattle.std.specs.Prelude.{codes, if◌then◌else◌}
 use Rattle.std.specs.Char.{is_ascii_digit}
@@ -8,7 +8,7 @@ use Rattle.std.specs.Str.{bytes_eq}
 use Rattle.std.proofs.lemmas.Bool.Decides.{nat_tests}
 use Rattle.rc_base.specs.declared.ends.Limits.{Limits}
 use Rattle.rc_task_text.specs.TaskText.{AreChoices}
-use Rattle.rc_requests.specs.Request.{Request, Run, Slow, Compile, Exec, Listing, Upgrade, Script, Checks, Soak, Tasks, are_choices, ending, ending_in_name, ending_number, limits_of, limits_within, most_made, number_within, request_of, with_choices}
+use Rattle.rc_requests.specs.Request.{Request, Run, Slow, Compile, Exec, Listing, Upgrade, Script, Checks, Soak, Tasks, Link, are_choices, ending, ending_in_name, ending_number, limits_of, limits_within, most_made, number_within, request_of, with_choices, with_files}
 
 -- ---- words of digits
 
@@ -42,50 +42,58 @@ choices_so word digits some few is =
 
 -- ---- what is asked
 
-abbrev HasChoices : Request → Type 0
-HasChoices (Run file limits) = Unit {0}
-HasChoices (Slow file limits) = Unit {0}
-HasChoices (Compile from to) = Unit {0}
-HasChoices (Exec file limits) = Unit {0}
-HasChoices (Listing file) = Unit {0}
-HasChoices (Upgrade from to) = Unit {0}
-HasChoices (Script file limits) = Unit {0}
-HasChoices (Checks file) = Unit {0}
-HasChoices (Soak n) = Unit {0}
-HasChoices (Tasks file choices limits) = AreChoices choices
+abbrev Fits : Request → Type 0
+Fits (Run file limits) = Unit {0}
+Fits (Slow file limits) = Unit {0}
+Fits (Compile from to) = Unit {0}
+Fits (Exec file limits) = Unit {0}
+Fits (Listing file) = Unit {0}
+Fits (Upgrade from to) = Unit {0}
+Fits (Script file limits) = Unit {0}
+Fits (Checks file) = Unit {0}
+Fits (Soak n) = Unit {0}
+Fits (Tasks file choices limits) = AreChoices choices
+Fits (Link to files) = (1 ≤ length files) × (length files ≤ 16)
 
-either : (test : Bool) (one other : Option Request) → IfSome one HasChoices → IfSome other HasChoices → IfSome (if test then one else other) HasChoices
+either : (test : Bool) (one other : Option Request) → IfSome one Fits → IfSome other Fits → IfSome (if test then one else other) Fits
 either true one other a b = a
 either false one other a b = b
 
-made : {A : Type 0} (request : A → Request) → ((a : A) → HasChoices (request a)) → (found : Option A) → IfSome (option_map request found) HasChoices
+made : {A : Type 0} (request : A → Request) → ((a : A) → Fits (request a)) → (found : Option A) → IfSome (option_map request found) Fits
 made request has None = tt
 made request has (Some a) = has a
 
-with_nothing : (request : Request) → HasChoices request → (words : List (List ℕ)) → IfSome (ending request words) HasChoices
+with_nothing : (request : Request) → Fits request → (words : List (List ℕ)) → IfSome (ending request words) Fits
 with_nothing request has [] = has
 with_nothing request has (word ∷ words) = tt
 
-with_name : (request : List ℕ → Request) → ((name : List ℕ) → HasChoices (request name)) → (words : List (List ℕ)) → IfSome (ending_in_name request words) HasChoices
+with_name : (request : List ℕ → Request) → ((name : List ℕ) → Fits (request name)) → (words : List (List ℕ)) → IfSome (ending_in_name request words) Fits
 with_name request has [] = tt
 with_name request has (name ∷ []) = has name
 with_name request has (name ∷ word ∷ words) = tt
 
-with_number : (request : ℕ → Request) → ((n : ℕ) → HasChoices (request n)) → (word : List ℕ) (words : List (List ℕ)) → IfSome (ending_number request word words) HasChoices
+with_number : (request : ℕ → Request) → ((n : ℕ) → Fits (request n)) → (word : List ℕ) (words : List (List ℕ)) → IfSome (ending_number request word words) Fits
 with_number request has word [] = made request has (number_within most_made word)
 with_number request has word (other ∷ words) = tt
 
-of_tasks : (file : List ℕ) (words : List (List ℕ)) → IfSome (with_choices (Tasks file) words) HasChoices
+of_tasks : (file : List ℕ) (words : List (List ℕ)) → IfSome (with_choices (Tasks file) words) Fits
 of_tasks file [] = tt
 of_tasks file (choices ∷ options) = by (are_choices choices) refl where
-  by : (test : Bool) → are_choices choices ≡ test → IfSome (if test then option_map (Tasks file choices) (limits_of options) else None) HasChoices
+  by : (test : Bool) → are_choices choices ≡ test → IfSome (if test then option_map (Tasks file choices) (limits_of options) else None) Fits
   by true is = made (Tasks file choices) (λ limits. choices_are choices is) (limits_of options)
   by false is = tt
 
-has_choices : (words : List (List ℕ)) → IfSome (request_of words) HasChoices
-has_choices [] = tt
-has_choices (verb ∷ []) = tt
-has_choices (verb ∷ file ∷ rest) =
+of_files : (to : List ℕ) (files : List (List ℕ)) → IfSome (with_files (Link to) files) Fits
+of_files to files = by (leb 1 (length files)) (leb (length files) 16) refl refl where
+  by : (some few : Bool) → leb 1 (length files) ≡ some → leb (length files) 16 ≡ few → IfSome (if some && few then Some (Link to files) else None) Fits
+  by true true some few = (at_most 1 (length files) some, at_most (length files) 16 few)
+  by true false some few = tt
+  by false few is also = tt
+
+all_fit : (words : List (List ℕ)) → IfSome (request_of words) Fits
+all_fit [] = tt
+all_fit (verb ∷ []) = tt
+all_fit (verb ∷ file ∷ rest) =
     either (bytes_eq verb (codes "run")) _ _ (made (Run file) (λ limits. tt) (limits_of rest))
     (either (bytes_eq verb (codes "slow")) _ _ (made (Slow file) (λ limits. tt) (limits_of rest))
     (either (bytes_eq verb (codes "compile")) _ _ (with_name (Compile file) (λ name. tt) rest)
@@ -95,7 +103,11 @@ has_choices (verb ∷ file ∷ rest) =
     (either (bytes_eq verb (codes "heap")) _ _ (made (Script file) (λ limits. tt) (limits_within 0 rest))
     (either (bytes_eq verb (codes "checks")) _ _ (with_nothing (Checks file) tt rest)
     (either (bytes_eq verb (codes "soak")) _ _ (with_number Soak (λ n. tt) file rest)
-    (either (bytes_eq verb (codes "tasks")) _ None (of_tasks file rest) tt)))))))))
+    (either (bytes_eq verb (codes "tasks")) _ _ (of_tasks file rest)
+    (either (bytes_eq verb (codes "link")) _ None (of_files file rest) tt))))))))))
 
 pub asked_choices : (words : List (List ℕ)) (file choices : List ℕ) (limits : Limits) → request_of words ≡ Some (Tasks file choices limits) → AreChoices choices
-asked_choices words file choices limits is = subst (λ (request : Option Request). IfSome request HasChoices) is (has_choices words)
+asked_choices words file choices limits is = subst (λ (request : Option Request). IfSome request Fits) is (all_fit words)
+
+pub asked_files : (words : List (List ℕ)) (to : List ℕ) (files : List (List ℕ)) → request_of words ≡ Some (Link to files) → (1 ≤ length files) × (length files ≤ 16)
+asked_files words to files is = subst (λ (request : Option Request). IfSome request Fits) is (all_fit words)

@@ -1,0 +1,5 @@
+pub mod Same
+pub mod Standing
+pub mod Alike
+pub mod Clashing
+pub mod Keeping

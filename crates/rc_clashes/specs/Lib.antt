@@ -1,0 +1,3 @@
+pub mod Standing
+pub mod Clashing
+pub mod Kept

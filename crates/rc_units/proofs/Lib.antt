@@ -1,0 +1,2 @@
+pub mod Stubbing
+pub mod Cutting
