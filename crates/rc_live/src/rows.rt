@@ -9,6 +9,7 @@ ghost use Rattle.rc_live.specs.Rows.{is_regional, numbered, Shows, ShowWays, cho
 
 use rc_base::{BitSet, NoMemory};
 use rc_core::ty::Ty;
+use smallvec::SmallVec;
 use std::alloc::Global;
 
 /// What is live at the ways on from a statement: to the next one, out of the loop around it, and to
@@ -130,12 +131,16 @@ pub(crate) fn without(names: &[u32], row: BitSet, local: u32) -> BitSet
 ///
 /// # Errors
 ///
-/// Out of memory.
-pub(crate) fn locals_of(alloc: Global, names: &[u32], row: BitSet) -> Result<Vec<u32>, NoMemory>
+/// Out of memory, which up to eight locals don't take.
+pub(crate) fn locals_of(
+    alloc: Global,
+    names: &[u32],
+    row: BitSet,
+) -> Result<SmallVec<u32, 8>, NoMemory>
     requires { length names.now ≤ 128 }
     ensures { IfOk result (λ locals. locals.items ≡ chosen names.now (marks row) 0) }
 {
-    let mut locals = Vec::new(alloc);
+    let mut locals = SmallVec::new(alloc);
     for (bit, name) in names.iter().enumerate() {
         if row.contains(bit) {
             locals.push(*name)?;

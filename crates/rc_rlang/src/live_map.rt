@@ -3,17 +3,18 @@ ghost use Rattle.std.specs.Prelude.{◌≡◌, ◌<◌, ℕ, length, map, slice_
 ghost use Rattle.rc_rlang.specs.LiveMaps.{held_of, point_in, list_at, with_listed, IsIncreasing, IsGreater, IsMap, IsPoint};
 
 use rc_base::NoMemory;
+use smallvec::SmallVec;
 use std::marker::Model;
 
-/// A deleting point, and the locals that are listed there.
+/// A deleting point, and the locals that are listed there. Up to eight stand in the list itself.
 #[derive(Debug, Drop, PartialEq, Eq)]
 pub struct Held {
     pub point: u32,
-    pub locals: Vec<u32>,
+    pub locals: SmallVec<u32, 8>,
 }
 
 /// A list of locals at each deleting point: those whose values a deletion there holds. The points
-/// increase, and so does each list. It takes memory for its points and for what is listed.
+/// increase, and so does each list. It takes memory for its points, and for lists of more than eight.
 #[derive(Drop)]
 pub struct LiveMap {
     lists: Vec<Held>,

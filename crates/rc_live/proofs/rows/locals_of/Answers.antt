@@ -13,7 +13,7 @@ loop-bit-preserved c =
     let step = chosen_drop names (marks c.args.row) bit c.loop-bit-test.true in
     elim c.if-contains.branch [
       | then-contains+in_ok-push w ↦
-          ap (λ v. v.items ++ later) w.locals-is ∙ ap (λ xs. xs ++ later) w.in_ok-push.ensures.items
+          ap (λ v. v.items ++ later) w.locals-is ∙ ap (λ xs. xs ++ later) w.in_ok-push.ensures.ok
           ∙ sym (pushed (marks c.args.row bit) (get_or names bit 0) c.loop-bit.locals.items later (sym c.contains.ensures ∙ w.if-contains.true))
           ∙ ap (λ xs. c.loop-bit.locals.items ++ xs) (sym step) ∙ c.loop-bit.invariant
       | else-contains w ↦
