@@ -6,7 +6,7 @@ use Rattle.std.proofs.lemmas.Bool.{cases_eq, false≢true}
 use Rattle.std.proofs.lemmas.List.Sums.{sum_by-cons}
 use Rattle.rc_core.specs.Heap.{names}
 use Rattle.rc_store.specs.Kept.{KeptStore, KeptView, Regions, refs, refs_outside, view_refs}
-use Rattle.rc_store.specs.Sets.{IsSet, deleted_all, is_member, refs_beside, refs_to}
+use Rattle.rc_store.specs.Sets.{IsSet, deleted_all, is_in, refs_beside, refs_to}
 use Rattle.rc_store.specs.Stores.{IsLive, all_cells, cells_in, deleted, live_in, region_at}
 use Rattle.rc_cells.specs.Together.{SetsFollow, held, without}
 use Rattle.rc_cells.proofs.Cells.{cells_follow}
@@ -30,9 +30,9 @@ none_false true b none = absurd (false≢true (sym none))
 none_false false b none = (refl, none)
 
 -- a number of a set has a place there
-pub place_of : (set : List ℕ) (n : ℕ) → is_member set n ≡ true → Contains set n
+pub place_of : (set : List ℕ) (n : ℕ) → is_in set n ≡ true → Contains set n
 place_of [] n there = absurd (false≢true there)
-place_of (m ∷ ms) n there = elim (either (nat_eq n m) (is_member ms n) there) [
+place_of (m ∷ ms) n there = elim (either (nat_eq n m) (is_in ms n) there) [
   | inl same ↦ (0, omega arith, sym (same_number n m same))
   | inr later ↦ let rest = place_of ms n later in (suc rest.0, omega (arith, rest.1), rest.2)
 ]
@@ -40,17 +40,17 @@ place_of (m ∷ ms) n there = elim (either (nat_eq n m) (is_member ms n) there) 
 -- regions that are there, none of them twice
 abbrev pub AreApart : (regions : ℕ) → List ℕ → Type 0
 AreApart regions [] = ⊤
-AreApart regions (d ∷ set) = (d < regions) × (is_member set d ≡ false) × AreApart regions set
+AreApart regions (d ∷ set) = (d < regions) × (is_in set d ≡ false) × AreApart regions set
 
 apart_in : (s : KeptStore) (set : List ℕ) → All (IsLive s) set → AllPairs (λ a b. a ≢ b) set → AreApart (length s.regions) set
 apart_in s [] live apart = tt
 apart_in s (d ∷ ds) live apart = (
   live_there s.regions d (live 0 0 (omega arith)),
-  not_there (is_member ds d) refl,
+  not_there (is_in ds d) refl,
   apart_in s ds (λ k x inside. live (suc k) x (omega (arith, inside))) (λ i j x less inside. apart (suc i) (suc j) x (omega (arith, less)) (omega (arith, inside))),
 )
   where
-    not_there : (b : Bool) → is_member ds d ≡ b → is_member ds d ≡ false
+    not_there : (b : Bool) → is_in ds d ≡ b → is_in ds d ≡ false
     not_there true there = let place = place_of ds d there in absurd (apart 0 (suc place.0) d (omega arith) (omega (arith, place.1)) (sym place.2))
     not_there false none = none
 
@@ -66,13 +66,13 @@ left s (d ∷ ds) = left (deleted d s) ds
 other_region : (s : KeptStore) (d n : ℕ) → n ≢ d → region_at (deleted d s).regions n ≡ region_at s.regions n
 other_region s d n apart = region_read (slice_set s.regions d None) n ∙ get_or-set_other s.regions d n None None apart ∙ sym (region_read s.regions n)
 
-not_same : (set : List ℕ) (d n : ℕ) → is_member set d ≡ false → is_member set n ≡ true → n ≢ d
-not_same set d n none there same = false≢true (sym none ∙ ap (is_member set) (sym same) ∙ there)
+not_same : (set : List ℕ) (d n : ℕ) → is_in set d ≡ false → is_in set n ≡ true → n ≢ d
+not_same set d n none there same = false≢true (sym none ∙ ap (is_in set) (sym same) ∙ there)
 
 -- a sum over a set hangs on what its members have
-sum_same : (f g : ℕ → ℕ) (set : List ℕ) → ((n : ℕ) → is_member set n ≡ true → f n ≡ g n) → sum_by f set ≡ sum_by g set
+sum_same : (f g : ℕ → ℕ) (set : List ℕ) → ((n : ℕ) → is_in set n ≡ true → f n ≡ g n) → sum_by f set ≡ sum_by g set
 sum_same f g [] same = refl
-sum_same f g (d ∷ ds) same = omega (arith, sum_by-cons f d ds, sum_by-cons g d ds, same d (here (nat_eq d d) (is_member ds d) (number_itself d)), sum_same f g ds (λ n there. same n (later (nat_eq n d) (is_member ds n) there)))
+sum_same f g (d ∷ ds) same = omega (arith, sum_by-cons f d ds, sum_by-cons g d ds, same d (here (nat_eq d d) (is_in ds d) (number_itself d)), sum_same f g ds (λ n there. same n (later (nat_eq n d) (is_in ds n) there)))
   where
     here : (a b : Bool) → a ≡ true → a || b ≡ true
     here true b holds = refl
@@ -103,7 +103,7 @@ cells s (d ∷ ds) apart =
     omega (arith, rest, same, cells_follow.deleted s d apart.0, sum_by-cons (λ n. cells_in (region_at s.regions n)) d ds)
 
 -- what stands at a number then
-pub without_read : {A : Type 0} (set : List ℕ) (xs : List (Option A)) (n : ℕ) → get_or (without set xs) n None ≡ cond (is_member set n) None (get_or xs n None)
+pub without_read : {A : Type 0} (set : List ℕ) (xs : List (Option A)) (n : ℕ) → get_or (without set xs) n None ≡ cond (is_in set n) None (get_or xs n None)
 without_read [] xs n = refl
 without_read {A} (m ∷ ms) xs n = without_read ms (slice_set xs m None) n ∙ by (cases_eq n m)
   where
@@ -116,43 +116,43 @@ without_read {A} (m ∷ ms) xs n = without_read ms (slice_set xs m None) n ∙ b
     gone (y ∷ ys) zero = refl
     gone (y ∷ ys) (suc k) = gone ys k
 
-    by : (n ≡ m) ⊎ (n ≢ m) → cond (is_member ms n) None (get_or (slice_set xs m None) n None) ≡ cond (nat_eq n m || is_member ms n) None (get_or xs n None)
+    by : (n ≡ m) ⊎ (n ≢ m) → cond (is_in ms n) None (get_or (slice_set xs m None) n None) ≡ cond (nat_eq n m || is_in ms n) None (get_or xs n None)
     by (inl same) =
-        ap (λ x. cond (is_member ms n) None x) (ap (λ k. get_or (slice_set xs m None) k None) same ∙ gone xs m)
-        ∙ behind (is_member ms n)
-        ∙ sym (ap (λ b. cond (b || is_member ms n) None (get_or xs n None)) (ap (λ k. nat_eq k m) same ∙ number_itself m))
+        ap (λ x. cond (is_in ms n) None x) (ap (λ k. get_or (slice_set xs m None) k None) same ∙ gone xs m)
+        ∙ behind (is_in ms n)
+        ∙ sym (ap (λ b. cond (b || is_in ms n) None (get_or xs n None)) (ap (λ k. nat_eq k m) same ∙ number_itself m))
     by (inr apart) =
-        ap (λ x. cond (is_member ms n) None x) (get_or-set_other xs m n None None apart)
-        ∙ sym (ap (λ b. cond (b || is_member ms n) None (get_or xs n None)) (number_other n m apart))
+        ap (λ x. cond (is_in ms n) None x) (get_or-set_other xs m n None None apart)
+        ∙ sym (ap (λ b. cond (b || is_in ms n) None (get_or xs n None)) (number_other n m apart))
 
 pub length-without : {A : Type 0} (set : List ℕ) (xs : List (Option A)) → length (without set xs) ≡ length xs
 length-without [] xs = refl
 length-without (m ∷ ms) xs = length-without ms (slice_set xs m None) ∙ length-set xs m None
 
 -- the references from beside a set are those of what is left
-module _ (set : List ℕ) (r : ℕ) (member : is_member set r ≡ true) where
-  at_one : (at : ℕ) (v left : Option KeptView) (b : Bool) → is_member set at ≡ b → left ≡ cond b None v → cond (is_member set at) 0 (view_refs r v) ≡ cond (nat_eq at r) 0 (view_refs r left)
+module _ (set : List ℕ) (r : ℕ) (member : is_in set r ≡ true) where
+  at_one : (at : ℕ) (v left : Option KeptView) (b : Bool) → is_in set at ≡ b → left ≡ cond b None v → cond (is_in set at) 0 (view_refs r v) ≡ cond (nat_eq at r) 0 (view_refs r left)
   at_one at v left true there is = ap (λ b. cond b 0 (view_refs r v)) there ∙ sym (ap (λ x. cond (nat_eq at r) 0 (view_refs r x)) is ∙ none (nat_eq at r))
     where
       none : (b : Bool) → cond {A = ℕ} b 0 0 ≡ 0
       none true = refl
       none false = refl
   at_one at v left false none is =
-      let apart : nat_eq at r ≡ false = number_other at r (λ same. false≢true (sym none ∙ ap (is_member set) same ∙ member)) in
+      let apart : nat_eq at r ≡ false = number_other at r (λ same. false≢true (sym none ∙ ap (is_in set) same ∙ member)) in
       ap (λ b. cond b 0 (view_refs r v)) none ∙ sym (ap (λ x. cond (nat_eq at r) 0 (view_refs r x)) is ∙ ap (λ b. cond b 0 (view_refs r v)) apart)
 
-  beside_same : (at : ℕ) (views left : Regions) → length left ≡ length views → ((i : ℕ) → get_or left i None ≡ cond (is_member set (at + i)) None (get_or views i None)) → refs_beside set r at views ≡ refs_outside r at left
+  beside_same : (at : ℕ) (views left : Regions) → length left ≡ length views → ((i : ℕ) → get_or left i None ≡ cond (is_in set (at + i)) None (get_or views i None)) → refs_beside set r at views ≡ refs_outside r at left
   beside_same at [] [] long same = refl
   beside_same at [] (l ∷ ls) long same = absurd (omega (arith, long))
   beside_same at (v ∷ vs) [] long same = absurd (omega (arith, long))
   beside_same at (v ∷ vs) (l ∷ ls) long same =
-      let here = at_one at v l (is_member set at) refl (same 0 ∙ ap (λ n. cond (is_member set n) None v) (let is : at + 0 ≡ at = omega arith in is)) in
-      let rest = beside_same (suc at) vs ls (omega (arith, long)) (λ i. same (suc i) ∙ ap (λ n. cond (is_member set n) None (get_or vs i None)) (let is : at + suc i ≡ suc at + i = omega arith in is)) in
+      let here = at_one at v l (is_in set at) refl (same 0 ∙ ap (λ n. cond (is_in set n) None v) (let is : at + 0 ≡ at = omega arith in is)) in
+      let rest = beside_same (suc at) vs ls (omega (arith, long)) (λ i. same (suc i) ∙ ap (λ n. cond (is_in set n) None (get_or vs i None)) (let is : at + suc i ≡ suc at + i = omega arith in is)) in
       omega (arith, here, rest)
 
   beside : (s : KeptStore) → refs_to s set r ≡ refs (deleted_all set s) r
   beside s =
-      ap (λ n. n + count_by (names r) s.pins) (beside_same 0 s.regions (without set s.regions) (length-without set s.regions) (λ i. without_read set s.regions i ∙ ap (λ n. cond (is_member set n) None (get_or s.regions i None)) (let is : i ≡ 0 + i = omega arith in is)))
+      ap (λ n. n + count_by (names r) s.pins) (beside_same 0 s.regions (without set s.regions) (length-without set s.regions) (λ i. without_read set s.regions i ∙ ap (λ n. cond (is_in set n) None (get_or s.regions i None)) (let is : i ≡ 0 + i = omega arith in is)))
       ∙ ap (λ (x : KeptStore). refs x r) (sym (left s set))
 
 pub sets_follow : SetsFollow

@@ -4,7 +4,7 @@ use Rattle.std.specs.Prelude.{All, Contains}
 use Rattle.std.specs.List.{sum_by}
 use Rattle.std.proofs.lemmas.List.Sums.{sum_by-cons}
 use Rattle.rc_store.specs.Kept.{KeptStore, KeptView, object_refs, refs, view_refs}
-use Rattle.rc_store.specs.Sets.{IsSet, deleted_all, has_child_outside, is_member, refs_to, set_refs}
+use Rattle.rc_store.specs.Sets.{IsSet, deleted_all, has_child_outside, is_in, refs_to, set_refs}
 use Rattle.rc_store.specs.Stores.{objects_in, or_none, region_at}
 use Rattle.rc_cells.specs.Together.{held}
 use Rattle.rc_cells.proofs.Together.{place_of, sets_follow}
@@ -66,7 +66,7 @@ module _ (before : SpaceState) (s : KeptStore) (cells : ℕ) (counted : IsCounte
     pub counted_again : (new : SpaceState) → ((r : ℕ) → count_of new r ≡ count_of mid r + all_held s.regions set r) → IsCounted new s cells
     counted_again new more = record { counts = λ r. omega (arith, more r, less r, counted.counts r); sum = counted.sum; few = counted.few; whole = counted.whole }
 
-    to_member : (r : ℕ) → is_member set r ≡ true → refs_to s set r ≡ count_of mid r
+    to_member : (r : ℕ) → is_in set r ≡ true → refs_to s set r ≡ count_of mid r
     to_member r member = sets_follow.beside s set r member ∙ sym (left_counts r)
 
     pub named_set : (r : ℕ) × Contains set r × (0 < count_of mid r) → 0 < set_refs s set

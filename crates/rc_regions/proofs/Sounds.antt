@@ -8,7 +8,7 @@ use Rattle.rc_regions.specs.Ascents.{AreAscents, AreDepths, AreLinks, AreLong, A
 use Rattle.rc_regions.specs.Slots.{slot_at, is_live, IsLive, IsParent, live_slots}
 use Rattle.rc_regions.specs.Columns.{Columns, ascended, grown, written}
 use Rattle.rc_regions.specs.Lists.{Spot, Head, Behind, AllLinked, first_of, follower, spot, spot_of, with_first, with_follower, with_previous, placed, linked, unlinked}
-use Rattle.rc_regions.specs.Sound.{IsAscended, IsSound, IsTaken}
+use Rattle.rc_regions.specs.Sound.{IsAscended, IsSoundTree, IsTaken}
 use Rattle.rc_regions.proofs.Ancestors.{is_tree, live_cases}
 use Rattle.rc_regions.proofs.Changed.{live_not_free, IsRooted-removed, AreDepths-removed, AreLinks-removed, IsRooted-added, AreDepths-added, AreLinks-added, AreAscents-moved, ancestor_moved, live_moved}
 use Rattle.rc_regions.proofs.Climbing.{power-some}
@@ -48,7 +48,7 @@ slots-unlinked : (c : Columns) (s : ℕ) → (unlinked c s).slots ≡ c.slots
 slots-unlinked c s = ap (λ (x : Unlisted). x.slots) (unlisted-unlinked c s)
 
 -- the first free slot is taken
-pub IsTaken-unlinked : (c : Columns) (s : ℕ) → IsSound c → c.first_free ≡ Some s → IsTaken c (unlinked c s) s
+pub IsTaken-unlinked : (c : Columns) (s : ℕ) → IsSoundTree c → c.first_free ≡ Some s → IsTaken c (unlinked c s) s
 IsTaken-unlinked c s sound first =
     let made : s < length c.slots = (sound.linked.stands (Head Free) s first).0 in
     let free : slot_at c.slots s ≡ Free = (spot_is_head (slot_at c.slots s) Free (c.previous s) (sound.linked.stands (Head Free) s first).1).1 in
@@ -81,7 +81,7 @@ free_beyond (x ∷ xs) zero high = absurd (omega (arith, high))
 free_beyond (x ∷ xs) (suc s) high = free_beyond xs s (omega (arith, high))
 
 -- a slot with a new record is taken
-pub IsTaken-grown : (c : Columns) → IsSound c → c.first_free ≡ None → live_slots c.slots ≤ 4294967295 → IsTaken c (grown c) (length c.slots)
+pub IsTaken-grown : (c : Columns) → IsSoundTree c → c.first_free ≡ None → live_slots c.slots ≤ 4294967295 → IsTaken c (grown c) (length c.slots)
 IsTaken-grown c sound none room =
     let long : length (c.slots ++ Free ∷ []) ≡ length c.slots + 1 = length-append c.slots (Free ∷ []) in
     let full : live_slots c.slots ≡ length c.slots = all_live c sound.linked none in
@@ -99,7 +99,7 @@ IsTaken-grown c sound none room =
     }
 
 sound_of : (c : Columns) (slots : List Slot) (depth : ℕ → ℕ) (links : ℕ → List ℕ) → c.slots ≡ slots → c.depth ≡ depth → c.links ≡ links
-    → AllLinked c → IsRooted slots → AreDepths slots depth → AreLinks slots depth links → AreLong links → length slots ≤ 2 ^ 32 → IsSound c
+    → AllLinked c → IsRooted slots → AreDepths slots depth → AreLinks slots depth links → AreLong links → length slots ≤ 2 ^ 32 → IsSoundTree c
 sound_of c slots depth links same_slots same_depth same_links linked rooted depths are long few = record {
   linked = linked;
   rooted = subst IsRooted (sym same_slots) rooted;
@@ -153,7 +153,7 @@ linked-ascended c s parent depth links = by_first (c.first_child parent) where
   by_first (Some t) = refl
 
 -- what a taken slot's links are made from
-pub AreAscents-taken : (old c : Columns) (s : ℕ) → IsSound old → IsTaken old c s → AreAscents c.slots c.depth c.links
+pub AreAscents-taken : (old c : Columns) (s : ℕ) → IsSoundTree old → IsTaken old c s → AreAscents c.slots c.depth c.links
 AreAscents-taken old c s sound taken =
     let was : AreAscents old.slots old.depth old.links = record { rooted = sound.rooted; depths = sound.depths; ways = sound.links; long = sound.long } in
     AreAscents-moved old.slots c.slots taken.slots c.depth c.links
@@ -165,8 +165,8 @@ live-taken old c s t taken live = live_moved old.slots c.slots taken.slots t liv
 pub free-taken : (old c : Columns) (s : ℕ) → IsTaken old c s → ¬ IsLive c.slots s
 free-taken old c s taken live = live_not_free c.slots s live (taken.slots s ∙ taken.was_free)
 
-sound-child : (old c : Columns) (s parent : ℕ) (links : List ℕ) → IsSound old → IsTaken old c s → IsLive old.slots parent
-    → length links ≡ 32 → AreWays old.slots parent (suc (old.depth parent)) links → IsSound (ascended (linked c s (Child parent)) s (old.depth parent + 1) links)
+sound-child : (old c : Columns) (s parent : ℕ) (links : List ℕ) → IsSoundTree old → IsTaken old c s → IsLive old.slots parent
+    → length links ≡ 32 → AreWays old.slots parent (suc (old.depth parent)) links → IsSoundTree (ascended (linked c s (Child parent)) s (old.depth parent + 1) links)
 sound-child old c s parent links sound taken live wide climbed =
     let list : Slot = Child parent in
     let slots : List Slot = set c.slots s list in
@@ -186,15 +186,15 @@ sound-child old c s parent links sound taken live wide climbed =
     (omega (arith, few, length-set c.slots s list))
 
 -- a taken slot becomes a child
-pub IsSound-added : (old c e : Columns) (s parent depth : ℕ) → IsSound old → IsTaken old c s → IsLive old.slots parent → depth ≡ old.depth parent + 1 → IsAscended c e s parent depth → IsSound (linked e s (Child parent))
-IsSound-added old c e s parent depth sound taken live deep ascends =
+pub IsSoundTree-added : (old c e : Columns) (s parent depth : ℕ) → IsSoundTree old → IsTaken old c s → IsLive old.slots parent → depth ≡ old.depth parent + 1 → IsAscended c e s parent depth → IsSoundTree (linked e s (Child parent))
+IsSoundTree-added old c e s parent depth sound taken live deep ascends =
     let far : old.depth parent + 1 ≡ suc (old.depth parent) = add-one (old.depth parent) in
     let climbed : AreWays old.slots parent (suc (old.depth parent)) ascends.ways = λ k low. ascends.climbed k (subst (λ d. 2 ^ k ≤ d) (sym (deep ∙ far)) low) ∙ ancestor_moved old.slots c.slots taken.slots (2 ^ k - 1) parent in
-    subst IsSound (sym (ap (λ x. linked x s (Child parent)) (ascends.is ∙ ap (λ d. ascended c s d ascends.ways) deep) ∙ linked-ascended c s parent (old.depth parent + 1) ascends.ways)) (sound-child old c s parent ascends.ways sound taken live ascends.long climbed)
+    subst IsSoundTree (sym (ap (λ x. linked x s (Child parent)) (ascends.is ∙ ap (λ d. ascended c s d ascends.ways) deep) ∙ linked-ascended c s parent (old.depth parent + 1) ascends.ways)) (sound-child old c s parent ascends.ways sound taken live ascends.long climbed)
 
 -- a leaf becomes free
-pub IsSound-removed : (c : Columns) (s : ℕ) → IsSound c → IsLive c.slots s → s ≢ 0 → ¬ IsParent c.slots s → IsSound (linked (unlinked c s) s Free)
-IsSound-removed c s sound live not_root leaf =
+pub IsSoundTree-removed : (c : Columns) (s : ℕ) → IsSoundTree c → IsLive c.slots s → s ≢ 0 → ¬ IsParent c.slots s → IsSoundTree (linked (unlinked c s) s Free)
+IsSoundTree-removed c s sound live not_root leaf =
     let made : s < length c.slots = live_made c.slots s live in
     let loose = AllLinkedBut-unlinked c s sound.linked made (λ root. not_root (sound.rooted.only_root s root)) in
     let slots : List Slot = set c.slots s Free in
@@ -214,7 +214,7 @@ IsSound-removed c s sound live not_root leaf =
     sound.long
     (omega (arith, few, length-set c.slots s Free))
 
-pub IsTree-sound : (c : Columns) → IsSound c → IsTree c.slots
+pub IsTree-sound : (c : Columns) → IsSoundTree c → IsTree c.slots
 IsTree-sound c sound = is_tree c.slots sound.rooted c.depth sound.depths
 
 -- the root alone
@@ -226,8 +226,8 @@ no_child : (s parent : ℕ) → slot_at (Root ∷ []) s ≢ Child parent
 no_child zero parent is = cc
 no_child (suc s) parent is = cc
 
-pub IsSound-root : (c : Columns) → c.slots ≡ Root ∷ [] → c.first_free ≡ None → ((s : ℕ) → c.first_child s ≡ None) → ((s : ℕ) → c.previous s ≡ None) → ((s : ℕ) → c.next s ≡ None) → c.depth 0 ≡ 0 → AreLong c.links → IsSound c
-IsSound-root c slots first_free first_child previous next depth long =
+pub IsSoundTree-root : (c : Columns) → c.slots ≡ Root ∷ [] → c.first_free ≡ None → ((s : ℕ) → c.first_child s ≡ None) → ((s : ℕ) → c.previous s ≡ None) → ((s : ℕ) → c.next s ≡ None) → c.depth 0 ≡ 0 → AreLong c.links → IsSoundTree c
+IsSoundTree-root c slots first_free first_child previous next depth long =
     sound_of c (Root ∷ []) c.depth c.links slots refl refl
     (record {
       rank = λ _. 0;
@@ -258,7 +258,7 @@ live_slots-added old c s parent taken =
     let same = taken.live in
     omega (arith, live_slots-set c.slots s (Child parent) taken.made, free, same)
 
-pub leaf-added : (old c : Columns) (s parent : ℕ) → IsSound old → IsTaken old c s → IsLive old.slots parent → ¬ IsParent (set c.slots s (Child parent)) s
+pub leaf-added : (old c : Columns) (s parent : ℕ) → IsSoundTree old → IsTaken old c s → IsLive old.slots parent → ¬ IsParent (set c.slots s (Child parent)) s
 leaf-added old c s parent sound taken live = λ child. elim (cases_eq child.0 s) [
   | inl itself ↦
       let own : Child s ≡ Child parent = sym child.1 ∙ ap (slot_at (set c.slots s (Child parent))) itself ∙ slot_at_same c.slots s (Child parent) taken.made in

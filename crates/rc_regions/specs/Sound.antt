@@ -7,7 +7,7 @@ use Rattle.rc_regions.specs.Columns.{Columns, ascended, relinked}
 use Rattle.rc_regions.specs.Lists.{AllLinked, AllLinkedBut}
 use Rattle.rc_regions.specs.Slots.{live_slots, slot_at}
 
-pub record IsSound (c : Columns) : Type 0 where
+pub record IsSoundTree (c : Columns) : Type 0 where
   pub linked : AllLinked c
   pub rooted : IsRooted c.slots
   pub depths : AreDepths c.slots c.depth

@@ -5,7 +5,7 @@ ghost use Rattle.rc_regions.specs.Above.{IsRooted};
 ghost use Rattle.rc_regions.specs.Ascents.{AreAscents};
 ghost use Rattle.rc_regions.specs.Columns.{columns_of, relinked};
 ghost use Rattle.rc_regions.specs.Slots.{IsLive, live_slots};
-ghost use Rattle.rc_regions.specs.Sound.{IsAscended, IsRelinked, IsSound, IsTaken};
+ghost use Rattle.rc_regions.specs.Sound.{IsAscended, IsRelinked, IsSoundTree, IsTaken};
 ghost use Rattle.rc_regions.specs.Lists.{AllLinked, first_of, linked, placed, spot, unlinked, with_first, with_follower, with_previous};
 
 use crate::record::{BLANK, Record, Slot};
@@ -164,7 +164,7 @@ impl Table {
 
     /// A free slot that stands in no list. It has a new record only where no slot was free.
     pub(crate) fn take_slot(&mut self) -> Result<u32, NoMemory>
-        requires sound { IsSound (columns_of self.old) }
+        requires sound { IsSoundTree (columns_of self.old) }
         requires room { live_slots (columns_of self.old).slots ≤ 4294967295 }
         ensures ok { IfOk result (λ slot. IsTaken (columns_of self.old) (columns_of self.new) slot) }
         ensures err { OnErr result (columns_of self.new ≡ columns_of self.old) }

@@ -26,11 +26,11 @@ impl Model for Tree {
     ghost Value = { List Slot };
 
     ghost use Rattle.rc_regions.specs.Columns.{columns_of};
-    ghost use Rattle.rc_regions.specs.Sound.{IsSound};
+    ghost use Rattle.rc_regions.specs.Sound.{IsSoundTree};
 
     ghost view = { λ t. (columns_of t.table).slots };
 
-    ghost invariant = { λ t. IsSound (columns_of t.table) };
+    ghost invariant = { λ t. IsSoundTree (columns_of t.table) };
 }
 
 impl Tree {

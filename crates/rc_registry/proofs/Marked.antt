@@ -3,7 +3,7 @@ use Rattle.std.proofs.Common.{◌≡◌, ◌≢◌, ◌<◌, ◌≤◌, ◌∙�
 use Rattle.std.specs.Prelude.{◌||◌, ◌&&◌, ◌↔◌, All, Contains}
 use Rattle.std.specs.List.{list_any}
 use Rattle.std.proofs.lemmas.Bool.{cases_eq, false≢true}
-use Rattle.rc_store.specs.Sets.{is_member as is_in}
+use Rattle.rc_store.specs.Sets.{is_in}
 use Rattle.rc_slots.specs.Entries.{Member}
 use Rattle.rc_registry.specs.Registries.{HasUnmarkedChild, IsApart, IsMember, Members, at_slots, is_marked, is_member, is_slot_of, mark_of, member_at, member_in, or_root, parent_among}
 use Rattle.rc_registry.specs.Groups.{AreClear, HasChildOutside, HasUnmarkedAmong}

@@ -9,7 +9,7 @@ use Rattle.rc_regions.specs.Slots.{live_slots, slot_at}
 use Rattle.rc_slots.specs.declared.entry.Entry.{Entry}
 use Rattle.rc_slots.specs.Entries.{counted, member_of, members_of}
 use Rattle.rc_registry.specs.Registries.{IsMember, has_child, is_member, member_in, or_root}
-use Rattle.rc_registry.specs.Sound.{IsPlaced, IsSound}
+use Rattle.rc_registry.specs.Sound.{IsPlaced, IsSoundRegistry}
 use Rattle.rc_registry.proofs.Members.{left_apart, left_same}
 use Rattle.rc_registry.proofs.Placed.{placed_left, placed_same}
 use Rattle.rc_registry.proofs.Added.{below_more, free_after, freed_same, long_after, long_now, placed_more}
@@ -24,7 +24,7 @@ counts_left (e ∷ es) zero (suc n) none = refl
 counts_left (e ∷ es) (suc r) zero none = refl
 counts_left (e ∷ es) (suc r) (suc n) none = counts_left es r n none
 
-module _ (d : List (Option Entry)) (t : List Slot) (handed : ℕ) (sound : IsSound d t handed) where
+module _ (d : List (Option Entry)) (t : List Slot) (handed : ℕ) (sound : IsSoundRegistry d t handed) where
   module _ (r s : ℕ) (live : IsMember (members_of d) r) (apart : r ≢ 0) (childless : has_child (members_of d) r ≡ false) (es : s ≡ (member_in (members_of d) r).slot) where
     left_below : (n : ℕ) → IsMember (set (members_of d) r None) n → (member_in (set (members_of d) r None) n).slot < handed
     left_below n there =
@@ -34,7 +34,7 @@ module _ (d : List (Option Entry)) (t : List Slot) (handed : ℕ) (sound : IsSou
     other_slot : handed ≢ s
     other_slot same = absurd (omega (arith, sound.below r live, same, es))
 
-    pub sound_left : (d_new : List (Option Entry)) (t_new : List Slot) → d_new ≡ set d r None → t_new ≡ set t s Free → live_slots t_new + 1 ≡ live_slots t → IsTree t_new → IsSound d_new t_new handed
+    pub sound_left : (d_new : List (Option Entry)) (t_new : List Slot) → d_new ≡ set d r None → t_new ≡ set t s Free → live_slots t_new + 1 ≡ live_slots t → IsTree t_new → IsSoundRegistry d_new t_new handed
     sound_left d_new t_new d_is t_is count tree =
         let members : members_of d_new ≡ set (members_of d) r None = ap members_of d_is ∙ members_left d r in
         let placed = placed_left (members_of d) t sound.placed sound.tree r live apart childless s es (subst (λ x. live_slots x + 1 ≡ live_slots t) t_is count) in
@@ -48,7 +48,7 @@ module _ (d : List (Option Entry)) (t : List Slot) (handed : ℕ) (sound : IsSou
 
   module _ (new : List Slot) (slot p : ℕ) (was_free : slot_at t slot ≡ Free) (child : slot_at new slot ≡ Child p)
       (others : (k : ℕ) → k ≢ slot → slot_at new k ≡ slot_at t k) (again : live_slots t < length t → length new ≡ length t) (grown : live_slots t ≡ length t → length new ≡ length t + 1) where
-    pub sound_again : (t_new : List Slot) → t_new ≡ set new slot Free → live_slots t_new + 1 ≡ live_slots new → live_slots new ≡ live_slots t + 1 → IsTree t_new → IsSound d t_new handed
+    pub sound_again : (t_new : List Slot) → t_new ≡ set new slot Free → live_slots t_new + 1 ≡ live_slots new → live_slots new ≡ live_slots t + 1 → IsTree t_new → IsSoundRegistry d t_new handed
     sound_again t_new t_is less more tree =
         let same : (k : ℕ) → slot_at t_new k ≡ slot_at t k = λ k. ap (λ x. slot_at x k) t_is ∙ freed_same t new slot p handed sound.free sound.long was_free child others again grown k in
         record {
@@ -60,7 +60,7 @@ module _ (d : List (Option Entry)) (t : List Slot) (handed : ℕ) (sound : IsSou
         }
 
     module _ (parent : ℕ) (live : IsMember (members_of d) parent) (is : p ≡ (member_in (members_of d) parent).slot) (one_more : live_slots new ≡ live_slots t + 1) where
-      pub sound_more : (d_new : List (Option Entry)) (handed_new : ℕ) → d_new ≡ d ++ Some (record { slot = slot; parent = parent; count = 0 }) ∷ [] → handed_new ≡ max handed (slot + 1) → IsTree new → IsSound d_new new handed_new
+      pub sound_more : (d_new : List (Option Entry)) (handed_new : ℕ) → d_new ≡ d ++ Some (record { slot = slot; parent = parent; count = 0 }) ∷ [] → handed_new ≡ max handed (slot + 1) → IsTree new → IsSoundRegistry d_new new handed_new
       sound_more d_new handed_new d_is h_is tree =
           let members : members_of d_new ≡ members_of d ++ Some (record { slot = slot; parent = parent }) ∷ [] = ap members_of d_is ∙ map-append (option_map member_of) d (Some (record { slot = slot; parent = parent; count = 0 }) ∷ []) in
           record {

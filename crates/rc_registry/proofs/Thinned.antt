@@ -3,7 +3,7 @@ use Rattle.std.proofs.Common.{◌≡◌, ◌≢◌, ◌<◌, ◌≤◌, ◌+◌,
 use Rattle.std.specs.Prelude.{◌&&◌, not, All}
 use Rattle.std.proofs.lemmas.Bool.{cases_eq, false≢true}
 use Rattle.std.proofs.lemmas.List.{ext_get_or}
-use Rattle.rc_store.specs.Sets.{is_member as is_in}
+use Rattle.rc_store.specs.Sets.{is_in}
 use Rattle.rc_slots.specs.Entries.{Member}
 use Rattle.rc_cells.specs.Together.{without}
 use Rattle.rc_cells.proofs.Together.{length-without, without_read}

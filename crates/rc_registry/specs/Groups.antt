@@ -1,6 +1,6 @@
 -- Several regions at once: a child of one of them that isn't among them, and what is left without them.
 use Rattle.std.specs.Prelude.{◌≡◌, ℕ, Bool, true, false, List, slice_index_or}
-use Rattle.rc_store.specs.Sets.{is_member as is_in}
+use Rattle.rc_store.specs.Sets.{is_in}
 use Rattle.rc_registry.specs.Registries.{IsMember, Members, is_marked, parent_among}
 
 -- no slot has a mark

@@ -19,6 +19,7 @@ count_in s n = slice_index_or s.counts n 0
 abbrev pub member_at : Members → ℕ → Option Member
 member_at members n = slice_index_or members n None
 
+-- a live region is a member; whether a region is in a set is told by `is_in` of rc_store
 abbrev pub is_member : Option Member → Bool
 is_member None = false
 is_member (Some m) = true

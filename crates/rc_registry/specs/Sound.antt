@@ -20,7 +20,7 @@ pub record IsPlaced (members : Members) (slots : List Slot) : Type 0 where
   pub few : live_slots slots ≤ length members
 
 -- so many slots were handed out; where the tree has one slot more, it is free
-pub record IsSound (entries : List (Option Entry)) (slots : List Slot) (handed : ℕ) : Type 0 where
+pub record IsSoundRegistry (entries : List (Option Entry)) (slots : List Slot) (handed : ℕ) : Type 0 where
   pub placed : IsPlaced (members_of entries) slots
   pub tree : IsTree slots
   pub below : (n : ℕ) → IsMember (members_of entries) n → (member_in (members_of entries) n).slot < handed

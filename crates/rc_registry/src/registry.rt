@@ -28,13 +28,13 @@ pub struct Registry {
 
 impl Model for Registry {
     ghost use Rattle.rc_registry.specs.Registries.{RegistryState};
-    ghost use Rattle.rc_registry.specs.Sound.{IsSound, state_of};
+    ghost use Rattle.rc_registry.specs.Sound.{IsSoundRegistry, state_of};
 
     ghost Value = { RegistryState };
 
     ghost view = { λ r. state_of r.directory r.slots };
 
-    ghost invariant = { λ r. IsSound r.directory r.tree r.slots };
+    ghost invariant = { λ r. IsSoundRegistry r.directory r.tree r.slots };
 }
 
 impl Registry {

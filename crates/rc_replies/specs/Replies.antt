@@ -9,7 +9,7 @@ use Rattle.rc_core.specs.declared.layouts.Kind.TheVariants.{Region as RegionKind
 use Rattle.rc_core.specs.Heap.{Value, Number, Null, Handle, Pointer}
 use Rattle.rc_store.specs.Kept.{KeptStore, Regions}
 use Rattle.rc_store.specs.Stores.{allocated, live_in, made, no_view, object_in, objects_in, written}
-use Rattle.rc_store.specs.Sets.{deleted_all, has_child_outside, is_member, set_refs}
+use Rattle.rc_store.specs.Sets.{deleted_all, has_child_outside, is_in, set_refs}
 use Rattle.rc_store.specs.declared.cell.Place.{Place}
 use Rattle.rc_replies.specs.Commands.{Command, New, Cells, Link, Pin, Unpin, Drop, command_of, lines_of}
 use Rattle.rc_replies.specs.declared.reply.Reply.{Reply}
@@ -63,7 +63,7 @@ is_set regions set = list_all (live_in regions) set && (distinct_count nat_eq se
 -- what deleting a set comes to
 abbrev pub deletion_reply : List ℕ → KeptStore → Reply
 deletion_reply set s =
-    if is_member set 0 then Root else
+    if is_in set 0 then Root else
     if has_child_outside set 0 s.regions then Subregion else
     if nat_lt 0 (set_refs s set) then Reference else Done
 

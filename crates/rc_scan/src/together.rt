@@ -1,7 +1,7 @@
 // Several regions at once.
 ghost use Rattle.std.specs.Prelude.{◌≡◌, ◌+◌, ◌<◌, ◌≤◌, ◌↔◌, ◌&&◌, not, if◌then◌else◌, IsTrue, None, All, length, sum_by, slice_index_or};
 ghost use Rattle.rc_store.specs.Kept.{KeptStore, view_refs};
-ghost use Rattle.rc_store.specs.Sets.{deleted_all, has_child_outside, is_child_of, is_member, refs_beside};
+ghost use Rattle.rc_store.specs.Sets.{deleted_all, has_child_outside, is_child_of, is_in, refs_beside};
 ghost use Rattle.rc_store.specs.Stores.{cells_in};
 
 use crate::region::{Region, slot_names};
@@ -10,7 +10,7 @@ use std::sync::ledger::Ledger;
 
 /// Whether a region is of the set.
 fn is_member(set: &[u32], region: usize) -> bool
-    ensures { result ≡ is_member set.now region }
+    ensures { result ≡ is_in set.now region }
 {
     for member in set {
         if *member as usize == region {
@@ -33,7 +33,7 @@ fn is_child_of<L: Ledger>(slot: &Option<Region<L>>, set: &[u32]) -> bool
 /// Whether the region i is live, isn't of the set, and has one of the set as its parent.
 fn is_child_outside<L: Ledger>(regions: &[Option<Region<L>>], i: usize, set: &[u32]) -> bool
     requires { i < length regions.now }
-    ensures { result ≡ not (is_member set.now i) && is_child_of set.now (slice_index_or regions.now i None) }
+    ensures { result ≡ not (is_in set.now i) && is_child_of set.now (slice_index_or regions.now i None) }
 {
     !is_member(set, i) && is_child_of(&regions[i], set)
 }
@@ -60,7 +60,7 @@ fn beside_names<L: Ledger>(
     steps: &mut Steps<L>,
 ) -> bool
     requires { i < length regions.now }
-    ensures found { IsTrue result ↔ (0 < (if is_member set.now i then 0 else view_refs region (slice_index_or regions.now i None))) }
+    ensures found { IsTrue result ↔ (0 < (if is_in set.now i then 0 else view_refs region (slice_index_or regions.now i None))) }
     ensures cost { steps.new ≤ steps.old + cells_in (slice_index_or regions.now i None) }
     ensures never_falls { steps.old ≤ steps.new }
 {

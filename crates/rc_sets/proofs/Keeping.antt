@@ -13,7 +13,7 @@ use Rattle.rc_store.specs.Stores.{allocated, is_view, live_in, made, no_object, 
 use Rattle.rc_store.specs.Sets.{deleted_all}
 use Rattle.rc_replies.specs.Replies.{is_pin, place}
 use Rattle.rc_replies.proofs.Same.{count_cons, count_more, deleted_stays}
-use Rattle.rc_sets.specs.Records.{AreOf, AreRows, IsKeptBy, IsRow, RecordsState}
+use Rattle.rc_sets.specs.Records.{AreRecordsOf, AreRows, IsKeptBy, IsRow, RecordsState}
 use Rattle.rc_sets.proofs.Lists.{beyond, deleted_length, has_live, live_below, objects_same, push_new, push_old, set_other, set_same, survives, zero_pushed}
 
 -- ---- objects
@@ -80,7 +80,7 @@ module _ (xs : List ℕ) (r n : ℕ) (there : r < length xs) (wanted : ℕ → �
   ]
 
 -- the objects of one region changed
-objects_counted : (t : RecordsState) (regions : Regions) (pins : List Value) (r n : ℕ) (objects : List KeptObject) → AreOf t regions pins → live_in regions r ≡ true → length objects ≡ n → AreOf (record t { objects = set t.objects r n }) (with_objects r objects regions) pins
+objects_counted : (t : RecordsState) (regions : Regions) (pins : List Value) (r n : ℕ) (objects : List KeptObject) → AreRecordsOf t regions pins → live_in regions r ≡ true → length objects ≡ n → AreRecordsOf (record t { objects = set t.objects r n }) (with_objects r objects regions) pins
 objects_counted t regions pins r n objects are live size =
     let all = are.all_objects in
     let below = live_below regions r live in
@@ -150,13 +150,13 @@ kept_written t s r o i v kept live =
     let size = length-set (objects_in s.regions r) o (object_with i 0 v (get_or (objects_in s.regions r) o no_object)) in
     let counted = kept.records.objects r live in
     record {
-      records = subst (λ (os : List ℕ). AreOf (record t { objects = os }) (with_objects r objects s.regions) s.pins) (set_self t.objects r)
+      records = subst (λ (os : List ℕ). AreRecordsOf (record t { objects = os }) (with_objects r objects s.regions) s.pins) (set_self t.objects r)
           (objects_counted t s.regions s.pins r (get_or t.objects r 0) objects kept.records live (size ∙ sym counted));
       rows = rows_set s.regions r live objects kept.rows (row_changed (objects_in s.regions r) o i 0 v (kept.rows r));
     }
 
 -- the pins of one region changed
-pub kept_pins : (t : RecordsState) (s : KeptStore) (r n : ℕ) (pins : List Value) → IsKeptBy t s → live_in s.regions r ≡ true → count_by (is_pin r) pins ≡ n → ((q : ℕ) → q ≢ r → count_by (is_pin q) pins ≡ count_by (is_pin q) s.pins) → AreOf (record t { pins = set t.pins r n }) s.regions pins
+pub kept_pins : (t : RecordsState) (s : KeptStore) (r n : ℕ) (pins : List Value) → IsKeptBy t s → live_in s.regions r ≡ true → count_by (is_pin r) pins ≡ n → ((q : ℕ) → q ≢ r → count_by (is_pin q) pins ≡ count_by (is_pin q) s.pins) → AreRecordsOf (record t { pins = set t.pins r n }) s.regions pins
 kept_pins t s r n pins kept live here others =
     let below = live_below s.regions r live in
     let all = kept.records.all_pins in
@@ -179,7 +179,7 @@ pins_cons r pins = count_cons (is_pin r) (Handle r) pins ∙ ap (λ b. cond b 1 
 pub pins_other : (r q : ℕ) (pins : List Value) → q ≢ r → count_by (is_pin q) (Handle r ∷ pins) ≡ count_by (is_pin q) pins
 pins_other r q pins other = let all = count_cons (is_pin q) (Handle r) pins in let none : cond {A = ℕ} (nat_eq r q) 1 0 ≡ 0 = ap (λ b. cond {A = ℕ} b 1 0) (other_pin r q other) in omega (arith, all, none)
 
-pub kept_pinned : (t : RecordsState) (s : KeptStore) (r n : ℕ) → IsKeptBy t s → live_in s.regions r ≡ true → get_or t.pins r 0 + 1 ≡ n → AreOf (record t { pins = set t.pins r n }) s.regions (s.pins ++ Handle r ∷ [])
+pub kept_pinned : (t : RecordsState) (s : KeptStore) (r n : ℕ) → IsKeptBy t s → live_in s.regions r ≡ true → get_or t.pins r 0 + 1 ≡ n → AreRecordsOf (record t { pins = set t.pins r n }) s.regions (s.pins ++ Handle r ∷ [])
 kept_pinned t s r n kept live more =
     let one = pins_cons r [] in
     let all = count_more (is_pin r) s.pins (Handle r ∷ []) in
@@ -187,7 +187,7 @@ kept_pinned t s r n kept live more =
     kept_pins t s r n (s.pins ++ Handle r ∷ []) kept live (omega (arith, one, all, was, more))
     (λ q other. (let none = pins_other r q [] other in let rest = count_more (is_pin q) s.pins (Handle r ∷ []) in omega (arith, none, rest)))
 
-pub kept_unpinned : (t : RecordsState) (s : KeptStore) (r n : ℕ) (pins : List Value) → IsKeptBy t s → live_in s.regions r ≡ true → n + 1 ≡ get_or t.pins r 0 → IsPermutation s.pins (Handle r ∷ pins) → AreOf (record t { pins = set t.pins r n }) s.regions pins
+pub kept_unpinned : (t : RecordsState) (s : KeptStore) (r n : ℕ) (pins : List Value) → IsKeptBy t s → live_in s.regions r ≡ true → n + 1 ≡ get_or t.pins r 0 → IsPermutation s.pins (Handle r ∷ pins) → AreRecordsOf (record t { pins = set t.pins r n }) s.regions pins
 kept_unpinned t s r n pins kept live less taken =
     let counts : (q : ℕ) → count_by (is_pin q) (Handle r ∷ pins) ≡ count_by (is_pin q) s.pins = λ q. sum_by-IsPermutation (λ v. cond (is_pin q v) 1 0) s.pins (Handle r ∷ pins) taken in
     let here = counts r in

@@ -15,7 +15,7 @@ use Rattle.rc_core.specs.declared.layouts.Kind.TheVariants.{Region as RegionKind
 use Rattle.rc_core.specs.Heap.{Value, Handle}
 use Rattle.rc_store.specs.Kept.{KeptStore}
 use Rattle.rc_store.specs.Stores.{allocated, live_in, made, object_in, objects_in, written}
-use Rattle.rc_store.specs.Sets.{IsSet, deleted_all, has_child_outside, is_member, set_refs}
+use Rattle.rc_store.specs.Sets.{IsSet, deleted_all, has_child_outside, is_in, set_refs}
 use Rattle.rc_replies.specs.Commands.{Command, New, Cells, Link, Pin, Unpin, Drop}
 use Rattle.rc_replies.specs.declared.reply.Reply.{Reply}
 use Rattle.rc_replies.specs.declared.reply.Reply.TheVariants.{Region, Object, Full, Done, Root, Subregion, Reference, Bad}
@@ -153,8 +153,8 @@ module _ (s : KeptStore) (t : RecordsState) (kept : IsKeptBy t s) where
 
 -- ---- deletions
 
-pub no_member : (set : List ℕ) → (Contains set 0 → ⊥) → is_member set 0 ≡ false
-no_member set not = elim (cases_Bool (is_member set 0)) [
+pub no_member : (set : List ℕ) → (Contains set 0 → ⊥) → is_in set 0 ≡ false
+no_member set not = elim (cases_Bool (is_in set 0)) [
   | inl has ↦ absurd (not ((is_member-Decides unsigned_Decides set 0).0 has))
   | inr misses ↦ misses
 ]

@@ -18,7 +18,7 @@ use Rattle.rc_replies.proofs.Same.{line_store_same, replies_same, stores_same}
 use Rattle.rc_replies.proofs.Written.{stopped_behind, stopped_within}
 use Rattle.rc_sets.specs.declared.run.ScriptFault.TheVariants.{WriteFault, Memory}
 use Rattle.rc_sets.specs.Obeying.{DidLine}
-use Rattle.rc_sets.specs.Records.{AreOf, AreRows, IsKeptBy, RecordsState}
+use Rattle.rc_sets.specs.Records.{AreRecordsOf, AreRows, IsKeptBy, RecordsState}
 use Rattle.rc_sets.specs.Scripts.{IsBehindSome, PutText, limits_of}
 
 -- these bytes were put, and those are left
@@ -110,8 +110,8 @@ new_kept s t new is =
     let first : RecordsState = record { objects = 0 ∷ []; pins = 0 ∷ [] } in
     subst (λ (u : RecordsState). IsKeptBy u s) (sym is)
     (record {
-      records = subst (λ (regions : Regions). AreOf first regions s.pins) (sym new.regions)
-          (subst (λ (pins : List Value). AreOf first (Some no_view ∷ []) pins) (sym new.pins)
+      records = subst (λ (regions : Regions). AreRecordsOf first regions s.pins) (sym new.regions)
+          (subst (λ (pins : List Value). AreRecordsOf first (Some no_view ∷ []) pins) (sym new.pins)
           (record { all_objects = refl; all_pins = refl; objects = one_region; pins = no_pins }));
       rows = subst AreRows (sym new.regions) (λ r o there. absurd (no_objects r o there));
     })

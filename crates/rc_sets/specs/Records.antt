@@ -12,7 +12,7 @@ pub record RecordsState : Type 0 where
   pub pins : List ℕ
 
 -- they are right, where of a dead region nothing is said of objects
-pub record AreOf (t : RecordsState) (regions : Regions) (values : List Value) : Type 0 where
+pub record AreRecordsOf (t : RecordsState) (regions : Regions) (values : List Value) : Type 0 where
   pub all_objects : length t.objects ≡ length regions
   pub all_pins : length t.pins ≡ length regions
   pub objects : (r : ℕ) → IsTrue (live_in regions r) → slice_index t.objects r ≡ length (objects_in regions r)
@@ -28,5 +28,5 @@ AreRows regions = (r o : ℕ) → o < length (objects_in regions r) → IsRow (o
 
 -- a store as scripts make it, with these records
 pub record IsKeptBy (t : RecordsState) (s : KeptStore) : Type 0 where
-  pub records : AreOf t s.regions s.pins
+  pub records : AreRecordsOf t s.regions s.pins
   pub rows : AreRows s.regions

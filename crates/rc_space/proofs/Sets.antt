@@ -4,7 +4,7 @@ use Rattle.std.specs.Prelude.{◌||◌, ◌&&◌, ◌↔◌, not, option_map, Al
 use Rattle.std.proofs.lemmas.Bool.{cases_eq, false≢true}
 use Rattle.std.proofs.lemmas.List.{ext_get_or, length-map}
 use Rattle.rc_store.specs.Kept.{KeptView, Regions}
-use Rattle.rc_store.specs.Sets.{has_child_outside, is_child_of, is_member as is_in}
+use Rattle.rc_store.specs.Sets.{has_child_outside, is_child_of, is_in}
 use Rattle.rc_store.specs.Stores.{is_view, live_in, or_none, parent_in}
 use Rattle.rc_slots.specs.Entries.{Member}
 use Rattle.rc_areas.specs.Areas.{AreaState, IsLaid, objects_of}

@@ -43,7 +43,7 @@ abbrev pub AreFreed : Members → List AreaState → Type 0
 AreFreed members areas = (slot : ℕ) → ((n : ℕ) → IsMember members n → (member_in members n).slot ≢ slot) → area_at areas slot ≡ no_area
 
 -- besides, room for a mark for each slot, none of which is set
-pub record IsSound (members : Members) (slots : ℕ) (areas : List AreaState) (shapes : List Shape) (marks : List Bool) : Type 0 where
+pub record IsSoundSpace (members : Members) (slots : ℕ) (areas : List AreaState) (shapes : List Shape) (marks : List Bool) : Type 0 where
   pub space : IsSpace slots areas shapes
   pub freed : AreFreed members areas
   pub count : length marks ≡ slots

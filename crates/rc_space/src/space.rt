@@ -44,13 +44,13 @@ pub struct Space<L: Ledger> {
 }
 
 impl<L: Ledger> Model for Space<L> {
-    ghost use Rattle.rc_space.specs.Spaces.{IsSound, SpaceState, regions_of};
+    ghost use Rattle.rc_space.specs.Spaces.{IsSoundSpace, SpaceState, regions_of};
 
     ghost Value = { SpaceState };
 
     ghost view = { λ s. record { regions = regions_of s.registry.members s.areas.items s.shapes; counts = s.registry.counts } };
 
-    ghost invariant = { λ s. IsSound s.registry.members s.registry.slots s.areas.items s.shapes s.marks.items };
+    ghost invariant = { λ s. IsSoundSpace s.registry.members s.registry.slots s.areas.items s.shapes s.marks.items };
 }
 
 /// Room for the mark of one slot, which isn't set.

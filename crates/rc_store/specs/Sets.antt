@@ -5,8 +5,8 @@ use Rattle.rc_core.specs.Heap.{names}
 use Rattle.rc_store.specs.Kept.{KeptStore, KeptView, Regions, view_refs}
 use Rattle.rc_store.specs.Stores.{IsLive, deleted}
 
-abbrev pub is_member : List ℕ → ℕ → Bool
-is_member set r = list_any (nat_eq r) set
+abbrev pub is_in : List ℕ → ℕ → Bool
+is_in set r = list_any (nat_eq r) set
 
 -- live regions, none of them twice
 pub record IsSet (s : KeptStore) (set : List ℕ) : Type 0 where
@@ -15,17 +15,17 @@ pub record IsSet (s : KeptStore) (set : List ℕ) : Type 0 where
 
 abbrev pub is_child_of : List ℕ → Option KeptView → Bool
 is_child_of set None = false
-is_child_of set (Some v) = is_member set v.parent
+is_child_of set (Some v) = is_in set v.parent
 
 -- a live region that isn't a member has a member as its parent; `at` is the number of the first region
 abbrev pub has_child_outside : List ℕ → (at : ℕ) → Regions → Bool
 has_child_outside set at [] = false
-has_child_outside set at (v ∷ views) = (not (is_member set at) && is_child_of set v) || has_child_outside set (suc at) views
+has_child_outside set at (v ∷ views) = (not (is_in set at) && is_child_of set v) || has_child_outside set (suc at) views
 
 -- the counted cells of live regions that aren't members, and the pins, that name r
 abbrev pub refs_beside : List ℕ → (r at : ℕ) → Regions → ℕ
 refs_beside set r at [] = 0
-refs_beside set r at (v ∷ views) = (if is_member set at then 0 else view_refs r v) + refs_beside set r (suc at) views
+refs_beside set r at (v ∷ views) = (if is_in set at then 0 else view_refs r v) + refs_beside set r (suc at) views
 
 abbrev pub refs_to : KeptStore → List ℕ → (r : ℕ) → ℕ
 refs_to s set r = refs_beside set r 0 s.regions + count_by (names r) s.pins

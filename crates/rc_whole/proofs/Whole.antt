@@ -13,7 +13,7 @@ use Rattle.rc_core.specs.declared.ty.Note.TheVariants.{Plain}
 use Rattle.rc_core.specs.Heap.{Value, Null, fits, is_fresh, names, of_region}
 use Rattle.rc_store.specs.declared.cell.Place.{Place}
 use Rattle.rc_store.specs.Kept.{KeptObject, KeptStore, KeptView, Regions, blank, refs, view_refs}
-use Rattle.rc_store.specs.Sets.{deleted_all, has_child_outside, is_member, refs_to, set_refs}
+use Rattle.rc_store.specs.Sets.{deleted_all, has_child_outside, is_in, refs_to, set_refs}
 use Rattle.rc_store.specs.Stores.{HasCell, IsFresh, IsLive, IsNew, MayStand, allocated, at_place, cell_place, cell_value, deleted, has_child, is_view, kind_at, live_in, made, no_object, no_view, object_in, object_with, objects_in, objects_with, or_none, parent_in, region_at, view_in, written}
 use Rattle.rc_store.specs.Values.{blank_of, note_of}
 use Rattle.rc_store.specs.Whole.{IsWhole}
@@ -232,7 +232,7 @@ deleted_whole s d whole inner childless none = killed s (deleted d s) gone whole
         view_unnamed d (region_at s.regions r) o (cell_place (object_in s.regions r o) index cell) empty there (omega (arith, at, filled.kinds)) (omega (arith, at, filled.values)) counted
 
 -- several die at once
-all_read : (dying : List ℕ) (s : KeptStore) (r : ℕ) → region_at (deleted_all dying s).regions r ≡ cond (is_member dying r) None (region_at s.regions r)
+all_read : (dying : List ℕ) (s : KeptStore) (r : ℕ) → region_at (deleted_all dying s).regions r ≡ cond (is_in dying r) None (region_at s.regions r)
 all_read [] s r = refl
 all_read (d ∷ ds) s r = all_read ds (deleted d s) r ∙ by (cases_eq r d)
   where
@@ -245,40 +245,40 @@ all_read (d ∷ ds) s r = all_read ds (deleted d s) r ∙ by (cases_eq r d)
     none_there (w ∷ ws) zero = refl
     none_there (w ∷ ws) (suc n) = none_there ws n
 
-    by : (r ≡ d) ⊎ (r ≢ d) → cond (is_member ds r) None (region_at (set s.regions d None) r) ≡ cond (nat_eq r d || is_member ds r) None (region_at s.regions r)
+    by : (r ≡ d) ⊎ (r ≢ d) → cond (is_in ds r) None (region_at (set s.regions d None) r) ≡ cond (nat_eq r d || is_in ds r) None (region_at s.regions r)
     by (inl same) =
-        ap (λ x. cond (is_member ds r) None x) (ap (region_at (set s.regions d None)) same ∙ region_read (set s.regions d None) d ∙ none_there s.regions d)
-        ∙ behind (is_member ds r)
-        ∙ sym (ap (λ b. cond (b || is_member ds r) None (region_at s.regions r)) (ap (λ n. nat_eq n d) same ∙ (let itself : nat_eq d d ≡ true = search rules in itself)))
+        ap (λ x. cond (is_in ds r) None x) (ap (region_at (set s.regions d None)) same ∙ region_read (set s.regions d None) d ∙ none_there s.regions d)
+        ∙ behind (is_in ds r)
+        ∙ sym (ap (λ b. cond (b || is_in ds r) None (region_at s.regions r)) (ap (λ n. nat_eq n d) same ∙ (let itself : nat_eq d d ≡ true = search rules in itself)))
     by (inr other) =
-        ap (λ x. cond (is_member ds r) None x) (read_beside s.regions d r None other)
-        ∙ sym (ap (λ b. cond (b || is_member ds r) None (region_at s.regions r)) (let apart : nat_eq r d ≡ false = search (rules, other) in apart))
+        ap (λ x. cond (is_in ds r) None x) (read_beside s.regions d r None other)
+        ∙ sym (ap (λ b. cond (b || is_in ds r) None (region_at s.regions r)) (let apart : nat_eq r d ≡ false = search (rules, other) in apart))
 
 all_pins : (dying : List ℕ) (s : KeptStore) → (deleted_all dying s).pins ≡ s.pins
 all_pins [] s = refl
 all_pins (d ∷ ds) s = all_pins ds (deleted d s)
 
 all_deleted_whole : (s : KeptStore) (dying : List ℕ) → IsWhole s → (¬ Contains dying 0) → has_child_outside dying 0 s.regions ≡ false → set_refs s dying ≡ 0 → IsWhole (deleted_all dying s)
-all_deleted_whole s dying whole inner childless none = killed s (deleted_all dying s) (is_member dying) whole (all_read dying s) (no_member dying 0 inner) up names_none (all_pins dying s) pins
+all_deleted_whole s dying whole inner childless none = killed s (deleted_all dying s) (is_in dying) whole (all_read dying s) (no_member dying 0 inner) up names_none (all_pins dying s) pins
   where
-    to_one : (d : ℕ) → is_member dying d ≡ true → refs_to s dying d ≡ 0
+    to_one : (d : ℕ) → is_in dying d ≡ true → refs_to s dying d ≡ 0
     to_one d there = each_none (refs_to s dying) dying d none there
 
-    up : (r : ℕ) → IsLive s r → is_member dying r ≡ false → is_member dying (parent_in s.regions r) ≡ false
+    up : (r : ℕ) → IsLive s r → is_in dying r ≡ false → is_in dying (parent_in s.regions r) ≡ false
     up r live left =
-        ap (λ w. is_member dying (or_none w).parent) (region_read s.regions r)
-        ∙ not_child_of dying 0 r s.regions childless (ap is_view (sym (region_read s.regions r)) ∙ live) (let same : 0 + r ≡ r = omega arith in ap (is_member dying) same ∙ left)
+        ap (λ w. is_in dying (or_none w).parent) (region_read s.regions r)
+        ∙ not_child_of dying 0 r s.regions childless (ap is_view (sym (region_read s.regions r)) ∙ live) (let same : 0 + r ≡ r = omega arith in ap (is_in dying) same ∙ left)
 
-    names_none : NoneNames s (is_member dying)
+    names_none : NoneNames s (is_in dying)
     names_none r o index cell live left there has counted =
         let filled = whole.filled r o live there in
         let at = inside (object_in s.regions r o) index cell has in
         none_of dying (cell_value (object_in s.regions r o) index cell) (λ d member.
-        let empty : view_refs d (region_at s.regions r) ≡ 0 = ap (view_refs d) (region_read s.regions r) ∙ beside_none dying d 0 r s.regions (omega (arith, to_one d member)) (live_there s.regions r live) (let same : 0 + r ≡ r = omega arith in ap (is_member dying) same ∙ left) in
+        let empty : view_refs d (region_at s.regions r) ≡ 0 = ap (view_refs d) (region_read s.regions r) ∙ beside_none dying d 0 r s.regions (omega (arith, to_one d member)) (live_there s.regions r live) (let same : 0 + r ≡ r = omega arith in ap (is_in dying) same ∙ left) in
         view_unnamed d (region_at s.regions r) o (cell_place (object_in s.regions r o) index cell) empty there (omega (arith, at, filled.kinds)) (omega (arith, at, filled.values)) counted)
 
-    pins : All (λ v. of_region false (is_member dying) v ≡ false) s.pins
-    pins = All-from_get_or (λ v. of_region false (is_member dying) v ≡ false) s.pins Null (λ i there. none_of dying (get_or s.pins i Null) (λ d member. All-get_or (λ v. names d v ≡ false) s.pins i Null there (pins_unnamed d s.pins (omega (arith, to_one d member)))))
+    pins : All (λ v. of_region false (is_in dying) v ≡ false) s.pins
+    pins = All-from_get_or (λ v. of_region false (is_in dying) v ≡ false) s.pins Null (λ i there. none_of dying (get_or s.pins i Null) (λ d member. All-get_or (λ v. names d v ≡ false) s.pins i Null there (pins_unnamed d s.pins (omega (arith, to_one d member)))))
 
 pub stays_whole : StaysWhole
 stays_whole = record {

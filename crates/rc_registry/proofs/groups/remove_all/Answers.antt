@@ -2,7 +2,7 @@ use Rattle.std.proofs.Common.{◌+◌, ◌∙◌, inl, inr, take, sym, ap, subst
 use Rattle.std.proofs.lemmas.Bool.{false≢true}
 use Rattle.std.proofs.lemmas.List.{take_all}
 use Rattle.std.specs.Prelude.{not}
-use Rattle.rc_store.specs.Sets.{is_member as is_in}
+use Rattle.rc_store.specs.Sets.{is_in}
 use Rattle.rc_registry.specs.Registries.{has_child, is_marked}
 use Rattle.rc_registry.proofs.Marked.{both_true, not_in, take_in, take_within}
 use Rattle.rc_registry.proofs.Thinned.{IsSettled, all_clear, all_gone, goes_apart, goes_older, goes_unnamed, root_unmarked, settled_end, settled_more, thinned_more, thinned_none}

@@ -1,5 +1,5 @@
 use Rattle.std.proofs.Common.{◌≡◌, ◌+◌, ℕ, true, take}
-use Rattle.rc_store.specs.Sets.{is_member as is_in}
+use Rattle.rc_store.specs.Sets.{is_in}
 use Rattle.rc_registry.specs.Registries.{IsMember, has_child}
 use Rattle.rc_registry.proofs.Thinned.{IsSettled, IsThinned}
 use Rattle.rc_registry.proofs.groups.remove_all.Given as goal

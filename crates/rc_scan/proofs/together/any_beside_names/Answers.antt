@@ -1,7 +1,7 @@
 use Rattle.std.proofs.Common.{◌≡◌, refl, None, arith, cond, get_or}
 use Rattle.std.proofs.lemmas.List.Sums.{sum_by_more_le, sum_by_more}
 use Rattle.rc_store.specs.Kept.{view_refs}
-use Rattle.rc_store.specs.Sets.{is_member}
+use Rattle.rc_store.specs.Sets.{is_in}
 use Rattle.rc_store.specs.Stores.{cells_in}
 use Rattle.rc_scan.proofs.Beside.{refs_step}
 use Rattle.rc_scan.proofs.Refs.{none_is_zero}
@@ -12,8 +12,8 @@ loop-i-preserved g c =
     let set = c.args.set.now in
     let regions = c.args.regions.now in
     let step = refs_step set c.args.region c.loop-i.i regions c.loop-i-test.true in
-    let none : cond (is_member set c.loop-i.i) 0 (view_refs c.args.region (get_or regions c.loop-i.i None)) ≡ 0
-    = none_is_zero (cond (is_member set c.loop-i.i) 0 (view_refs c.args.region (get_or regions c.loop-i.i None))) (λ some. (let is = c.if-beside_names.ensures.found.1 some in cc)) in
+    let none : cond (is_in set c.loop-i.i) 0 (view_refs c.args.region (get_or regions c.loop-i.i None)) ≡ 0
+    = none_is_zero (cond (is_in set c.loop-i.i) 0 (view_refs c.args.region (get_or regions c.loop-i.i None))) (λ some. (let is = c.if-beside_names.ensures.found.1 some in cc)) in
     record {
       left = omega (arith, step, none, c.loop-i.invariant.left);
       cost = omega (arith, sum_by_more cells_in regions c.loop-i.i None c.loop-i-test.true, c.loop-i.invariant.cost, c.if-beside_names.ensures.cost);

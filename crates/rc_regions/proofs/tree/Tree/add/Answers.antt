@@ -5,9 +5,9 @@ use Rattle.rc_regions.specs.declared.table.Table.{Table}
 use Rattle.rc_regions.specs.Columns.{Columns, columns_of}
 use Rattle.rc_regions.specs.Lists.{Head}
 use Rattle.rc_regions.specs.Slots.{IsLive, IsParent, live_slots}
-use Rattle.rc_regions.specs.Sound.{IsSound}
+use Rattle.rc_regions.specs.Sound.{IsSoundTree}
 use Rattle.rc_regions.proofs.Counted.{depth_less, live_made}
-use Rattle.rc_regions.proofs.Sounds.{AreAscents-taken, IsSound-added, IsTree-sound, free-taken, live-taken, leaf-added, live_slots-added, slots-linked}
+use Rattle.rc_regions.proofs.Sounds.{AreAscents-taken, IsSoundTree-added, IsTree-sound, free-taken, live-taken, leaf-added, live_slots-added, slots-linked}
 use Rattle.rc_regions.proofs.Stored.{read}
 use Rattle.rc_regions.proofs.tree.Tree.add.Goals as goal
 
@@ -23,7 +23,7 @@ overflow_add-depth c =
     search (rules, fits)
 
 pub returns-in_err-slot-clause-tree : goal.returns-in_err-slot-clause-tree
-returns-in_err-slot-clause-tree c = IsTree-sound (columns_of c.take_slot.new.self) (subst IsSound (sym c.in_err-slot.ensures.err) c.self.invariant)
+returns-in_err-slot-clause-tree c = IsTree-sound (columns_of c.take_slot.new.self) (subst IsSoundTree (sym c.in_err-slot.ensures.err) c.self.invariant)
 
 pub set_ascent-requires-clause-free : goal.set_ascent-requires-clause-free
 set_ascent-requires-clause-free c = free-taken (columns_of c.self.inside.table) (columns_of c.take_slot.new.self) c.in_ok-slot.slot c.in_ok-slot.ensures.ok
@@ -56,8 +56,8 @@ pub invariant_of-self-2 : goal.invariant_of-self-2
 invariant_of-self-2 c =
     let old : Columns = columns_of c.self.inside.table in
     let live = subst (λ slots. IsLive slots c.args.parent) (sym c.self.view_is) c.requires.live in
-    subst IsSound (sym c.link.ensures)
-    (IsSound-added old (columns_of c.take_slot.new.self) (columns_of c.set_ascent.new.self) c.in_ok-slot.slot c.args.parent (c.index.result.now.depth + 1) c.self.invariant c.in_ok-slot.ensures.ok live (deepened c.self.inside.table c.args.parent c.index.result.now live c.index.ensures) c.set_ascent.ensures)
+    subst IsSoundTree (sym c.link.ensures)
+    (IsSoundTree-added old (columns_of c.take_slot.new.self) (columns_of c.set_ascent.new.self) c.in_ok-slot.slot c.args.parent (c.index.result.now.depth + 1) c.self.invariant c.in_ok-slot.ensures.ok live (deepened c.self.inside.table c.args.parent c.index.result.now live c.index.ensures) c.set_ascent.ensures)
 
 pub returns-clause-tree : goal.returns-clause-tree
 returns-clause-tree c = IsTree-sound (columns_of c.link.new.self) (invariant_of-self-2 c)

@@ -3,9 +3,9 @@ use Rattle.rc_regions.specs.declared.record.Slot.TheVariants.{Free, Root}
 use Rattle.rc_regions.specs.Columns.{Columns, columns_of}
 use Rattle.rc_regions.specs.Lists.{Head, linked, unlinked}
 use Rattle.rc_regions.specs.Slots.{IsLive, IsParent, slot_at}
-use Rattle.rc_regions.specs.Sound.{IsSound}
+use Rattle.rc_regions.specs.Sound.{IsSoundTree}
 use Rattle.rc_regions.proofs.Counted.{live_made}
-use Rattle.rc_regions.proofs.Sounds.{IsSound-removed, IsTree-sound}
+use Rattle.rc_regions.proofs.Sounds.{IsSoundTree-removed, IsTree-sound}
 use Rattle.rc_regions.proofs.TakenOut.{AllLinkedBut-unlinked}
 use Rattle.rc_regions.proofs.tree.Tree.remove.Goals as goal
 
@@ -26,7 +26,7 @@ invariant_of-self c =
     let slot = c.args.slot in
     let live = subst (λ slots. IsLive slots slot) (sym c.self.view_is) c.requires.live in
     let leaf = subst (λ slots. ¬ IsParent slots slot) (sym c.self.view_is) c.requires.leaf in
-    subst IsSound (sym (c.link.ensures ∙ ap (λ columns. linked columns slot Free) c.unlink.ensures)) (IsSound-removed old slot c.self.invariant live c.requires.not_root leaf)
+    subst IsSoundTree (sym (c.link.ensures ∙ ap (λ columns. linked columns slot Free) c.unlink.ensures)) (IsSoundTree-removed old slot c.self.invariant live c.requires.not_root leaf)
 
 pub returns-clause-tree : goal.returns-clause-tree
 returns-clause-tree c = IsTree-sound (columns_of c.link.new.self) (invariant_of-self c)

@@ -1,7 +1,7 @@
 use Rattle.std.proofs.Common.{◌≡◌, ◌≤◌, ◌+◌, ◌∙◌, ap, sym, subst, rules}
 use Rattle.std.specs.Prelude.{max}
 use Rattle.rc_registry.specs.Registries.{IsMember, RegistryState, member_in}
-use Rattle.rc_registry.specs.Sound.{IsSound}
+use Rattle.rc_registry.specs.Sound.{IsSoundRegistry}
 use Rattle.rc_registry.proofs.Added.{slot_handed}
 use Rattle.rc_registry.proofs.Sounds.{sound_again, sound_more}
 use Rattle.rc_registry.proofs.registry.Registry.add.Goals as goal
@@ -17,7 +17,7 @@ invariant_of-self-in-Ok c =
 pub invariant_of-self-in-Err : goal.invariant_of-self-in-Err
 invariant_of-self-in-Err c =
     let tree = c.in_ok-slot.ensures in
-    subst (λ d. IsSound d c.remove.new.self c.self.inside.slots) (sym c.in-Err.ensures.err)
+    subst (λ d. IsSoundRegistry d c.remove.new.self c.self.inside.slots) (sym c.in-Err.ensures.err)
     (sound_again c.self.inside.directory c.self.inside.tree c.self.inside.slots c.self.invariant c.add.new.self c.in_ok-slot.slot c.slot-parent_slot.result tree.was_free tree.child tree.others tree.used_again tree.grown
     c.remove.new.self c.remove.ensures.removed c.remove.ensures.one_less tree.one_more c.remove.ensures.tree)
 
