@@ -10,10 +10,11 @@ use Rattle.rc_core.specs.declared.layouts.Kind.TheVariants.{Number as NumberKind
 use Rattle.rc_core.specs.Layout.{is_plain}
 use Rattle.rc_core.specs.Heap.{Value, Null, names}
 use Rattle.rc_store.specs.declared.cell.Place.{Place}
-use Rattle.rc_store.specs.Kept.{KeptObject, KeptStore, KeptView, Regions, blank, object_refs, refs, refs_outside, view_refs}
+use Rattle.rc_store.specs.Kept.{KeptObject, KeptStore, KeptView, Regions, blank, object_refs, refs, view_refs}
 use Rattle.rc_store.specs.Stores.{IsLive, all_cells, at_place, cell_place, cells_in, no_object, object_with, objects_in, or_none, is_view, joined, parent_in, region_at, size_of, view_in}
 use Rattle.rc_store.specs.Stores as S
 use Rattle.rc_store.specs.Values.{blank_of, is_counted}
+use Rattle.rc_store.proofs.Along.{refs_along, refs_from}
 use Rattle.rc_cells.specs.Follow.{IsThere, ReferencesFollow, cell_refs}
 
 -- whether a counted cell names r
@@ -61,8 +62,8 @@ blank_refs r kinds n = ap (λ vs. count_by (is_ref r) (zip (flat_map (λ k. k) (
 abbrev weight : (r at : ℕ) → Option KeptView → ℕ
 weight r at v = cond (nat_eq at r) 0 (view_refs r v)
 
--- one region changes
-views_changed : (r at q n : ℕ) (views : Regions) (y : Option KeptView) → n ≡ at + q → q < length views → refs_outside r at (set views q y) + weight r n (get_or views q None) ≡ refs_outside r at views + weight r n y
+-- one of them changes
+views_changed : (r at q n : ℕ) (views : Regions) (y : Option KeptView) → n ≡ at + q → q < length views → refs_from r at (set views q y) + weight r n (get_or views q None) ≡ refs_from r at views + weight r n y
 views_changed r at q n [] y is inside = absurd (omega (arith, inside))
 views_changed r at zero n (v ∷ views) y is inside =
     let here : n ≡ at = omega (arith, is) in
@@ -75,7 +76,7 @@ cond_zero : (b : Bool) → cond {A = ℕ} b 0 0 ≡ 0
 cond_zero true = refl
 cond_zero false = refl
 
-made_refs : (r at parent : ℕ) (views : Regions) → refs_outside r at (views ++ Some (record { parent = parent; objects = [] }) ∷ []) ≡ refs_outside r at views
+made_refs : (r at parent : ℕ) (views : Regions) → refs_from r at (views ++ Some (record { parent = parent; objects = [] }) ∷ []) ≡ refs_from r at views
 made_refs r at parent [] = ap (λ n. n + 0) (cond_zero (nat_eq at r))
 made_refs r at parent (v ∷ views) = ap (λ n. weight r at v + n) (made_refs r (suc at) parent views)
 
@@ -97,11 +98,19 @@ some_view (Some v) live = refl
 pub view_there : (regions : Regions) (q : ℕ) → IsTrue (S.live_in regions q) → get_or regions q None ≡ Some (view_in regions q)
 view_there regions q live = sym (region_read regions q) ∙ some_view (region_at regions q) live
 
+-- all references from regions but r
+abbrev elsewhere : (r : ℕ) → Regions → ℕ
+elsewhere r regions = sum_by (view_refs r) (set regions r None)
+
+-- one region changes
+region_changed : (r q : ℕ) (regions : Regions) (y : Option KeptView) → q < length regions → elsewhere r (set regions q y) + weight r q (get_or regions q None) ≡ elsewhere r regions + weight r q y
+region_changed r q regions y inside = omega (arith, views_changed r 0 q q regions y (omega arith) inside, refs_along r (set regions q y), refs_along r regions)
+
 -- the objects of a live region change
 objects_changed : (r q : ℕ) (regions : Regions) (objects : List KeptObject) → IsTrue (S.live_in regions q)
-    → refs_outside r 0 (S.with_objects q objects regions) + cond (nat_eq q r) 0 (sum_by (object_refs r) (objects_in regions q)) ≡ refs_outside r 0 regions + cond (nat_eq q r) 0 (sum_by (object_refs r) objects)
+    → elsewhere r (S.with_objects q objects regions) + cond (nat_eq q r) 0 (sum_by (object_refs r) (objects_in regions q)) ≡ elsewhere r regions + cond (nat_eq q r) 0 (sum_by (object_refs r) objects)
 objects_changed r q regions objects live =
-    let changed = views_changed r 0 q q regions (Some (record { parent = parent_in regions q; objects = objects })) (omega arith) (live_there regions q live) in
+    let changed = region_changed r q regions (Some (record { parent = parent_in regions q; objects = objects })) (live_there regions q live) in
     omega (arith, changed, ap (λ v. weight r q v) (view_there regions q live))
 
 cond_plus : (b : Bool) (m n k l : ℕ) → m + n ≡ k + l → cond b 0 m + cond b 0 n ≡ cond b 0 k + cond b 0 l
@@ -135,13 +144,13 @@ number_other m n other = search (rules, other)
 
 deleted_refs : (s : KeptStore) (d r : ℕ) → d < length s.regions → r ≢ d → refs (S.deleted d s) r + view_refs r (region_at s.regions d) ≡ refs s r
 deleted_refs s d r inside other =
-    let changed = views_changed r 0 d d s.regions None (omega arith) inside in
+    let changed = region_changed r d s.regions None inside in
     let apart = number_other d r (λ e. other (sym e)) in
     omega (arith, changed, ap (λ b. cond b 0 (view_refs r (get_or s.regions d None))) apart, ap (λ b. cond {A = ℕ} b 0 0) apart, ap (view_refs r) (region_read s.regions d))
 
 own_refs : (s : KeptStore) (d : ℕ) → d < length s.regions → refs (S.deleted d s) d ≡ refs s d
 own_refs s d inside =
-    let changed = views_changed d 0 d d s.regions None (omega arith) inside in
+    let changed = region_changed d d s.regions None inside in
     omega (arith, changed, ap (λ b. cond b 0 (view_refs d (get_or s.regions d None))) (number_itself d), ap (λ b. cond {A = ℕ} b 0 0) (number_itself d))
 
 zip_short : {A B : Type 0} (xs : List A) (ys : List B) → length (zip xs ys) ≤ length ys
@@ -164,16 +173,16 @@ cond_few : (b : Bool) (m n : ℕ) → m ≤ n → cond b 0 m ≤ n
 cond_few true m n few = omega arith
 cond_few false m n few = few
 
-views_few : (r at : ℕ) (views : Regions) → refs_outside r at views ≤ sum_by cells_in views
+views_few : (r at : ℕ) (views : Regions) → refs_from r at views ≤ sum_by cells_in views
 views_few r at [] = omega arith
 views_few r at (v ∷ views) = omega (arith, cond_few (nat_eq at r) _ _ (view_few r v), views_few r (suc at) views, sum_by-cons cells_in v views)
 
 pub references_follow : ReferencesFollow
 references_follow = record {
-  made = λ s parent r. ap (λ n. n + count_by (names r) s.pins) (made_refs r 0 parent s.regions);
+  made = λ s parent r. ap (λ n. n + count_by (names r) s.pins) (refs_along r _ ∙ made_refs r 0 parent s.regions ∙ sym (refs_along r s.regions));
   allocated = allocated_refs;
   written = written_refs;
   others = deleted_refs;
   own = own_refs;
-  few = λ s r. omega (arith, views_few r 0 s.regions, count_by-le-length (names r) s.pins);
+  few = λ s r. omega (arith, refs_along r s.regions, views_few r 0 s.regions, count_by-le-length (names r) s.pins);
 }

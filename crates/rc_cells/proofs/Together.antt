@@ -5,10 +5,11 @@ use Rattle.std.specs.List.{count_by, list_any, sum_by}
 use Rattle.std.proofs.lemmas.Bool.{cases_eq, false≢true}
 use Rattle.std.proofs.lemmas.List.Sums.{sum_by-cons}
 use Rattle.rc_core.specs.Heap.{names}
-use Rattle.rc_store.specs.Kept.{KeptStore, KeptView, Regions, refs, refs_outside, view_refs}
-use Rattle.rc_store.specs.Sets.{IsSet, deleted_all, is_in, refs_beside, refs_to}
+use Rattle.rc_store.specs.Kept.{KeptStore, Regions, refs, view_refs}
+use Rattle.rc_store.specs.Sets.{IsSet, deleted_all, is_in, refs_to, without}
 use Rattle.rc_store.specs.Stores.{IsLive, all_cells, cells_in, deleted, live_in, region_at}
-use Rattle.rc_cells.specs.Together.{SetsFollow, held, without}
+use Rattle.rc_store.proofs.Along.{without_read}
+use Rattle.rc_cells.specs.Together.{SetsFollow, held}
 use Rattle.rc_cells.proofs.Cells.{cells_follow}
 use Rattle.rc_cells.proofs.Changes.{live_there, references_follow, region_read}
 
@@ -102,63 +103,22 @@ cells s (d ∷ ds) apart =
     let same = sum_same (λ n. cells_in (region_at (deleted d s).regions n)) (λ n. cells_in (region_at s.regions n)) ds (λ n there. ap cells_in (other_region s d n (not_same ds d n apart.1 there))) in
     omega (arith, rest, same, cells_follow.deleted s d apart.0, sum_by-cons (λ n. cells_in (region_at s.regions n)) d ds)
 
--- what stands at a number then
-pub without_read : {A : Type 0} (set : List ℕ) (xs : List (Option A)) (n : ℕ) → get_or (without set xs) n None ≡ cond (is_in set n) None (get_or xs n None)
-without_read [] xs n = refl
-without_read {A} (m ∷ ms) xs n = without_read ms (slice_set xs m None) n ∙ by (cases_eq n m)
-  where
-    behind : (b : Bool) → cond {A = Option A} b None None ≡ None
-    behind true = refl
-    behind false = refl
+set_none : (xs : Regions) (n : ℕ) → get_or xs n None ≡ None → slice_set xs n None ≡ xs
+set_none [] n is = refl
+set_none (x ∷ xs) zero is = ap (λ y. y ∷ xs) (sym is)
+set_none (x ∷ xs) (suc n) is = ap (λ ys. x ∷ ys) (set_none xs n is)
 
-    gone : (ys : List (Option A)) (k : ℕ) → get_or (slice_set ys k None) k None ≡ None
-    gone [] k = refl
-    gone (y ∷ ys) zero = refl
-    gone (y ∷ ys) (suc k) = gone ys k
-
-    by : (n ≡ m) ⊎ (n ≢ m) → cond (is_in ms n) None (get_or (slice_set xs m None) n None) ≡ cond (nat_eq n m || is_in ms n) None (get_or xs n None)
-    by (inl same) =
-        ap (λ x. cond (is_in ms n) None x) (ap (λ k. get_or (slice_set xs m None) k None) same ∙ gone xs m)
-        ∙ behind (is_in ms n)
-        ∙ sym (ap (λ b. cond (b || is_in ms n) None (get_or xs n None)) (ap (λ k. nat_eq k m) same ∙ number_itself m))
-    by (inr apart) =
-        ap (λ x. cond (is_in ms n) None x) (get_or-set_other xs m n None None apart)
-        ∙ sym (ap (λ b. cond (b || is_in ms n) None (get_or xs n None)) (number_other n m apart))
-
-pub length-without : {A : Type 0} (set : List ℕ) (xs : List (Option A)) → length (without set xs) ≡ length xs
-length-without [] xs = refl
-length-without (m ∷ ms) xs = length-without ms (slice_set xs m None) ∙ length-set xs m None
-
--- the references from beside a set are those of what is left
-module _ (set : List ℕ) (r : ℕ) (member : is_in set r ≡ true) where
-  at_one : (at : ℕ) (v left : Option KeptView) (b : Bool) → is_in set at ≡ b → left ≡ cond b None v → cond (is_in set at) 0 (view_refs r v) ≡ cond (nat_eq at r) 0 (view_refs r left)
-  at_one at v left true there is = ap (λ b. cond b 0 (view_refs r v)) there ∙ sym (ap (λ x. cond (nat_eq at r) 0 (view_refs r x)) is ∙ none (nat_eq at r))
-    where
-      none : (b : Bool) → cond {A = ℕ} b 0 0 ≡ 0
-      none true = refl
-      none false = refl
-  at_one at v left false none is =
-      let apart : nat_eq at r ≡ false = number_other at r (λ same. false≢true (sym none ∙ ap (is_in set) same ∙ member)) in
-      ap (λ b. cond b 0 (view_refs r v)) none ∙ sym (ap (λ x. cond (nat_eq at r) 0 (view_refs r x)) is ∙ ap (λ b. cond b 0 (view_refs r v)) apart)
-
-  beside_same : (at : ℕ) (views left : Regions) → length left ≡ length views → ((i : ℕ) → get_or left i None ≡ cond (is_in set (at + i)) None (get_or views i None)) → refs_beside set r at views ≡ refs_outside r at left
-  beside_same at [] [] long same = refl
-  beside_same at [] (l ∷ ls) long same = absurd (omega (arith, long))
-  beside_same at (v ∷ vs) [] long same = absurd (omega (arith, long))
-  beside_same at (v ∷ vs) (l ∷ ls) long same =
-      let here = at_one at v l (is_in set at) refl (same 0 ∙ ap (λ n. cond (is_in set n) None v) (let is : at + 0 ≡ at = omega arith in is)) in
-      let rest = beside_same (suc at) vs ls (omega (arith, long)) (λ i. same (suc i) ∙ ap (λ n. cond (is_in set n) None (get_or vs i None)) (let is : at + suc i ≡ suc at + i = omega arith in is)) in
-      omega (arith, here, rest)
-
-  beside : (s : KeptStore) → refs_to s set r ≡ refs (deleted_all set s) r
-  beside s =
-      ap (λ n. n + count_by (names r) s.pins) (beside_same 0 s.regions (without set s.regions) (length-without set s.regions) (λ i. without_read set s.regions i ∙ ap (λ n. cond (is_in set n) None (get_or s.regions i None)) (let is : i ≡ 0 + i = omega arith in is)))
-      ∙ ap (λ (x : KeptStore). refs x r) (sym (left s set))
+-- to a member, the references from beside a set are those of what is left
+beside : (s : KeptStore) (set : List ℕ) (r : ℕ) → is_in set r ≡ true → refs_to s set r ≡ refs (deleted_all set s) r
+beside s set r member =
+    let gone = without_read set s.regions r ∙ ap (λ b. cond b None (get_or s.regions r None)) member in
+    ap (λ views. sum_by (view_refs r) views + count_by (names r) s.pins) (sym (set_none (without set s.regions) r gone))
+    ∙ ap (λ (x : KeptStore). refs x r) (sym (left s set))
 
 pub sets_follow : SetsFollow
 sets_follow = record {
   left = left;
   references = λ s set r all. references s set r (are_apart s set all);
-  beside = λ s set r member. beside set r member s;
+  beside = beside;
   cells = λ s set all. cells s set (are_apart s set all);
 }

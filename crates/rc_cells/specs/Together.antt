@@ -1,13 +1,8 @@
 -- How references and cells change where several regions go at once.
-use Rattle.std.specs.Prelude.{◌≡◌, ◌+◌, ℕ, Bool, true, nat_eq, List, [], ◌∷◌, Option, None, slice_set, sum_by, if◌then◌else◌}
+use Rattle.std.specs.Prelude.{◌≡◌, ◌+◌, ℕ, true, nat_eq, List, sum_by, if◌then◌else◌}
 use Rattle.rc_store.specs.Kept.{KeptStore, refs, view_refs}
-use Rattle.rc_store.specs.Sets.{IsSet, deleted_all, is_in, refs_to}
+use Rattle.rc_store.specs.Sets.{IsSet, deleted_all, is_in, refs_to, without}
 use Rattle.rc_store.specs.Stores.{all_cells, cells_in, region_at}
-
--- a list by numbers, with none at each number of the set
-abbrev pub without : {A : Type 0} → (set : List ℕ) → List (Option A) → List (Option A)
-without [] xs = xs
-without (n ∷ set) xs = without set (slice_set xs n None)
 
 -- the references to r that the cells of region d hold: none where it is r itself
 abbrev pub held : KeptStore → (r d : ℕ) → ℕ

@@ -103,7 +103,7 @@ module _ (before : SpaceState) (s : KeptStore) (cells : ℕ) (counted : IsCounte
         by (suc n) is = absurd (none (set_named (omega (arith, is))))
 
     -- and the set is gone
-    pub counted_set : (new : SpaceState) (fewer : ℕ) → (¬ Contains set 0) → has_child_outside set 0 s.regions ≡ false → ¬ ((r : ℕ) × Contains set r × (0 < count_of mid r)) → ((r : ℕ) → count_of new r ≡ count_of mid r) → fewer ≡ cells - cells_among s.regions set → IsCounted new (deleted_all set s) fewer
+    pub counted_set : (new : SpaceState) (fewer : ℕ) → (¬ Contains set 0) → has_child_outside set s.regions ≡ false → ¬ ((r : ℕ) × Contains set r × (0 < count_of mid r)) → ((r : ℕ) → count_of new r ≡ count_of mid r) → fewer ≡ cells - cells_among s.regions set → IsCounted new (deleted_all set s) fewer
     counted_set new fewer below closed none same is = record {
       counts = λ r. same r ∙ left_counts r;
       sum = omega (arith, is, sets_follow.cells s set all, counted.sum);

@@ -3,10 +3,9 @@ use Rattle.std.proofs.Common.{◌≡◌, ◌≢◌, ◌<◌, ◌≤◌, ◌+◌,
 use Rattle.std.specs.Prelude.{◌&&◌, not, All}
 use Rattle.std.proofs.lemmas.Bool.{cases_eq, false≢true}
 use Rattle.std.proofs.lemmas.List.{ext_get_or}
-use Rattle.rc_store.specs.Sets.{is_in}
+use Rattle.rc_store.specs.Sets.{is_in, without}
 use Rattle.rc_slots.specs.Entries.{Member}
-use Rattle.rc_cells.specs.Together.{without}
-use Rattle.rc_cells.proofs.Together.{length-without, without_read}
+use Rattle.rc_store.proofs.Along.{length-without, without_read}
 use Rattle.rc_registry.specs.Registries.{AreOlder, IsApart, IsMember, RegistryState, count_in, has_child, is_marked, is_member, mark_of, member_at, member_in, or_root, parent_among, at_slots}
 use Rattle.rc_registry.proofs.Members.{child_found, child_there, left_apart, left_same, member_there}
 use Rattle.rc_registry.specs.Groups.{AreClear, HasChildOutside}

@@ -2,7 +2,7 @@
 ghost use Rattle.std.specs.Prelude.{◌≡◌, ◌≢◌, ◌≤◌, ◌↔◌, ◌&&◌, ℕ, None, false, not, length, All, Contains, IsTrue, slice_set};
 ghost use Rattle.rc_registry.specs.Registries.{HasUnmarkedChild, IsApart, IsMember, count_in, has_child, is_marked, member_in, parent_among};
 ghost use Rattle.rc_registry.specs.Groups.{AreClear, HasChildOutside, HasUnmarkedAmong};
-ghost use Rattle.rc_cells.specs.Together.{without};
+ghost use Rattle.rc_store.specs.Sets.{without};
 
 use crate::registry::Registry;
 

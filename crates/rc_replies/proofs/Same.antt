@@ -5,9 +5,9 @@ use Rattle.std.specs.Prelude.{◌&&◌, count_by, sum_by, if◌then◌else◌}
 use Rattle.std.proofs.lemmas.Bool.Decides.{nat_tests}
 use Rattle.std.proofs.lemmas.List.Sums.{sum_by-append, sum_by-cons}
 use Rattle.rc_core.specs.Heap.{Value, Number, Null, Handle, Pointer, names}
-use Rattle.rc_store.specs.Kept.{KeptStore, Regions}
+use Rattle.rc_store.specs.Kept.{KeptStore, Regions, view_refs}
 use Rattle.rc_store.specs.Stores.{deleted, live_in}
-use Rattle.rc_store.specs.Sets.{deleted_all, has_child_outside, is_in, refs_beside, set_refs}
+use Rattle.rc_store.specs.Sets.{deleted_all, has_child_outside, is_in, set_refs, without}
 use Rattle.rc_replies.specs.Commands.{Command, New, Cells, Link, Pin, Unpin, Drop, command_of}
 use Rattle.rc_replies.specs.declared.reply.Reply.{Reply}
 use Rattle.rc_replies.specs.declared.reply.Reply.TheVariants.{Done, Root, Subregion, Reference, Bad}
@@ -82,7 +82,7 @@ module _ (s : KeptStore) (ps : List Value) (n : ℕ) (same : (test : Value → B
   other = record s { pins = ps; spare = n }
 
   refs_same : (set : List ℕ) → set_refs other set ≡ set_refs s set
-  refs_same set = ap (λ (f : ℕ → ℕ). sum_by f set) (fun_ext (λ r. ap (λ c. refs_beside set r 0 s.regions + c) (same (names r))))
+  refs_same set = ap (λ (f : ℕ → ℕ). sum_by f set) (fun_ext (λ r. ap (λ c. sum_by (view_refs r) (without set s.regions) + c) (same (names r))))
 
   reply_same : (command : Command) → reply_to command other ≡ reply_to command s
   reply_same (New parent) = refl
@@ -90,7 +90,7 @@ module _ (s : KeptStore) (ps : List Value) (n : ℕ) (same : (test : Value → B
   reply_same (Link r o i target) = refl
   reply_same (Pin r) = refl
   reply_same (Unpin r) = ap (λ c. if live_in s.regions r && nat_lt 0 c then Done else Bad) (same (is_pin r))
-  reply_same (Drop set) = ap (λ c. if is_set s.regions set then (if is_in set 0 then Root else if has_child_outside set 0 s.regions then Subregion else if nat_lt 0 c then Reference else Done) else Bad) (refs_same set)
+  reply_same (Drop set) = ap (λ c. if is_set s.regions set then (if is_in set 0 then Root else if has_child_outside set s.regions then Subregion else if nat_lt 0 c then Reference else Done) else Bad) (refs_same set)
 
   pushed : (test : Value → Bool) (r : ℕ) → count_by test (ps ++ Handle r ∷ []) ≡ count_by test (s.pins ++ Handle r ∷ [])
   pushed test r = count_more test ps (Handle r ∷ []) ∙ ap (λ c. c + count_by test (Handle r ∷ [])) (same test) ∙ sym (count_more test s.pins (Handle r ∷ []))

@@ -64,7 +64,7 @@ is_set regions set = list_all (live_in regions) set && (distinct_count nat_eq se
 abbrev pub deletion_reply : List ℕ → KeptStore → Reply
 deletion_reply set s =
     if is_in set 0 then Root else
-    if has_child_outside set 0 s.regions then Subregion else
+    if has_child_outside set s.regions then Subregion else
     if nat_lt 0 (set_refs s set) then Reference else Done
 
 abbrev pub reply_to : Command → KeptStore → Reply

@@ -1,4 +1,4 @@
 pub mod Beside
 pub mod Above
-pub mod Refs
+pub mod Zero
 pub mod Keeping

@@ -1,7 +1,7 @@
 // Several regions at once.
 ghost use Rattle.std.specs.Prelude.{◌≡◌, ◌+◌, ◌<◌, ◌≤◌, ◌↔◌, ◌&&◌, not, if◌then◌else◌, IsTrue, None, All, length, sum_by, slice_index_or};
 ghost use Rattle.rc_store.specs.Kept.{KeptStore, view_refs};
-ghost use Rattle.rc_store.specs.Sets.{deleted_all, has_child_outside, is_child_of, is_in, refs_beside};
+ghost use Rattle.rc_store.specs.Sets.{deleted_all, has_child_outside, is_child_of, is_in, without};
 ghost use Rattle.rc_store.specs.Stores.{cells_in};
 
 use crate::region::{Region, slot_names};
@@ -40,7 +40,7 @@ fn is_child_outside<L: Ledger>(regions: &[Option<Region<L>>], i: usize, set: &[u
 
 /// Whether a live region that isn't of the set has one of the set as its parent.
 pub(crate) fn has_child_outside<L: Ledger>(regions: &[Option<Region<L>>], set: &[u32]) -> bool
-    ensures { result ≡ has_child_outside set.now 0 regions.now }
+    ensures { result ≡ has_child_outside set.now regions.now }
 {
     for i in 0..regions.len() {
         if is_child_outside(regions, i, set) {
@@ -78,7 +78,7 @@ pub(crate) fn any_beside_names<L: Ledger>(
     region: u32,
     steps: &mut Steps<L>,
 ) -> bool
-    ensures found { IsTrue result ↔ (0 < refs_beside set.now region 0 regions.now) }
+    ensures found { IsTrue result ↔ (0 < sum_by (view_refs region) (without set.now regions.now)) }
     ensures cost { steps.new ≤ steps.old + sum_by cells_in regions.now }
     ensures never_falls { steps.old ≤ steps.new }
 {

@@ -164,23 +164,23 @@ module _ (set : List ℕ) (s : KeptStore) where
   refs_reply = cond (nat_lt 0 (set_refs s set)) Reference Done
 
   abbrev child_reply : Reply
-  child_reply = cond (has_child_outside set 0 s.regions) Subregion refs_reply
+  child_reply = cond (has_child_outside set s.regions) Subregion refs_reply
 
   no_root : (Contains set 0 → ⊥) → child_reply ≡ deletion_reply set s
   no_root not = ap (λ b. cond b Root child_reply) (sym (no_member set not))
 
-  pub deletes_subregion : (s' : KeptStore) → (Contains set 0 → ⊥) → has_child_outside set 0 s.regions ≡ true → s' ≡ s → Deletes set s s' Subregion
+  pub deletes_subregion : (s' : KeptStore) → (Contains set 0 → ⊥) → has_child_outside set s.regions ≡ true → s' ≡ s → Deletes set s s' Subregion
   deletes_subregion s' not child same = record { answered = ap (λ b. cond b Subregion refs_reply) (sym child) ∙ no_root not; left = same }
 
-  no_child : (Contains set 0 → ⊥) → has_child_outside set 0 s.regions ≡ false → refs_reply ≡ deletion_reply set s
+  no_child : (Contains set 0 → ⊥) → has_child_outside set s.regions ≡ false → refs_reply ≡ deletion_reply set s
   no_child not none = ap (λ b. cond b Subregion refs_reply) (sym none) ∙ no_root not
 
-  pub deletes_reference : (s' : KeptStore) → (Contains set 0 → ⊥) → has_child_outside set 0 s.regions ≡ false → 0 < set_refs s set → s' ≡ s → Deletes set s s' Reference
+  pub deletes_reference : (s' : KeptStore) → (Contains set 0 → ⊥) → has_child_outside set s.regions ≡ false → 0 < set_refs s set → s' ≡ s → Deletes set s s' Reference
   deletes_reference s' not none some same = record { answered = ap (λ b. cond b Reference Done) (sym (test_true 0 (set_refs s set) some)) ∙ no_child not none; left = same }
 
-  pub deletes_all : (s' : KeptStore) → (Contains set 0 → ⊥) → ((Contains set 0 → ⊥) × (has_child_outside set 0 s.regions ≡ true) → ⊥) → ((Contains set 0 → ⊥) × (has_child_outside set 0 s.regions ≡ false) × (0 < set_refs s set) → ⊥) → s' ≡ deleted_all set s → Deletes set s s' Done
+  pub deletes_all : (s' : KeptStore) → (Contains set 0 → ⊥) → ((Contains set 0 → ⊥) × (has_child_outside set s.regions ≡ true) → ⊥) → ((Contains set 0 → ⊥) × (has_child_outside set s.regions ≡ false) × (0 < set_refs s set) → ⊥) → s' ≡ deleted_all set s → Deletes set s s' Done
   deletes_all s' not no_subregion no_reference same =
-      let none : has_child_outside set 0 s.regions ≡ false = elim (cases_Bool (has_child_outside set 0 s.regions)) [
+      let none : has_child_outside set s.regions ≡ false = elim (cases_Bool (has_child_outside set s.regions)) [
         | inl child ↦ absurd (no_subregion (not, child))
         | inr childless ↦ childless
       ] in

@@ -4,13 +4,12 @@ use Rattle.std.specs.Prelude.{◌||◌, ◌&&◌, ◌↔◌, not, option_map, Al
 use Rattle.std.proofs.lemmas.Bool.{cases_eq, false≢true}
 use Rattle.std.proofs.lemmas.List.{ext_get_or, length-map}
 use Rattle.rc_store.specs.Kept.{KeptView, Regions}
-use Rattle.rc_store.specs.Sets.{has_child_outside, is_child_of, is_in}
+use Rattle.rc_store.specs.Sets.{has_child_outside, is_child_of, is_in, without}
 use Rattle.rc_store.specs.Stores.{is_view, live_in, or_none, parent_in}
 use Rattle.rc_slots.specs.Entries.{Member}
 use Rattle.rc_areas.specs.Areas.{AreaState, IsLaid, objects_of}
 use Rattle.rc_areas.specs.Shapes.{Shape}
-use Rattle.rc_cells.specs.Together.{without}
-use Rattle.rc_cells.proofs.Together.{length-without, without_read}
+use Rattle.rc_store.proofs.Along.{child_along, child_from, length-without, without_read}
 use Rattle.rc_registry.specs.Registries.{IsApart, IsMember, Members, at_slots, is_member, is_slot_of, member_at, member_in, or_root}
 use Rattle.rc_registry.proofs.Placed.{same_answer}
 use Rattle.rc_registry.specs.Groups.{AreClear, HasChildOutside}
@@ -40,9 +39,9 @@ child_live set None live child = absurd (false≢true live)
 child_live set (Some v) live child = child
 
 -- a child outside, by its number
-pub outside_found : (set : List ℕ) (at : ℕ) (views : Regions) → has_child_outside set at views ≡ true → (i : ℕ) × IsTrue (live_in views i) × (is_in set (at + i) ≡ false) × (is_in set (parent_in views i) ≡ true)
+pub outside_found : (set : List ℕ) (at : ℕ) (views : Regions) → child_from set at views ≡ true → (i : ℕ) × IsTrue (live_in views i) × (is_in set (at + i) ≡ false) × (is_in set (parent_in views i) ≡ true)
 outside_found set at [] child = absurd (false≢true child)
-outside_found set at (v ∷ vs) child = elim (either (not (is_in set at) && is_child_of set v) (has_child_outside set (suc at) vs) child) [
+outside_found set at (v ∷ vs) child = elim (either (not (is_in set at) && is_child_of set v) (child_from set (suc at) vs) child) [
   | inl here ↦
       let two = both (not (is_in set at)) (is_child_of set v) here in
       let one = live_child set v two.1 in
@@ -52,11 +51,11 @@ outside_found set at (v ∷ vs) child = elim (either (not (is_in set at) && is_c
       (suc rest.0, rest.1, ap (is_in set) (let is : at + suc rest.0 ≡ suc at + rest.0 = omega arith in is) ∙ rest.2, rest.3)
 ]
 
-pub outside_there : (set : List ℕ) (at : ℕ) (views : Regions) (i : ℕ) → IsTrue (live_in views i) → is_in set (at + i) ≡ false → is_in set (parent_in views i) ≡ true → has_child_outside set at views ≡ true
+pub outside_there : (set : List ℕ) (at : ℕ) (views : Regions) (i : ℕ) → IsTrue (live_in views i) → is_in set (at + i) ≡ false → is_in set (parent_in views i) ≡ true → child_from set at views ≡ true
 outside_there set at [] i live out child = absurd (false≢true live)
 outside_there set at (v ∷ vs) zero live out child =
-    ap (λ b. (not b && is_child_of set v) || has_child_outside set (suc at) vs) (ap (is_in set) (let is : at ≡ at + 0 = omega arith in is) ∙ out)
-    ∙ ap (λ b. b || has_child_outside set (suc at) vs) (child_live set v live child)
+    ap (λ b. (not b && is_child_of set v) || child_from set (suc at) vs) (ap (is_in set) (let is : at ≡ at + 0 = omega arith in is) ∙ out)
+    ∙ ap (λ b. b || child_from set (suc at) vs) (child_live set v live child)
 outside_there set at (v ∷ vs) (suc i) live out child =
     ap (λ b. (not (is_in set at) && is_child_of set v) || b) (outside_there set (suc at) vs i live (ap (is_in set) (let is : suc at + i ≡ at + suc i = omega arith in is) ∙ out) child)
     ∙ or_true (not (is_in set at) && is_child_of set v)
@@ -69,14 +68,14 @@ module _ (ms : Members) (areas : List AreaState) (shapes : List Shape) (set : Li
   abbrev regions : Regions
   regions = regions_of ms areas shapes
 
-  pub outside_shown : HasChildOutside ms set → has_child_outside set 0 regions ≡ true
-  outside_shown has = outside_there set 0 regions has.0 (live_is ms areas shapes has.0 ∙ has.1) (ap (is_in set) (let is : 0 + has.0 ≡ has.0 = omega arith in is) ∙ has.2) (ap (is_in set) (parent_is ms areas shapes has.0) ∙ has.3)
+  pub outside_shown : HasChildOutside ms set → has_child_outside set regions ≡ true
+  outside_shown has = child_along set regions ∙ outside_there set 0 regions has.0 (live_is ms areas shapes has.0 ∙ has.1) (ap (is_in set) (let is : 0 + has.0 ≡ has.0 = omega arith in is) ∙ has.2) (ap (is_in set) (parent_is ms areas shapes has.0) ∙ has.3)
 
-  pub outside_same : (result : Bool) → IsTrue result ↔ HasChildOutside ms set → result ≡ has_child_outside set 0 regions
-  outside_same result is = same_answer result (has_child_outside set 0 regions)
+  pub outside_same : (result : Bool) → IsTrue result ↔ HasChildOutside ms set → result ≡ has_child_outside set regions
+  outside_same result is = same_answer result (has_child_outside set regions)
       (λ yes. outside_shown (is.0 yes))
       (λ yes.
-      let has = outside_found set 0 regions yes in
+      let has = outside_found set 0 regions (sym (child_along set regions) ∙ yes) in
       is.1 (has.0, sym (live_is ms areas shapes has.0) ∙ has.1, ap (is_in set) (let is : has.0 ≡ 0 + has.0 = omega arith in is) ∙ has.2, ap (is_in set) (sym (parent_is ms areas shapes has.0)) ∙ has.3))
 
   -- the areas of a set are empty

@@ -8,10 +8,9 @@ ghost use Rattle.rc_core.specs.Shapes.{kinds_in};
 ghost use Rattle.rc_core.specs.Heap.{Number as NumberValue};
 ghost use Rattle.rc_store.specs.Elements.{Finds, Loads, Stores, index_from, place_from};
 ghost use Rattle.rc_store.specs.Kept.{blank};
-ghost use Rattle.rc_store.specs.Sets.{has_child_outside};
+ghost use Rattle.rc_store.specs.Sets.{has_child_outside, without};
 ghost use Rattle.rc_store.specs.Stores.{cell_place, cell_value, cells_in, is_child, live_in, no_view, object_in, objects_in, objects_with, parent_in, region_at, with_objects};
 ghost use Rattle.rc_store.specs.Values.{suits, value_of};
-ghost use Rattle.rc_cells.specs.Together.{without};
 ghost use Rattle.rc_tally.specs.Tally.{held_refs, pin_refs, value_refs};
 ghost use Rattle.rc_space.specs.Spaces.{HasSpot, IsWhole, count_of};
 
@@ -375,7 +374,7 @@ impl<L: Ledger> Space<L> {
     pub fn has_child_outside(&mut self, set: &[u32]) -> bool
         requires live { All (λ r. IsTrue (live_in self.old.regions r)) set.now }
         requires not_root { ¬ Contains set.now 0 }
-        ensures child { result ≡ has_child_outside set.now 0 self.old.regions }
+        ensures child { result ≡ has_child_outside set.now self.old.regions }
         ensures same { self.new ≡ self.old }
     {
         rc_registry::has_child_outside(&self.registry, set, &mut self.marks)
@@ -387,7 +386,7 @@ impl<L: Ledger> Space<L> {
     pub fn remove_all(&mut self, set: &[u32])
         requires live { All (λ r. IsTrue (live_in self.old.regions r)) set.now }
         requires not_root { ¬ Contains set.now 0 }
-        requires closed { has_child_outside set.now 0 self.old.regions ≡ false }
+        requires closed { has_child_outside set.now self.old.regions ≡ false }
         requires unnamed { All (λ r. count_of self.old r ≡ 0) set.now }
         ensures regions { self.new.regions ≡ without set.now self.old.regions }
         ensures counts { (r : ℕ) → count_of self.new r ≡ count_of self.old r }

@@ -12,9 +12,10 @@ use Rattle.rc_core.specs.Heap.{Value, Object, blank_cell, names, kinds_of}
 use Rattle.rc_core.specs.Heap.{blank as blank_object}
 use Rattle.rc_core.specs.Store.{View, Store}
 use Rattle.rc_core.specs.Store as S
-use Rattle.rc_store.specs.Kept.{blank, kept_object, kept_view, object_refs, refs_outside, view_refs}
+use Rattle.rc_store.specs.Kept.{blank, kept_object, kept_view, object_refs, view_refs}
 use Rattle.rc_store.specs.Laws.{KeepsTheStore}
 use Rattle.rc_store.specs.Values.{blank_of, is_counted}
+use Rattle.rc_store.proofs.Along.{refs_along, refs_from}
 
 kind_counted : (k : CellKind) → is_counted (kind_of k) ≡ cell_is_counted k
 kind_counted int_cell = refl
@@ -70,14 +71,14 @@ view_refs_kept : (r : ℕ) (v : Option View) → view_refs r (option_map kept_vi
 view_refs_kept r None = refl
 view_refs_kept r (Some v) = objects_refs r v.objects
 
-outside_kept : (r at : ℕ) (views : List (Option View)) → refs_outside r at (map (option_map kept_view) views) ≡ S.refs_outside r at views
+outside_kept : (r at : ℕ) (views : List (Option View)) → refs_from r at (map (option_map kept_view) views) ≡ S.refs_outside r at views
 outside_kept r at [] = refl
 outside_kept r at (v ∷ views) =
-    ap (λ n. cond (nat_eq at r) 0 n + refs_outside r (suc at) (map (option_map kept_view) views)) (view_refs_kept r v)
+    ap (λ n. cond (nat_eq at r) 0 n + refs_from r (suc at) (map (option_map kept_view) views)) (view_refs_kept r v)
     ∙ ap (λ n. cond (nat_eq at r) 0 (S.view_refs r v) + n) (outside_kept r (suc at) views)
 
 pub keeps_the_store : KeepsTheStore
 keeps_the_store = record {
   blanks = blank_kept;
-  references = λ s r. ap (λ n. n + count_by (names r) s.pins) (outside_kept r 0 s.regions);
+  references = λ s r. ap (λ n. n + count_by (names r) s.pins) (refs_along r (map (option_map kept_view) s.regions) ∙ outside_kept r 0 s.regions);
 }

@@ -1,12 +1,13 @@
 -- The store as a heap keeps it: of the type of a pointer's target nothing is kept.
-use Rattle.std.specs.Prelude.{ℕ, suc, ◌+◌, ◌&&◌, nat_eq, List, [], ◌∷◌, zip, map, flat_map, replicate, length, option_map, Option, Some, None, count_by, sum_by, if◌then◌else◌}
+use Rattle.std.specs.Prelude.{ℕ, ◌+◌, ◌&&◌, List, zip, map, flat_map, replicate, length, slice_set, option_map, Option, Some, None, count_by, sum_by}
 use Rattle.rc_core.specs.declared.layouts.Kind.{Kind}
 use Rattle.rc_core.specs.Laid.{kind_of}
 use Rattle.rc_core.specs.Heap.{Value, Object, names, kinds_of}
 use Rattle.rc_core.specs.Store.{View, Store}
 use Rattle.rc_store.specs.Values.{blank_of, is_counted}
 
--- how many cells an element has, how many elements there are, and of all cells the kinds and the values
+-- how many cells an element has, how many elements there are, and of all cells the kinds and the values; that these agree is said by
+-- `IsFilled` of specs/Whole, and every heap keeps it
 pub record KeptObject : Type 0 where
   pub size : ℕ
   pub count : ℕ
@@ -47,10 +48,6 @@ abbrev pub view_refs : (r : ℕ) → Option KeptView → ℕ
 view_refs r None = 0
 view_refs r (Some v) = sum_by (object_refs r) v.objects
 
--- those of live regions but r; `at` is the number of the first region
-abbrev pub refs_outside : (r at : ℕ) → Regions → ℕ
-refs_outside r at [] = 0
-refs_outside r at (v ∷ views) = (if nat_eq at r then 0 else view_refs r v) + refs_outside r (suc at) views
-
+-- the counted cells of live regions but r, and the pins, that name r
 abbrev pub refs : KeptStore → (r : ℕ) → ℕ
-refs store r = refs_outside r 0 store.regions + count_by (names r) store.pins
+refs store r = sum_by (view_refs r) (slice_set store.regions r None) + count_by (names r) store.pins

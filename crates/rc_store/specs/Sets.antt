@@ -1,5 +1,5 @@
 -- Several regions deleted at once: a reference from one of them to another is no hindrance, and neither is a child that goes too.
-use Rattle.std.specs.Prelude.{◌≢◌, ℕ, suc, ◌+◌, Bool, ◌&&◌, ◌||◌, not, nat_eq, List, [], ◌∷◌, All, AllPairs, Option, Some, None, false, count_by, sum_by, if◌then◌else◌}
+use Rattle.std.specs.Prelude.{◌≢◌, ℕ, ◌+◌, Bool, nat_eq, List, [], ◌∷◌, All, AllPairs, Option, Some, None, false, slice_set, count_by, sum_by}
 use Rattle.std.specs.List.{list_any}
 use Rattle.rc_core.specs.Heap.{names}
 use Rattle.rc_store.specs.Kept.{KeptStore, KeptView, Regions, view_refs}
@@ -17,18 +17,18 @@ abbrev pub is_child_of : List ℕ → Option KeptView → Bool
 is_child_of set None = false
 is_child_of set (Some v) = is_in set v.parent
 
--- a live region that isn't a member has a member as its parent; `at` is the number of the first region
-abbrev pub has_child_outside : List ℕ → (at : ℕ) → Regions → Bool
-has_child_outside set at [] = false
-has_child_outside set at (v ∷ views) = (not (is_in set at) && is_child_of set v) || has_child_outside set (suc at) views
+-- a list by numbers, with none at each number of the set
+abbrev pub without : {A : Type 0} → (set : List ℕ) → List (Option A) → List (Option A)
+without [] xs = xs
+without (n ∷ set) xs = without set (slice_set xs n None)
+
+-- a live region that isn't a member has a member as its parent
+abbrev pub has_child_outside : List ℕ → Regions → Bool
+has_child_outside set regions = list_any (is_child_of set) (without set regions)
 
 -- the counted cells of live regions that aren't members, and the pins, that name r
-abbrev pub refs_beside : List ℕ → (r at : ℕ) → Regions → ℕ
-refs_beside set r at [] = 0
-refs_beside set r at (v ∷ views) = (if is_in set at then 0 else view_refs r v) + refs_beside set r (suc at) views
-
 abbrev pub refs_to : KeptStore → List ℕ → (r : ℕ) → ℕ
-refs_to s set r = refs_beside set r 0 s.regions + count_by (names r) s.pins
+refs_to s set r = sum_by (view_refs r) (without set s.regions) + count_by (names r) s.pins
 
 -- those that name a member
 abbrev pub set_refs : KeptStore → List ℕ → ℕ

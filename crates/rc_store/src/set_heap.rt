@@ -23,8 +23,8 @@ pub trait SetHeap: Heap {
         ensures ok { OnOk result (Self.store self.new ≡ deleted_all set.now (Self.store self.old)) }
         ensures err { OnErr result (Self.store self.new ≡ Self.store self.old) }
         ensures root { IsErrOf result Root ↔ Contains set.now 0 }
-        ensures subregion { IsErrOf result Subregion ↔ ((¬ Contains set.now 0) × IsTrue (has_child_outside set.now 0 (Self.store self.old).regions)) }
-        ensures reference { IsErrOf result Reference ↔ ((¬ Contains set.now 0) × (has_child_outside set.now 0 (Self.store self.old).regions ≡ false) × (0 < set_refs (Self.store self.old) set.now)) }
+        ensures subregion { IsErrOf result Subregion ↔ ((¬ Contains set.now 0) × IsTrue (has_child_outside set.now (Self.store self.old).regions)) }
+        ensures reference { IsErrOf result Reference ↔ ((¬ Contains set.now 0) × (has_child_outside set.now (Self.store self.old).regions ≡ false) × (0 < set_refs (Self.store self.old) set.now)) }
         ensures cost { steps.new ≤ steps.old + 2 * sum_by (Self.most_reads self.old) set.now }
         ensures quiet_root { IsErrOf result Root → steps.new ≡ steps.old }
         ensures quiet_subregion { IsErrOf result Subregion → steps.new ≡ steps.old }

@@ -21,6 +21,7 @@ use Rattle.rc_whole.specs.Stays.{StaysWhole}
 use Rattle.rc_whole.proofs.Fitting.{Right, blank_right, fits_same, fresh_stays}
 use Rattle.rc_whole.proofs.Killed.{NoneNames, killed}
 use Rattle.rc_whole.proofs.Regions.{ObjectRight, RegionRight, join, live_there, objects_changed, read_beside, region_moved, region_read, split}
+use Rattle.rc_store.proofs.Along.{beside_along, child_along, refs_along}
 use Rattle.rc_whole.proofs.Unnamed.{beside_none, each_none, no_member, none_of, not_child, not_child_of, outside_none, pins_unnamed, view_unnamed}
 
 -- the regions of a store are whole whatever is pinned, where the pins are fresh
@@ -228,7 +229,7 @@ deleted_whole s d whole inner childless none = killed s (deleted d s) gone whole
     names_none r o index cell live left there has counted =
         let filled = whole.filled r o live there in
         let at = inside (object_in s.regions r o) index cell has in
-        let empty : view_refs d (region_at s.regions r) ≡ 0 = ap (view_refs d) (region_read s.regions r) ∙ outside_none d 0 r s.regions (omega (arith, none)) (live_there s.regions r live) (let same : 0 + r ≡ r = omega arith in ap (λ n. nat_eq n d) same ∙ left) in
+        let empty : view_refs d (region_at s.regions r) ≡ 0 = ap (view_refs d) (region_read s.regions r) ∙ outside_none d 0 r s.regions (omega (arith, none, refs_along d s.regions)) (live_there s.regions r live) (let same : 0 + r ≡ r = omega arith in ap (λ n. nat_eq n d) same ∙ left) in
         view_unnamed d (region_at s.regions r) o (cell_place (object_in s.regions r o) index cell) empty there (omega (arith, at, filled.kinds)) (omega (arith, at, filled.values)) counted
 
 -- several die at once
@@ -258,7 +259,7 @@ all_pins : (dying : List ℕ) (s : KeptStore) → (deleted_all dying s).pins ≡
 all_pins [] s = refl
 all_pins (d ∷ ds) s = all_pins ds (deleted d s)
 
-all_deleted_whole : (s : KeptStore) (dying : List ℕ) → IsWhole s → (¬ Contains dying 0) → has_child_outside dying 0 s.regions ≡ false → set_refs s dying ≡ 0 → IsWhole (deleted_all dying s)
+all_deleted_whole : (s : KeptStore) (dying : List ℕ) → IsWhole s → (¬ Contains dying 0) → has_child_outside dying s.regions ≡ false → set_refs s dying ≡ 0 → IsWhole (deleted_all dying s)
 all_deleted_whole s dying whole inner childless none = killed s (deleted_all dying s) (is_in dying) whole (all_read dying s) (no_member dying 0 inner) up names_none (all_pins dying s) pins
   where
     to_one : (d : ℕ) → is_in dying d ≡ true → refs_to s dying d ≡ 0
@@ -267,14 +268,14 @@ all_deleted_whole s dying whole inner childless none = killed s (deleted_all dyi
     up : (r : ℕ) → IsLive s r → is_in dying r ≡ false → is_in dying (parent_in s.regions r) ≡ false
     up r live left =
         ap (λ w. is_in dying (or_none w).parent) (region_read s.regions r)
-        ∙ not_child_of dying 0 r s.regions childless (ap is_view (sym (region_read s.regions r)) ∙ live) (let same : 0 + r ≡ r = omega arith in ap (is_in dying) same ∙ left)
+        ∙ not_child_of dying 0 r s.regions (sym (child_along dying s.regions) ∙ childless) (ap is_view (sym (region_read s.regions r)) ∙ live) (let same : 0 + r ≡ r = omega arith in ap (is_in dying) same ∙ left)
 
     names_none : NoneNames s (is_in dying)
     names_none r o index cell live left there has counted =
         let filled = whole.filled r o live there in
         let at = inside (object_in s.regions r o) index cell has in
         none_of dying (cell_value (object_in s.regions r o) index cell) (λ d member.
-        let empty : view_refs d (region_at s.regions r) ≡ 0 = ap (view_refs d) (region_read s.regions r) ∙ beside_none dying d 0 r s.regions (omega (arith, to_one d member)) (live_there s.regions r live) (let same : 0 + r ≡ r = omega arith in ap (is_in dying) same ∙ left) in
+        let empty : view_refs d (region_at s.regions r) ≡ 0 = ap (view_refs d) (region_read s.regions r) ∙ beside_none dying d 0 r s.regions (omega (arith, to_one d member, beside_along dying d s.regions)) (live_there s.regions r live) (let same : 0 + r ≡ r = omega arith in ap (is_in dying) same ∙ left) in
         view_unnamed d (region_at s.regions r) o (cell_place (object_in s.regions r o) index cell) empty there (omega (arith, at, filled.kinds)) (omega (arith, at, filled.values)) counted)
 
     pins : All (λ v. of_region false (is_in dying) v ≡ false) s.pins

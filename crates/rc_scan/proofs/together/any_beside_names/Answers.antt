@@ -1,11 +1,19 @@
-use Rattle.std.proofs.Common.{◌≡◌, refl, None, arith, cond, get_or}
+use Rattle.std.proofs.Common.{◌≡◌, refl, sym, None, arith, cond, get_or}
 use Rattle.std.proofs.lemmas.List.Sums.{sum_by_more_le, sum_by_more}
 use Rattle.rc_store.specs.Kept.{view_refs}
 use Rattle.rc_store.specs.Sets.{is_in}
 use Rattle.rc_store.specs.Stores.{cells_in}
+use Rattle.rc_store.proofs.Along.{beside_along}
 use Rattle.rc_scan.proofs.Beside.{refs_step}
-use Rattle.rc_scan.proofs.Refs.{none_is_zero}
+use Rattle.rc_scan.proofs.Zero.{none_is_zero}
 use Rattle.rc_scan.proofs.together.any_beside_names.Goals as goal
+
+pub loop-i-init : goal.loop-i-init
+loop-i-init g c = record {
+  left = sym (beside_along c.args.set.now c.args.region c.args.regions.now);
+  cost = omega arith;
+  never_falls = omega arith;
+}
 
 pub loop-i-preserved : goal.loop-i-preserved
 loop-i-preserved g c =

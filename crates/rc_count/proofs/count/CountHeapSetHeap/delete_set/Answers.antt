@@ -1,8 +1,7 @@
 use Rattle.std.proofs.Common.{◌≡◌, ◌<◌, ◌≤◌, ◌+◌, ◌-◌, ◌∙◌, ℕ, false, refl, sym, ap, subst, arith}
 use Rattle.std.proofs.lemmas.Bool.{false≢true}
 use Rattle.rc_store.specs.Kept.{KeptStore, Regions}
-use Rattle.rc_store.specs.Sets.{IsSet, deleted_all, has_child_outside, set_refs}
-use Rattle.rc_cells.specs.Together.{without}
+use Rattle.rc_store.specs.Sets.{IsSet, deleted_all, has_child_outside, set_refs, without}
 use Rattle.rc_cells.proofs.Together.{sets_follow}
 use Rattle.rc_space.specs.Spaces.{SpaceState, count_of}
 use Rattle.rc_count.specs.Counted.{IsCounted}
@@ -39,7 +38,7 @@ returns-then-is_named-clause-reference g c =
     let same = c.has_child_outside.ensures.same in
     let mid = c.take_back_all.new.space in
     let less : (r : ℕ) → count_of mid r + all_held s.regions set r ≡ count_of h.space r = λ r. ap (λ (x : SpaceState). count_of mid r + all_held x.regions set r) (sym same) ∙ c.take_back_all.ensures.counts r ∙ ap (λ (x : SpaceState). count_of x r) same in
-    let closed : has_child_outside set 0 c.args.self.now.regions ≡ false = ap (λ (x : KeptStore). has_child_outside set 0 x.regions) (sym c.self.view_is) ∙ sym c.has_child_outside.ensures.child ∙ c.if-has_child_outside.false in
+    let closed : has_child_outside set c.args.self.now.regions ≡ false = ap (λ (x : KeptStore). has_child_outside set x.regions) (sym c.self.view_is) ∙ sym c.has_child_outside.ensures.child ∙ c.if-has_child_outside.false in
     let some : 0 < set_refs c.args.self.now set = subst (λ x. 0 < set_refs x set) c.self.view_is (named_set h.space s h.cells c.self.invariant set all mid less (c.is_named.ensures.0 c.if-is_named.true)) in
     ((λ _. ((λ has. false≢true (sym c.if-has_root.false ∙ c.has_root.ensures.1 has)), closed, some)), (λ _. refl))
 
@@ -88,7 +87,7 @@ invariant_of-self-2 g c =
     let regions : mid.regions ≡ s.regions = c.take_back_all.ensures.regions ∙ ap (λ (x : SpaceState). x.regions) same in
     let less : (r : ℕ) → count_of mid r + all_held s.regions set r ≡ count_of h.space r = λ r. ap (λ (x : SpaceState). count_of mid r + all_held x.regions set r) (sym same) ∙ c.take_back_all.ensures.counts r ∙ ap (λ (x : SpaceState). count_of x r) same in
     let left : deleted_all set s ≡ with c.remove_all.new.self.regions = sets_follow.left s set ∙ ap with (sym (c.remove_all.ensures.regions ∙ ap (without set) regions)) in
-    let closed : has_child_outside set 0 s.regions ≡ false = sym c.has_child_outside.ensures.child ∙ c.if-has_child_outside.false in
+    let closed : has_child_outside set s.regions ≡ false = sym c.has_child_outside.ensures.child ∙ c.if-has_child_outside.false in
     subst (λ x. IsCounted c.remove_all.new.self x (h.cells - c.cells_of.result)) left
     (counted_set h.space s h.cells c.self.invariant set all mid less c.remove_all.new.self (h.cells - c.cells_of.result) (λ has. false≢true (sym c.if-has_root.false ∙ c.has_root.ensures.1 has)) closed
     (λ named. false≢true (sym c.if-is_named.false ∙ c.is_named.ensures.1 named)) c.remove_all.ensures.counts (ap (λ n. h.cells - n) (c.cells_of.ensures ∙ ap (λ rs. cells_among rs set) regions)))

@@ -5,7 +5,7 @@ use Rattle.rc_store.specs.Kept.{KeptStore, refs}
 use Rattle.rc_store.specs.Stores.{has_child, is_child}
 use Rattle.rc_whole.proofs.Whole.{stays_whole}
 use Rattle.rc_scan.proofs.Keeping.{with_regions}
-use Rattle.rc_scan.proofs.Refs.{none_is_zero}
+use Rattle.rc_scan.proofs.Zero.{none_is_zero}
 use Rattle.rc_scan.proofs.scan.ScanHeapHeap.delete.Goals as goal
 
 pub invariant_of-self : goal.invariant_of-self

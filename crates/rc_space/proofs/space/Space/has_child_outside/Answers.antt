@@ -9,7 +9,7 @@ pub returns-clause-child : goal.returns-clause-child
 returns-clause-child g c =
     let s = c.self.inside in
     outside_same s.registry.members s.areas.items s.shapes c.args.set.now c.has_child_outside.result c.has_child_outside.ensures.child
-    ∙ ap (λ (x : SpaceState). has_child_outside c.args.set.now 0 x.regions) c.self.view_is
+    ∙ ap (λ (x : SpaceState). has_child_outside c.args.set.now x.regions) c.self.view_is
 
 pub has_child_outside-requires-clause-live : goal.has_child_outside-requires-clause-live
 has_child_outside-requires-clause-live g c =

@@ -1,8 +1,7 @@
 use Rattle.std.proofs.Common.{◌∙◌, length, get_or, sym, ap, subst}
 use Rattle.std.proofs.lemmas.Bool.{false≢true}
 use Rattle.std.proofs.lemmas.List.{with_items_is}
-use Rattle.rc_store.specs.Sets.{has_child_outside}
-use Rattle.rc_cells.specs.Together.{without}
+use Rattle.rc_store.specs.Sets.{has_child_outside, without}
 use Rattle.rc_registry.specs.Registries.{at_slots}
 use Rattle.rc_registry.specs.Groups.{AreClear}
 use Rattle.rc_space.specs.Spaces.{AreFreed, IsSpace, SpaceState, no_area, regions_of}
@@ -25,7 +24,7 @@ remove_all-requires-clause-live g c =
 pub remove_all-requires-clause-closed : goal.remove_all-requires-clause-closed
 remove_all-requires-clause-closed g c =
     let s = c.self.inside in
-    λ has. false≢true (sym c.requires.closed ∙ ap (λ (x : SpaceState). has_child_outside c.args.set.now 0 x.regions) (sym c.self.view_is) ∙ outside_shown s.registry.members s.areas.items s.shapes c.args.set.now has)
+    λ has. false≢true (sym c.requires.closed ∙ ap (λ (x : SpaceState). has_child_outside c.args.set.now x.regions) (sym c.self.view_is) ∙ outside_shown s.registry.members s.areas.items s.shapes c.args.set.now has)
 
 pub invariant_of-self : goal.invariant_of-self
 invariant_of-self g c =
