@@ -157,3 +157,15 @@ set_listed from (y ∷ ys) (suc i) point local h x g e p q =
   where
     apart : (a b : ℕ) → a < b → nat_eq a b ≡ false
     apart a b m = grind (arith, m)
+
+-- the list of a point increases
+pub list_increases : (lists : List Held) (point : ℕ) (locals : List ℕ) → IsMap lists → list_at lists point ≡ Some locals → IsIncreasing locals
+list_increases lists point locals m e = listed lists m.locals e
+  where
+    listed : (hs : List Held) → Every (λ h. IsIncreasing h.locals) hs → list_at hs point ≡ Some locals → IsIncreasing locals
+    listed [] all q = cc
+    listed (h ∷ hs) all q = by (nat_eq h.point point) refl (λ d. listed hs all.1 d)
+      where
+        by : (t : Bool) → nat_eq h.point point ≡ t → (list_at hs point ≡ Some locals → IsIncreasing locals) → IsIncreasing locals
+        by true d others = subst IsIncreasing (same_Some h.locals locals (sym (ap (λ t. chosen_list t h.locals (list_at hs point)) d) ∙ q)) all.0
+        by false d others = others (sym (ap (λ t. chosen_list t h.locals (list_at hs point)) d) ∙ q)

@@ -54,7 +54,7 @@ fn place_of(lists: &[Held], point: u32) -> usize
 }
 
 impl LiveMap {
-    /// The map with these lists.
+    /// The map with these lists. It is not asked whether some region code has them.
     pub fn new(lists: Vec<Held>) -> LiveMap
         requires { IsMap (map held_of lists.items) }
         ensures { result ≡ map held_of lists.items }
@@ -66,6 +66,7 @@ impl LiveMap {
     pub fn after(&self, point: u32) -> &[u32]
         requires { IsPoint self.now point }
         ensures list { list_at self.now point ≡ Some result.now }
+        ensures increases { IsIncreasing result.now }
     {
         let place = place_of(self.lists.as_slice(), point);
         self.lists[place].locals.as_slice()
