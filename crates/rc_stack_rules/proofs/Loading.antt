@@ -43,7 +43,7 @@ module _ (global_ty result_ty : ℕ → Ty) (f : Routine) where
       let serves : Serves f (slots_of f) = body_serves same_kept kept_self kept_is f (code_served f.locals f.body in_order.0 in_order.1) in
       loaded global_ty result_ty slots_of deleting f (IsThere f (slots_of f)) slot_kind serves.fits in_order.2
 
-  pub ends_in_return : EndsInReturn global_ty result_ty f
+  pub ends_in_return : EndsInReturn f
   ends_in_return deleting = ends_in_a_return global_ty result_ty slots_of deleting f (IsThere f (slots_of f)) slot_kind f.result
 
 local_there : (xs ys : List Ty) (x : ℕ) (u : Ty) → slice_get xs x ≡ Some u → get_or (xs ++ ys) x int ≡ u

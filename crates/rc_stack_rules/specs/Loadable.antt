@@ -18,13 +18,14 @@ use Rattle.rc_rlang.specs.RegionKinds.{CodeKinded}
 abbrev pub all_locals : Routine → List Ty
 all_locals f = f.locals ++ (slots_of f).types
 
+-- whichever functions delete
+abbrev pub EndsInReturn : Routine → Type 0
+EndsInReturn f = (deleting : ℕ → Bool) → (before : List Line) × (values : List Ty) × (body_lines (slots_of f).slot deleting f ≡ before ++ line_of f.line (leave values) ∷ [])
+
 module _ (global_ty result_ty : ℕ → Ty) (f : Routine) where
   -- whichever functions delete
   abbrev pub KeepsRules : Type 0
   KeepsRules = (deleting : ℕ → Bool) → IsLoadable (all_locals f) global_ty result_ty (body_lines (slots_of f).slot deleting f)
-
-  abbrev pub EndsInReturn : Type 0
-  EndsInReturn = (deleting : ℕ → Bool) → (before : List Line) × (values : List Ty) × (body_lines (slots_of f).slot deleting f ≡ before ++ line_of f.line (leave values) ∷ [])
 
   abbrev pub IsInOrder : Type 0
   IsInOrder = CodeFits f.body × CodeNames f.locals f.body × CodeKinded (all_locals f) global_ty result_ty f.body

@@ -26,7 +26,7 @@ pub fn programs_keep_the_rules()
 
 /// A function's stack code ends in a return.
 pub fn functions_end_in_a_return()
-    ensures { (global_ty result_ty : ℕ → Ty) (f : Routine) → EndsInReturn global_ty result_ty f }
+    ensures { (f : Routine) → EndsInReturn f }
 {}
 
 /// Each local that stack code names is there, and what deletions and calls hold are locals of the
