@@ -90,9 +90,12 @@ impl Mask {
         }
     }
 
-    /// Marks a point that is there. All others are marked as before.
+    /// Marks a point that is there, and changes nothing else: all others are marked as before, and each
+    /// function has as many. It is not asked what stands at the point; a mark where no store to an annotated
+    /// cell stands is never read.
     pub fn remove(&mut self, function: u32, point: u32)
         requires { point < length (get_or self.old function []) }
+        ensures rows { self.new ≡ slice_set self.old function (slice_set (get_or self.old function []) point true) }
         ensures points { (r : RegionCode) → HasPoints r self.old → HasPoints r self.new }
         ensures marks { (g p : ℕ) → marks_in self.new g p ≡ (nat_eq g function && nat_eq p point || marks_in self.old g p) }
     {

@@ -6,6 +6,17 @@ use Rattle.rc_elim.specs.Masks.{HasPoints, marks_in, rows_of}
 use Rattle.rc_elim.proofs.Unmarked.{long_set, marked_too, row_read, same_points}
 use Rattle.rc_elim.proofs.mask.Mask.remove.Goals as goal
 
+pub returns-clause-rows : goal.returns-clause-rows
+returns-clause-rows c =
+    let rows = c.self.inside.rows.items in
+    let m = c.args.self.now in
+    let h = c.args.function in
+    let row = c.index_mut.result.now in
+    let read : row.items ≡ get_or m h [] = row_read rows h c.args.point row c.index_mut.ensures.value m c.self.view_is c.requires in
+    let bits : c.set.new.bits ≡ set (get_or m h []) c.args.point true = c.set.ensures ∙ ap (λ bs. set bs c.args.point true) (c.deref_mut.ensures.value ∙ read) in
+    let kept = with_items_is row c.set.new.bits (ap length c.set.ensures ∙ long_set c.deref_mut.result.now c.args.point ∙ c.deref_mut.ensures.len) in
+    map-set (λ (v : Vec Bool Alloc). v.items) rows h (Rattle.std.specs.Vec.with_items row c.set.new.bits) ∙ ap (set (rows_of rows) h) (kept ∙ bits) ∙ ap (λ x. set x h (set (get_or m h []) c.args.point true)) c.self.view_is
+
 pub returns-clause-points : goal.returns-clause-points
 returns-clause-points c r has =
     let rows = c.self.inside.rows.items in
