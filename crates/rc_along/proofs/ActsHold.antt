@@ -207,7 +207,7 @@ module _ (frame : Setting) (around : Calling frame) where
 
       holds_of : AllHold (a.exit g) (past copied (λ u. v)) w.heap
       holds_of fact is =
-          let d = c.exit g f here (returning given) given fact there st.0 refl is in
+          let d = c.follows.exit g f here given fact there (record { node = returning given; there = st.0; returns = refl }) is in
           holds_same (suc (copies f)) fact (λ u. values (renamed (copies f) b u)) (past copied (λ u. v)) w.heap (c.at_exits g f fact there is) named_value
           (with_name (renamed (copies f) b) fact values w.heap (derivable_holds (variables f (n frame)) (λ q. a.before g here q || returned_facts f (n frame) given q) values w.heap good.sane.rooted given_of d))
 

@@ -96,7 +96,7 @@ module _ (frame : Setting) where
       → Leads frame p (called x k (regional_arguments f tys h)) to → At frame p env t w → AllHold (a.entry k) (past (passed tys t h) (λ i. Null)) w.heap
   entry_holds p to k fk x tys h env t w found same whole' l good fact is =
       let arguments = regional_arguments f tys h in
-      let d = c.calls g f p l.node l.e (record { effect = called x k arguments; to = to }) x k arguments fact there l.at l.edge refl is in
+      let d = c.follows.calls g f p (record { effect = called x k arguments; to = to }) x k arguments fact there (record { node = l.node; place = l.e; there = l.at; is = l.edge }) refl is in
       holds_same (copies fk) fact (λ i. vals frame env t (get_or arguments i 0)) (past (passed tys t h) (λ i. Null)) w.heap (c.at_entries k fk fact found is)
       (λ i lt. sym (place_value tys h None i (get_or arguments i 0) (vals frame env t) t Null whole' (λ j lt2. V.temp_value f copied whole env t.regions j) (λ y e. cc) (argument_place tys h i (omega (arith, lt, same)))))
       (with_name (λ v. get_or arguments v 0) fact (vals frame env t) w.heap (derivable_holds (variables f (n frame)) (a.before g p) (vals frame env t) w.heap good.sane.rooted good.facts d))

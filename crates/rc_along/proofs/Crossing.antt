@@ -13,7 +13,7 @@ use Rattle.rc_core.specs.declared.ty.Signedness.{Signedness}
 use Rattle.rc_rlang.specs.RegionCode.{numeric, regional, kind_of, Access}
 use Rattle.rc_rlang.specs.RegionRuns.{Temporaries, at_kind, temporary, set_kind, with_temporary, changed_at, chosen_value, target_at, target_shifted, holds}
 use Rattle.rc_rlang.specs.RegionFlow.{Effect, nothing, nulled, moved, fixed, beside, made, under, loaded, present, absent, assigned, Node, going, is_regional, one_of, local_variable, temporary_variable, result_variable, scratch, variables, yes_effect, no_effect, routine_nodes}
-use Rattle.rc_annotations.specs.Annotations.{Facts, gained, exit_facts, allowed, assigning}
+use Rattle.rc_annotations.specs.Annotations.{Facts, gained, exit_facts, allowed_where, assigning}
 use Rattle.rc_annotations.specs.Holding.{is_present, region_in}
 use Rattle.rc_annotations.specs.Effects.{Absent, Says}
 use Rattle.rc_annotations.specs.Variables.{picked, picks, values_of}
@@ -67,7 +67,7 @@ module _ (frame : Setting) where
   cross p to effect env env1 t t1 w w1 l good stays long same e says = record {
     facts = λ fact is. holds_behind (variables f n) (result_variable f n) (a.before g p) (gained exits effect) (vals env t) (vals env1 t1) w.heap w1.heap (λ q. c.at_points g f p q there) good.facts
         (record { rooted = good.sane.rooted; made = good.made }) stays.sane.rooted stays.grown (λ u lt. same u) (gained_holds exits effect (vals env1 t1) w1.heap says)
-        (subst (λ x. allowed (variables f n) fresh (gained exits) x effect (a.before g p) fact) e (c.along g f p l.node l.e (record { effect = effect; to = to }) fact there l.at l.edge is));
+        (subst (λ x. allowed_where (variables f n) fresh (gained exits) x effect (a.before g p) fact) e (c.follows.along g f p (record { effect = effect; to = to }) fact there (record { node = l.node; place = l.e; there = l.at; is = l.edge }) is));
     made = λ u. subst (Made w1.heap) (sym (same u)) (made_grown w.heap w1.heap (vals env t u) stays.grown (good.made u));
     sane = stays.sane;
     grown = grown_trans heap0 w.heap w1.heap good.grown stays.grown;
@@ -98,7 +98,7 @@ module _ (frame : Setting) where
     facts = λ fact is. holds_assigned (variables f n) (result_variable f n) fresh x v (a.before g p) (gained exits (assigning fresh effect)) (vals env t) (vals env1 t1) w.heap w1.heap result_below (λ q. c.at_points g f p q there) good.facts
         (record { rooted = good.sane.rooted; made = good.made }) stays.sane.rooted stays.grown (λ u lt. same u) (gained_holds exits (assigning fresh effect) (changed_at (vals env t) fresh v) w1.heap says)
         fact (c.at_points g f to fact there is)
-        (subst (λ x. allowed (variables f n) fresh (gained exits) x effect (a.before g p) fact) e (c.along g f p l.node l.e (record { effect = effect; to = to }) fact there l.at l.edge is));
+        (subst (λ x. allowed_where (variables f n) fresh (gained exits) x effect (a.before g p) fact) e (c.follows.along g f p (record { effect = effect; to = to }) fact there (record { node = l.node; place = l.e; there = l.at; is = l.edge }) is));
     made = λ u. subst (Made w1.heap) (sym (same u)) (changed_made w1.heap (vals env t) x v u m (made_grown w.heap w1.heap (vals env t u) stays.grown (good.made u)));
     sane = stays.sane;
     grown = grown_trans heap0 w.heap w1.heap good.grown stays.grown;

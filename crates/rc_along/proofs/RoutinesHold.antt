@@ -167,7 +167,7 @@ module _ (frame : Setting) (around : Calling frame) where
   -- what the entry's facts say of the copies holds before the first point
   pub entry_good : (env : List Value) (w : World) → Sane w → Grown heap0 w.heap → length env ≡ length f.locals → AllHold (a.entry g) (past copied (λ i. Null)) w.heap → ((i : ℕ) → Made w.heap (past copied (λ k. Null) i)) → ((i : ℕ) → Made w.heap (past (picked (picks f) env) (λ k. Null) i)) → At frame 0 env blank_temporaries w
   entry_good env w sane grown long hold mc me = record {
-    facts = λ fact is. derivable_holds (variables f (n frame)) (a.entry g) (vals frame env blank_temporaries) w.heap sane.rooted (λ p e. holds_same (copies f) p (past copied (λ i. Null)) (vals frame env blank_temporaries) w.heap (c.at_entries g f p there e) (λ u lt. past_front copied (past (picked (picks f) env) blank_temporaries.regions) (λ i. Null) u (omega (arith, lt, whole))) (hold p e)) (c.entry g f fact there is);
+    facts = λ fact is. derivable_holds (variables f (n frame)) (a.entry g) (vals frame env blank_temporaries) w.heap sane.rooted (λ p e. holds_same (copies f) p (past copied (λ i. Null)) (vals frame env blank_temporaries) w.heap (c.at_entries g f p there e) (λ u lt. past_front copied (past (picked (picks f) env) blank_temporaries.regions) (λ i. Null) u (omega (arith, lt, whole))) (hold p e)) (c.follows.entry g f fact there is);
     made = λ u. past_made w.heap copied (past (picked (picks f) env) blank_temporaries.regions) u mc (λ k. past_made w.heap (picked (picks f) env) blank_temporaries.regions k me (λ j. λ p. absurd p));
     sane = sane;
     grown = grown;

@@ -4,7 +4,7 @@ use Rattle.std.proofs.lemmas.Bool.{or_cases, or_left, or_right}
 use Rattle.rc_facts.specs.declared.fact.Fact.{Fact}
 use Rattle.rc_facts.specs.Derivable.{Derivable, stated, in_itself, in_through, up_through, up_by_in, in_back, present_by_in, present_by_up, trad_by_up, up_by_trad, in_by_trad}
 use Rattle.rc_annotations.specs.Laws.{Within}
-use Rattle.rc_annotations.specs.Annotations.{Facts, allowed, assigning}
+use Rattle.rc_annotations.specs.Annotations.{Facts, allowed_where, assigning}
 use Rattle.rc_rlang.specs.RegionFlow.{Effect}
 use Rattle.std.specs.Prelude.{Option, Some, None}
 
@@ -32,6 +32,6 @@ either_more {before} {others} {gains} {gains1} h g p is = elim (or_cases (before
 ]
 
 -- what is allowed after an effect grows with the facts before it and with the exits
-pub allowed_more : (n s : ℕ) (gains gains1 : Effect → Facts) (x : Option ℕ) (effect : Effect) (before others : Facts) (fact : Fact) → ((e : Effect) → Within (gains e) (gains1 e)) → Within before others → allowed n s gains x effect before fact → allowed n s gains1 x effect others fact
+pub allowed_more : (n s : ℕ) (gains gains1 : Effect → Facts) (x : Option ℕ) (effect : Effect) (before others : Facts) (fact : Fact) → ((e : Effect) → Within (gains e) (gains1 e)) → Within before others → allowed_where n s gains x effect before fact → allowed_where n s gains1 x effect others fact
 allowed_more n s gains gains1 None effect before others fact g h d = derivable_more (either_more h (g effect)) d
 allowed_more n s gains gains1 (Some x) effect before others fact g h d = derivable_more (either_more h (g (assigning s effect))) d

@@ -9,7 +9,7 @@ use Rattle.rc_facts.specs.declared.fact.Fact.TheVariants.{In, Up, Trad, NonNull}
 use Rattle.rc_facts.specs.Derivable.{Derivable}
 use Rattle.rc_rlang.specs.RegionFlow.{Effect, nothing, nulled, moved, fixed, beside, made, under, loaded, looked_at, stored, present, absent, called, entered, assigned}
 use Rattle.rc_facts.specs.Facts.{same_fact}
-use Rattle.rc_annotations.specs.Annotations.{Facts, allowed, assigning, gained, by_note, of_null, some_pair, is_below, fact_with, renamed}
+use Rattle.rc_annotations.specs.Annotations.{Facts, allowed_where, assigning, gained, by_note, of_null, some_pair, is_below, fact_with, renamed}
 use Rattle.rc_annotations.specs.Effects.{Absent, EachIs, Says, Happens}
 use Rattle.rc_annotations.specs.Laws.{AllowedHolds}
 use Rattle.rc_annotations.specs.Worlds.{Grown, Grounded}
@@ -138,6 +138,6 @@ holds_assigned n b s x v before gains values others heap heap1 le below holds gr
 pub allowed_holds : AllowedHolds
 allowed_holds m n s exits effect facts before after heap heap1 le below hold ground rooted grown happens fact is_b d = by (assigned effect) happens d
   where
-    by : (x : Option ℕ) → Happens n s exits x effect before after heap1 → allowed m s (gained exits) x effect facts fact → Holds fact after heap1
+    by : (x : Option ℕ) → Happens n s exits x effect before after heap1 → allowed_where m s (gained exits) x effect facts fact → Holds fact after heap1
     by None happens d = holds_behind m n facts (gained exits effect) before after heap heap1 below hold ground rooted grown happens.0 (gained_holds exits effect after heap1 happens.1) d
     by (Some x) happens d = holds_assigned m n s x happens.0 facts (gained exits (assigning s effect)) before after heap heap1 le below hold ground rooted grown happens.1 (gained_holds exits (assigning s effect) (changed_at before s happens.0) heap1 happens.2) fact is_b d

@@ -33,6 +33,7 @@ of_null x (Up u v) = false
 of_null x (Trad u) = nat_eq u x
 of_null x (NonNull u) = false
 
+-- At the entry each parameter's local is its hidden copy. Before that point facts are on hidden copies alone, so none on a local has to go.
 abbrev pub some_pair : List (ℕ × ℕ) → Facts
 some_pair [] p = false
 some_pair (c ∷ cs) p = same_fact p (In c.0 c.1) || (same_fact p (In c.1 c.0) || some_pair cs p)
@@ -90,9 +91,12 @@ assigning s (entered pairs) = entered pairs
 -- A fact may stand behind an effect where it is derivable from the facts before and the new ones. Where a variable is assigned, the new
 -- facts are on the scratch variable s, which has the new value, every other name stands for the variable as it was before, and a fact on
 -- the assigned one is asked of s. So nothing is kept of the old value.
-abbrev pub allowed : (n s : ℕ) → (gains : Effect → Facts) → Option ℕ → Effect → Facts → Fact → Type 0
-allowed n s gains None effect before fact = Derivable n (λ p. before p || gains effect p) fact
-allowed n s gains (Some x) effect before fact = Derivable n (λ p. before p || gains (assigning s effect) p) (fact_with (renamed x s) fact)
+abbrev pub allowed_where : (n s : ℕ) → (gains : Effect → Facts) → (assigned : Option ℕ) → Effect → Facts → Fact → Type 0
+allowed_where n s gains None effect before fact = Derivable n (λ p. before p || gains effect p) fact
+allowed_where n s gains (Some x) effect before fact = Derivable n (λ p. before p || gains (assigning s effect) p) (fact_with (renamed x s) fact)
+
+abbrev pub allowed : (n s : ℕ) → (gains : Effect → Facts) → Effect → Facts → Fact → Type 0
+allowed n s gains effect before fact = allowed_where n s gains (assigned effect) effect before fact
 
 pub record Annotation : Type 0 where
   pub before : (function point : ℕ) → Facts
@@ -139,23 +143,41 @@ abbrev pub returned_facts : (f : Routine) (temporaries : ℕ) → Option ℕ →
 returned_facts f temporaries None q = false
 returned_facts f temporaries (Some x) q = same_fact q (In (result_variable f temporaries) x) || same_fact q (In x (result_variable f temporaries))
 
--- of region code whose functions have so many temporaries
+-- an edge from a point of a function
+pub record NodeEdge (f : Routine) (point : ℕ) (edge : Edge) : Type 0 where
+  pub node : Node
+  pub place : ℕ
+  pub there : slice_get (routine_nodes f) point ≡ Some node
+  pub is : slice_get node.edges place ≡ Some edge
+
+-- a return at a point of a function, which may give a variable
+pub record NodeReturn (f : Routine) (point : ℕ) (given : Option ℕ) : Type 0 where
+  pub node : Node
+  pub there : slice_get (routine_nodes f) point ≡ Some node
+  pub returns : node.returns ≡ Some given
+
+-- In region code whose functions have so many temporaries the facts of b follow from those of a. So do all facts of a consistent annotation
+-- inside a; a search that goes downward from all facts, and leaves at each step what follows, never loses one of these.
+pub record Follows (r : Rlang) (temporaries : ℕ → ℕ) (b a : Annotation) : Type 0 where
+  -- on every edge within a function
+  pub along : (g : ℕ) (f : Routine) (p : ℕ) (edge : Edge) (fact : Fact) → slice_get r.functions g ≡ Some f → NodeEdge f p edge →
+      IsTrue (b.before g edge.to fact) → allowed (variables f (temporaries g)) (scratch f (temporaries g)) (gained (exit_facts a)) edge.effect (a.before g p) fact
+  -- into every function that is called, on its hidden copies
+  pub calls : (g : ℕ) (f : Routine) (p : ℕ) (edge : Edge) (x : Option ℕ) (h : ℕ) (arguments : List ℕ) (fact : Fact) → slice_get r.functions g ≡ Some f → NodeEdge f p edge → edge.effect ≡ called x h arguments →
+      IsTrue (b.entry h fact) → Derivable (variables f (temporaries g)) (a.before g p) (fact_with (λ v. get_or arguments v 0) fact)
+  -- at an entry nothing is known but what its calls give of the hidden copies
+  pub entry : (g : ℕ) (f : Routine) (fact : Fact) → slice_get r.functions g ≡ Some f → IsTrue (b.before g 0 fact) → Derivable (variables f (temporaries g)) (a.entry g) fact
+  -- at every return
+  pub exit : (g : ℕ) (f : Routine) (p : ℕ) (given : Option ℕ) (fact : Fact) → slice_get r.functions g ≡ Some f → NodeReturn f p given → IsTrue (b.exit g fact) →
+      Derivable (variables f (temporaries g)) (λ q. a.before g p q || returned_facts f (temporaries g) given q) (fact_with (renamed (copies f) (result_variable f (temporaries g))) fact)
+
+-- its facts follow from themselves
 pub record Consistent (r : Rlang) (temporaries : ℕ → ℕ) (a : Annotation) : Type 0 where
   -- entries speak of hidden copies, exits of these and the result, and points of neither the result nor the scratch variable
   pub at_entries : (g : ℕ) (f : Routine) (fact : Fact) → slice_get r.functions g ≡ Some f → IsTrue (a.entry g fact) → is_below (copies f) fact
   pub at_exits : (g : ℕ) (f : Routine) (fact : Fact) → slice_get r.functions g ≡ Some f → IsTrue (a.exit g fact) → is_below (suc (copies f)) fact
   pub at_points : (g : ℕ) (f : Routine) (p : ℕ) (fact : Fact) → slice_get r.functions g ≡ Some f → IsTrue (a.before g p fact) → is_below (result_variable f (temporaries g)) fact
-  -- on every edge within a function
-  pub along : (g : ℕ) (f : Routine) (p : ℕ) (node : Node) (e : ℕ) (edge : Edge) (fact : Fact) → slice_get r.functions g ≡ Some f → slice_get (routine_nodes f) p ≡ Some node → slice_get node.edges e ≡ Some edge →
-      IsTrue (a.before g edge.to fact) → allowed (variables f (temporaries g)) (scratch f (temporaries g)) (gained (exit_facts a)) (assigned edge.effect) edge.effect (a.before g p) fact
-  -- into every function that is called, on its hidden copies
-  pub calls : (g : ℕ) (f : Routine) (p : ℕ) (node : Node) (e : ℕ) (edge : Edge) (x : Option ℕ) (h : ℕ) (arguments : List ℕ) (fact : Fact) → slice_get r.functions g ≡ Some f → slice_get (routine_nodes f) p ≡ Some node → slice_get node.edges e ≡ Some edge → edge.effect ≡ called x h arguments →
-      IsTrue (a.entry h fact) → Derivable (variables f (temporaries g)) (a.before g p) (fact_with (λ v. get_or arguments v 0) fact)
-  -- at an entry nothing is known but what its calls give of the hidden copies
-  pub entry : (g : ℕ) (f : Routine) (fact : Fact) → slice_get r.functions g ≡ Some f → IsTrue (a.before g 0 fact) → Derivable (variables f (temporaries g)) (a.entry g) fact
-  -- at every return
-  pub exit : (g : ℕ) (f : Routine) (p : ℕ) (node : Node) (given : Option ℕ) (fact : Fact) → slice_get r.functions g ≡ Some f → slice_get (routine_nodes f) p ≡ Some node → node.returns ≡ Some given → IsTrue (a.exit g fact) →
-      Derivable (variables f (temporaries g)) (λ q. a.before g p q || returned_facts f (temporaries g) given q) (fact_with (renamed (copies f) (result_variable f (temporaries g))) fact)
+  pub follows : Follows r temporaries a a
   -- the entry of `main` has no fact
   pub main : (fact : Fact) → a.entry r.main fact ≡ false
 

@@ -1,5 +1,5 @@
 -- The laws of facts and annotations.
-use Rattle.std.specs.Prelude.{◌≡◌, ℕ, ◌≤◌, ℤ, true, IsTrue, List, Option, Some, false, ◌||◌, slice_get, get_or}
+use Rattle.std.specs.Prelude.{◌≡◌, ℕ, ◌≤◌, ℤ, true, IsTrue, List, Option, Some, false, ◌||◌}
 use Rattle.rc_core.specs.declared.ty.Note.{Note}
 use Rattle.rc_core.specs.Layout.{Layout}
 use Rattle.rc_core.specs.Heap.{Value, Heap, parent, fits}
@@ -8,9 +8,9 @@ use Rattle.rc_core.specs.Runs.{Target}
 use Rattle.rc_core.specs.Source.{World, source}
 use Rattle.rc_facts.specs.declared.fact.Fact.{Fact}
 use Rattle.rc_facts.specs.Derivable.{Derivable}
-use Rattle.rc_rlang.specs.RegionCode.{Routine, Rlang}
-use Rattle.rc_rlang.specs.RegionFlow.{Effect, called, assigned, Edge, Node, copies, result_variable, variables, scratch, routine_nodes}
-use Rattle.rc_annotations.specs.Annotations.{Facts, Annotation, Consistent, is_below, gained, allowed, exit_facts, returned_facts, fact_with, renamed, asked}
+use Rattle.rc_rlang.specs.RegionCode.{Rlang}
+use Rattle.rc_rlang.specs.RegionFlow.{Effect, assigned}
+use Rattle.rc_annotations.specs.Annotations.{Facts, Annotation, Consistent, is_below, gained, allowed, asked}
 use Rattle.rc_annotations.specs.Holding.{region_in, Holds, AllHold, Rooted}
 use Rattle.rc_annotations.specs.Effects.{Happens}
 use Rattle.rc_annotations.specs.Worlds.{Grown, Grounded, Sane, Beside, Anew, Under, Loaded, Stored, Deleted}
@@ -19,7 +19,7 @@ use Rattle.rc_annotations.specs.Worlds.{Grown, Grounded, Sane, Beside, Anew, Und
 abbrev pub DerivedHolds : Type 0
 DerivedHolds = (n : ℕ) (given : Facts) (values : ℕ → Value) (heap : Heap) → Rooted (parent heap) → AllHold given values heap → (fact : Fact) → Derivable n given fact → Holds fact values heap
 
--- what holds still holds of the same values when the heap has grown, whatever was deleted
+-- what holds of values that were made still holds of them when the heap has grown, whatever was deleted
 abbrev pub HoldsLater : Type 0
 HoldsLater = (fact : Fact) (values : ℕ → Value) (before after : Heap) → Grounded values before → Rooted (parent after) → Grown before after → Holds fact values before → Holds fact values after
 
@@ -30,7 +30,7 @@ AskedFits = (note : Note) (value holder : ℕ) (fact : Fact) (values : ℕ → V
 -- what is allowed behind an effect holds there, where the facts before it held of variables below n
 abbrev pub AllowedHolds : Type 0
 AllowedHolds = (m n s : ℕ) (exits : ℕ → List ℕ → Option ℕ → Facts) (effect : Effect) (facts : Facts) (before after : ℕ → Value) (heap heap1 : Heap) → n ≤ s → ((p : Fact) → IsTrue (facts p) → is_below n p) → AllHold facts before heap →
-    Grounded before heap → Rooted (parent heap1) → Grown heap heap1 → Happens n s exits (assigned effect) effect before after heap1 → (fact : Fact) → is_below n fact → allowed m s (gained exits) (assigned effect) effect facts fact → Holds fact after heap1
+    Grounded before heap → Rooted (parent heap1) → Grown heap heap1 → Happens n s exits (assigned effect) effect before after heap1 → (fact : Fact) → is_below n fact → allowed m s (gained exits) effect facts fact → Holds fact after heap1
 
 -- what the operations of the source's world do, where they go on, from a world in order
 pub record OperationsSay : Type 0 where
@@ -64,15 +64,3 @@ without_facts = record { before = λ g p fact. false; entry = λ g fact. false; 
 -- the facts of either
 abbrev pub united : (a b : Annotation) → Annotation
 united a b = record { before = λ g p fact. a.before g p fact || b.before g p fact; entry = λ g fact. a.entry g fact || b.entry g fact; exit = λ g fact. a.exit g fact || b.exit g fact }
-
--- what a step downward may leave of an annotation a: each fact that follows from a's facts across an edge, of a call, at an entry and at
--- a return. All facts of a consistent annotation inside a are among them, so a search that goes downward from all facts by such steps
--- never loses one.
-pub record Leaves (r : Rlang) (temporaries : ℕ → ℕ) (b a : Annotation) : Type 0 where
-  pub along : (g : ℕ) (f : Routine) (p : ℕ) (node : Node) (e : ℕ) (edge : Edge) (fact : Fact) → slice_get r.functions g ≡ Some f → slice_get (routine_nodes f) p ≡ Some node → slice_get node.edges e ≡ Some edge →
-      IsTrue (b.before g edge.to fact) → allowed (variables f (temporaries g)) (scratch f (temporaries g)) (gained (exit_facts a)) (assigned edge.effect) edge.effect (a.before g p) fact
-  pub calls : (g : ℕ) (f : Routine) (p : ℕ) (node : Node) (e : ℕ) (edge : Edge) (x : Option ℕ) (h : ℕ) (arguments : List ℕ) (fact : Fact) → slice_get r.functions g ≡ Some f → slice_get (routine_nodes f) p ≡ Some node → slice_get node.edges e ≡ Some edge → edge.effect ≡ called x h arguments →
-      IsTrue (b.entry h fact) → Derivable (variables f (temporaries g)) (a.before g p) (fact_with (λ v. get_or arguments v 0) fact)
-  pub entry : (g : ℕ) (f : Routine) (fact : Fact) → slice_get r.functions g ≡ Some f → IsTrue (b.before g 0 fact) → Derivable (variables f (temporaries g)) (a.entry g) fact
-  pub exit : (g : ℕ) (f : Routine) (p : ℕ) (node : Node) (given : Option ℕ) (fact : Fact) → slice_get r.functions g ≡ Some f → slice_get (routine_nodes f) p ≡ Some node → node.returns ≡ Some given →
-      IsTrue (b.exit g fact) → Derivable (variables f (temporaries g)) (λ q. a.before g p q || returned_facts f (temporaries g) given q) (fact_with (renamed (copies f) (result_variable f (temporaries g))) fact)

@@ -7,7 +7,7 @@ use Rattle.rc_facts.specs.declared.fact.Fact.TheVariants.{In, Up, Trad, NonNull}
 use Rattle.rc_facts.specs.Facts.{names, replaced, with_replaced}
 use Rattle.rc_facts.specs.Derivable.{Derivable, stated}
 use Rattle.rc_rlang.specs.RegionFlow.{Effect, assigned, one_of}
-use Rattle.rc_annotations.specs.Annotations.{Facts, Annotation, gained, exit_facts, allowed, fact_with, renamed, renamed_by, is_below, assigning}
+use Rattle.rc_annotations.specs.Annotations.{Facts, Annotation, gained, exit_facts, allowed, allowed_where, fact_with, renamed, renamed_by, is_below, assigning}
 use Rattle.rc_flow.specs.Flow.{Behind, together}
 use Rattle.rc_edges.specs.Edges.{EffectBelow, AreNews, Carries, renewed, renewed_by}
 use Rattle.rc_edges.specs.EdgeLaws.{AllBelow}
@@ -113,7 +113,7 @@ module _ (n s u : ℕ) (a : Annotation) (effect : Effect) (before : Facts) (news
 -- by what is assigned
 module _ (n s u : ℕ) (a : Annotation) (effect : Effect) (before : Facts) (news : List Fact) (over : s < u) (fact : Fact) (own : is_below s fact) where
   pub allowed_down : (x : Option ℕ) → ((p : Fact) → Derivable n (λ q. before q || gained (exit_facts a) (renewed_by x u effect) q) p → Derivable (suc s) (together before news) (fact_with (clamped s) p)) →
-      allowed n u (gained (exit_facts a)) x effect before fact → Behind (suc s) s x news before fact
+      allowed_where n u (gained (exit_facts a)) x effect before fact → Behind (suc s) s x news before fact
   allowed_down None h d = (subst (Derivable (suc s) (together before news)) (fixed_names s (clamped s) (clamped_below s) fact own) (h fact d), none_named s fact own)
   allowed_down (Some x) h d = (
     subst (Derivable (suc s) (together before news)) (names_twice (clamped s) (renamed x u) fact ∙ same_names s (λ v. clamped s (renamed x u v)) (renamed x s) (λ v l. put_clamped s u x v (let o = over in omega (arith, o)) l) fact own ∙ replaced_is x s fact) (h (fact_with (renamed x u) fact) d),
@@ -121,21 +121,21 @@ module _ (n s u : ℕ) (a : Annotation) (effect : Effect) (before : Facts) (news
   )
 
   pub allowed_up : (x : Option ℕ) → ((p : Fact) → Derivable (suc s) (together before news) p → Derivable n (λ q. before q || gained (exit_facts a) (renewed_by x u effect) q) (fact_with (respelled s u) p)) →
-      Behind (suc s) s x news before fact → allowed n u (gained (exit_facts a)) x effect before fact
+      Behind (suc s) s x news before fact → allowed_where n u (gained (exit_facts a)) x effect before fact
   allowed_up None h d = subst (Derivable n (λ q. before q || gained (exit_facts a) effect q)) (fixed_names s (respelled s u) (respelled_below s u) fact own) (h fact d.0)
   allowed_up (Some x) h d =
       subst (Derivable n (λ q. before q || gained (exit_facts a) (assigning u effect) q)) (ap (fact_with (respelled s u)) (sym (replaced_is x s fact)) ∙ names_twice (respelled s u) (renamed x s) fact ∙ same_names s (λ v. respelled s u (renamed x s v)) (renamed x u) (put_respelled s u x) fact own) (h (with_replaced x s fact) d.0)
 
 -- what an effect allows, by a list of what it adds
 pub news_allow : (n s u : ℕ) (a : Annotation) (effect : Effect) (before : Facts) (news : List Fact) (fact : Fact) → s < u → u < n → EffectBelow s effect → AllBelow s before → is_below s fact → AreNews (suc s) (exit_facts a) (renewed s effect) news →
-    allowed n u (gained (exit_facts a)) (assigned effect) effect before fact ↔ Behind (suc s) s (assigned effect) news before fact
+    allowed n u (gained (exit_facts a)) effect before fact ↔ Behind (suc s) s (assigned effect) news before fact
 news_allow n s u a effect before news fact over lt below old own are = (
   λ d. allowed_down n s u a effect before news over fact own (assigned effect) (λ p q. down n s u a effect before news over lt below old are q) d,
   λ d. allowed_up n s u a effect before news over fact own (assigned effect) (λ p q. up n s u a effect before news over lt below old are q) d,
 )
 
 pub edges_allow : (n s u : ℕ) (a : Annotation) (effect : Effect) (from to : ℕ) (e : _) (before : Facts) (fact : Fact) → s < u → u < n → EffectBelow s effect → AllBelow s before → is_below s fact → Carries s (exit_facts a) effect from to e →
-    allowed n u (gained (exit_facts a)) (assigned effect) effect before fact ↔ Behind (suc s) s e.assigned e.news.items before fact
+    allowed n u (gained (exit_facts a)) effect before fact ↔ Behind (suc s) s e.assigned e.news.items before fact
 edges_allow n s u a effect from to e before fact over lt below old own c =
     let same = news_allow n s u a effect before e.news.items fact over lt below old own c.news in (
       λ d. subst (λ x. Behind (suc s) s x e.news.items before fact) (sym c.assigned) (same.0 d),

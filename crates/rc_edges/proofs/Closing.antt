@@ -1,5 +1,5 @@
 -- It is decided what is derivable from facts on finitely many variables.
-use Rattle.std.proofs.Common.{◌≡◌, ◌<◌, ◌≤◌, ◌⊎◌, inl, inr, ◌↔◌, ℕ, zero, suc, Bool, true, false, ◌&&◌, ◌||◌, not, List, [], ◌∷◌, refl, sym, ap, ◌∙◌, subst, arith, nat_eq, IsTrue}
+use Rattle.std.proofs.Common.{◌≡◌, ◌<◌, ◌⊎◌, inl, inr, ◌↔◌, ℕ, zero, suc, Bool, true, false, ◌&&◌, ◌||◌, not, List, [], ◌∷◌, refl, sym, ap, ◌∙◌, subst, arith, nat_eq}
 use Rattle.std.specs.Prelude.{nat_lt}
 use Rattle.std.specs.List.{list_any}
 use Rattle.std.proofs.lemmas.Bool.{and_parts, and_from, or_cases, or_left, or_right, lt-ltb, ltb-true, eqb-true, eqb-false, eq-eqb}
@@ -11,7 +11,7 @@ use Rattle.rc_facts.specs.Inside.{facts_over}
 use Rattle.rc_facts.proofs.Closes.{derivable_over}
 use Rattle.rc_facts.proofs.Sets.{all_over, same_fact-true}
 use Rattle.rc_annotations.specs.Annotations.{Facts, some_below}
-use Rattle.rc_edges.proofs.Search.{next, drops_some, settle, Settled}
+use Rattle.rc_edges.proofs.Search.{next, settle, Settled}
 
 pub some_in : (test : ℕ → Bool) (n z : ℕ) → z < n → test z ≡ true → some_below test n ≡ true
 some_in test zero z l e = absurd (omega (arith, l))

@@ -1,9 +1,8 @@
 -- From all facts downward, as long as one is dropped, to the greatest consistent annotation.
-use Rattle.std.proofs.Common.{◌≡◌, ◌<◌, ◌≤◌, ◌+◌, ◌⊎◌, inl, inr, ◌↔◌, ℕ, zero, suc, Bool, true, false, ◌&&◌, ◌||◌, not, nat_eq, List, [], ◌∷◌, ◌++◌, length, map, get_or, Option, Some, None, refl, sym, ap, ◌∙◌, subst, arith, IsTrue}
+use Rattle.std.proofs.Common.{◌≡◌, ◌<◌, ◌≤◌, ◌+◌, ◌⊎◌, inl, inr, ℕ, zero, suc, Bool, true, false, ◌&&◌, ◌||◌, not, nat_eq, List, [], ◌∷◌, ◌++◌, length, map, get_or, Option, Some, None, refl, sym, ap, ◌∙◌, subst, arith, IsTrue}
 use Rattle.std.specs.Prelude.{nat_lt, slice_get}
 use Rattle.std.specs.List.{All, list_any}
-use Rattle.std.proofs.lemmas.Bool.{and_parts, and_from, or_cases, or_left, or_right, lt-ltb, ltb-true, eqb-true, eqb-false, eq-eqb}
-use Rattle.std.proofs.lemmas.Option.{slice_get_within}
+use Rattle.std.proofs.lemmas.Bool.{and_parts, and_from, or_cases, lt-ltb, ltb-true, eqb-true, eqb-false}
 use Rattle.rc_facts.specs.declared.fact.Fact.{Fact}
 use Rattle.rc_facts.specs.declared.fact.Fact.TheVariants.{In, Up, Trad, NonNull}
 use Rattle.rc_facts.specs.Derivable.{Derivable}
@@ -11,14 +10,14 @@ use Rattle.rc_facts.specs.Facts.{is_over, same_fact, names, with_replaced}
 use Rattle.rc_facts.specs.Inside.{facts_over}
 use Rattle.rc_facts.proofs.Sets.{all_over, same_fact-true}
 use Rattle.rc_rlang.specs.RegionCode.{Routine, Rlang}
-use Rattle.rc_rlang.specs.RegionFlow.{Effect, nothing, nulled, moved, fixed, beside, made, under, loaded, looked_at, stored, present, absent, called, entered, assigned, Edge, Node, copies, variables, scratch, routine_nodes}
-use Rattle.rc_annotations.specs.Annotations.{Facts, Annotation, allowed, exit_facts, fact_with, gained, is_below, renamed, returned_facts, some_below}
+use Rattle.rc_rlang.specs.RegionFlow.{Effect, nothing, nulled, moved, fixed, beside, made, under, loaded, looked_at, stored, present, absent, called, entered, assigned, Edge, Node, copies, routine_nodes}
+use Rattle.rc_annotations.specs.Annotations.{Facts, Annotation, fact_with, is_below, renamed, returned_facts, some_below}
 use Rattle.rc_annotations.proofs.Derivations.{derivable_more}
-use Rattle.rc_flow.specs.Flow.{Behind, together}
-use Rattle.rc_edges.specs.Edges.{EffectBelow, NodeEdge, all_below, kept, pairs_below, renewed, spare}
+use Rattle.rc_flow.specs.Flow.{together}
+use Rattle.rc_edges.specs.Edges.{EffectBelow, all_below, kept, pairs_below, renewed, spare}
 use Rattle.rc_edges.specs.News.{news_of}
-use Rattle.rc_edges.proofs.Closing.{Decided, decided, some_in, some_out}
-use Rattle.rc_edges.proofs.Lists.{Has, has_left, has_mapped, has_right, none_below}
+use Rattle.rc_edges.proofs.Closing.{decided}
+use Rattle.rc_edges.proofs.Lists.{Has, has_left, has_mapped, has_right}
 
 pub data Key : Type 0 where
   at_point : (function point : ℕ) → Fact → Key

@@ -1,10 +1,9 @@
 -- Which checks may go is decided by the greatest annotation.
-use Rattle.std.proofs.Common.{◌≡◌, ◌↔◌, ℕ, Bool, true, Option, Some, refl, sym, ap, ◌∙◌}
+use Rattle.std.proofs.Common.{◌≡◌, ◌↔◌, ℕ, Bool, true, ap, ◌∙◌}
 use Rattle.std.specs.Prelude.{slice_get}
-use Rattle.rc_facts.specs.declared.fact.Fact.{Fact}
-use Rattle.rc_rlang.specs.RegionCode.{Routine, Rlang}
+use Rattle.rc_rlang.specs.RegionCode.{Rlang}
 use Rattle.rc_rlang.specs.IsRlang.{IsRlang}
-use Rattle.rc_rlang.specs.RegionFlow.{Node, routine_nodes}
+use Rattle.rc_rlang.specs.RegionFlow.{routine_nodes}
 use Rattle.rc_annotations.specs.Annotations.{Annotation, Proven, Removable, asked_by}
 use Rattle.rc_annotations.specs.Heights.{temporaries_of}
 use Rattle.rc_edges.specs.Inferred.{GreatestOf}

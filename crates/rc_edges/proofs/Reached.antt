@@ -1,8 +1,8 @@
 -- What is reached is consistent, and has all that a consistent annotation has.
-use Rattle.std.proofs.Common.{◌≡◌, ◌<◌, ◌≤◌, ◌+◌, ◌⊎◌, inl, inr, ◌↔◌, ℕ, zero, suc, Bool, true, false, ◌&&◌, ◌||◌, not, nat_eq, List, [], ◌∷◌, length, get_or, Option, Some, None, refl, sym, ap, ◌∙◌, subst, arith, IsTrue}
+use Rattle.std.proofs.Common.{◌≡◌, ◌<◌, ◌≤◌, inl, inr, ◌↔◌, ℕ, zero, suc, Bool, true, false, ◌&&◌, ◌||◌, not, nat_eq, List, [], ◌∷◌, length, get_or, Option, Some, None, refl, sym, ap, ◌∙◌, subst, arith}
 use Rattle.std.specs.Prelude.{is_some, nat_lt, slice_get}
 use Rattle.std.specs.List.{list_any}
-use Rattle.std.proofs.lemmas.Bool.{and_parts, and_from, or_cases, or_left, or_right, lt-ltb, ltb-true, eqb-true, eq-eqb}
+use Rattle.std.proofs.lemmas.Bool.{and_parts, and_from, or_cases, eqb-true, eq-eqb}
 use Rattle.std.proofs.lemmas.Option.{slice_get_within}
 use Rattle.rc_facts.specs.declared.fact.Fact.{Fact}
 use Rattle.rc_facts.specs.declared.fact.Fact.TheVariants.{In, Up, Trad, NonNull}
@@ -12,26 +12,24 @@ use Rattle.rc_facts.specs.Facts.{is_over, same_fact, names, with_replaced}
 use Rattle.rc_rlang.specs.RegionCode.{Routine, Rlang}
 use Rattle.rc_rlang.specs.IsRlang.{IsRlang}
 use Rattle.rc_rlang.specs.RegionFlow.{Effect, nothing, nulled, moved, fixed, beside, made, under, loaded, looked_at, stored, present, absent, called, entered, assigned, Edge, Node, copies, result_variable, variables, scratch, routine_nodes}
-use Rattle.rc_annotations.specs.Annotations.{Facts, Annotation, Consistent, allowed, exit_facts, fact_with, gained, is_below, renamed, renamed_by, returned_facts, some_below}
+use Rattle.rc_annotations.specs.Annotations.{Facts, Annotation, Consistent, Follows, allowed, exit_facts, fact_with, gained, is_below, renamed, renamed_by, returned_facts, some_below, NodeEdge}
 use Rattle.rc_annotations.specs.Heights.{temporaries_of}
-use Rattle.rc_annotations.specs.Laws.{Inside, Leaves}
-use Rattle.rc_annotations.proofs.Greatest.{leaves_inside}
+use Rattle.rc_annotations.specs.Laws.{Inside}
+use Rattle.rc_annotations.proofs.Greatest.{follows_inside}
 use Rattle.rc_flow.specs.Flow.{Behind, together}
-use Rattle.rc_edges.specs.Edges.{AreNews, EffectBelow, NodeEdge, all_below, kept, renewed, spare}
+use Rattle.rc_edges.specs.Edges.{AreNews, EffectBelow, all_below, kept, renewed, spare}
 use Rattle.rc_edges.specs.EdgeLaws.{AllBelow}
 use Rattle.rc_edges.specs.Families.{Owned}
-use Rattle.rc_edges.specs.News.{news_of}
 use Rattle.rc_edges.proofs.Adding.{news_are}
 use Rattle.rc_edges.proofs.Carrying.{fewer_derive, news_allow}
 use Rattle.rc_edges.proofs.Owning.{functions_own}
-use Rattle.rc_edges.specs.Calls.{CallsFit, ReturnsFit}
 use Rattle.rc_edges.specs.Inferred.{GreatestOf, has_point, only_of}
 use Rattle.rc_edges.proofs.Fitting.{calls_fit, returns_fit}
 use Rattle.rc_edges.proofs.Restricting.{inside_only, only_consistent}
 use Rattle.rc_edges.proofs.Closing.{some_out}
 use Rattle.rc_edges.proofs.Downward.{Key, at_entry, at_exit, at_point, and_not, behind, below_more, below_over, call_drops, derivable_so, derives, derives_so, drops, edge_drops, entry_drops, exit_drops, has_key, keys, neither, news_at, news_over, node_calls, node_drops, not_false, of, over_below, over_more, point_drops, refute, renewed_below, return_drops, start, target, within, within_none, within_some}
 use Rattle.rc_edges.proofs.Lists.{none_below, none_of}
-use Rattle.rc_edges.proofs.Search.{Settled, drops_some, next, settle}
+use Rattle.rc_edges.proofs.Search.{Settled, next, settle}
 
 module _ (r : Rlang) (fits : IsRlang r) where
   abbrev pub t : ℕ → ℕ
@@ -85,7 +83,7 @@ module _ (r : Rlang) (fits : IsRlang r) where
       Here fact = Behind (kept f (t g)) (spare f (t g)) (assigned edge.effect) (news_at r t a g f edge.effect) ((of a).before g q) fact
 
       abbrev Allowed : Fact → Type 0
-      Allowed fact = allowed (variables f (t g)) (scratch f (t g)) (gained (exit_facts (of a))) (assigned edge.effect) edge.effect ((of a).before g q) fact
+      Allowed fact = allowed (variables f (t g)) (scratch f (t g)) (gained (exit_facts (of a))) edge.effect ((of a).before g q) fact
 
       allows : (fact : Fact) → is_below (spare f (t g)) fact → Allowed fact ↔ Here fact
       allows fact b = news_allow (variables f (t g)) (spare f (t g)) (scratch f (t g)) (of a) edge.effect ((of a).before g q) (news_at r t a g f edge.effect) fact (omega arith) (omega arith) below (point_below q) b are
@@ -205,8 +203,8 @@ module _ (r : Rlang) (fits : IsRlang r) where
     inside : Inside (only_of r b) (of a)
     inside = p.high b c
 
-    leaves : Leaves r t (only_of r b) (of a)
-    leaves = leaves_inside r t (only_of r b) (of a) c inside
+    follows : Follows r t (only_of r b) (of a)
+    follows = follows_inside r t (only_of r b) (of a) c inside
 
     point_stays : (g q : ℕ) (fact : Fact) → (only_of r b).before g q fact ≡ true → drops r t a (at_point g q fact) ≡ true → ⊥
     point_stays g q fact is e =
@@ -223,13 +221,13 @@ module _ (r : Rlang) (fits : IsRlang r) where
               let one : NodeEdge f at.0 edge.0 = record { node = node.0; place = place.0; there = node.1; is = edge.1 } in
               refute (behind r t a g f at.0 edge.0 fact)
               (behind_so a p g f w.1 at.0 edge.0 one fact (c.at_points g f q fact w.1 is)
-              (leaves.along g f at.0 node.0 place.0 edge.0 fact w.1 node.1 edge.1 (subst (λ k. (only_of r b).before g k fact ≡ true) (sym leads) is)))
+              (follows.along g f at.0 edge.0 fact w.1 one (subst (λ k. (only_of r b).before g k fact ≡ true) (sym leads) is)))
               parts.1
           | inr last ↦
               let parts = and_parts (nat_eq q 0) (not (derives (kept f (t g)) ((of a).entry g) fact)) last in
               let first = subst (λ k. (only_of r b).before g k fact ≡ true) (eqb-true q 0 parts.0) is in
               refute (derives (kept f (t g)) ((of a).entry g) fact)
-              (test_so a p g f w.1 ((of a).entry g) fact (entry_kept a p g f w.1) (below_more (spare f (t g)) (kept f (t g)) (omega arith) fact (c.at_points g f q fact w.1 is)) (leaves.entry g f fact w.1 first))
+              (test_so a p g f w.1 ((of a).entry g) fact (entry_kept a p g f w.1) (below_more (spare f (t g)) (kept f (t g)) (omega arith) fact (c.at_points g f q fact w.1 is)) (follows.entry g f fact w.1 first))
               parts.1
         ]
 
@@ -248,7 +246,7 @@ module _ (r : Rlang) (fits : IsRlang r) where
         refute (derives (kept f (t g)) ((of a).before g at.0) (fact_with (λ v. get_or call.arguments v 0) fact))
         (test_so a p g f w.1 ((of a).before g at.0) (fact_with (λ v. get_or call.arguments v 0) fact) (point_kept a p g f w.1 at.0)
         (given_below g f w.1 at.0 edge.0 call.result h call.arguments one call.is fact (λ fh there. c.at_entries h fh fact there is))
-        (leaves.calls g f at.0 node.0 place.0 edge.0 call.result h call.arguments fact w.1 node.1 edge.1 call.is is))
+        (follows.calls g f at.0 edge.0 call.result h call.arguments fact w.1 one call.is is))
         call.no
 
     exit_stays : (g : ℕ) (fact : Fact) → (only_of r b).exit g fact ≡ true → drops r t a (at_exit g fact) ≡ true → ⊥
@@ -261,7 +259,7 @@ module _ (r : Rlang) (fits : IsRlang r) where
         refute (derives (kept f (t g)) (λ s. (of a).before g at.0 s || returned_facts f (t g) given.0 s) (fact_with (renamed (copies f) (spare f (t g))) fact))
         (test_so a p g f w.1 (λ s. (of a).before g at.0 s || returned_facts f (t g) given.0 s) (fact_with (renamed (copies f) (spare f (t g))) fact) (returned_over a p g f w.1 at.0 node.0 given.0 node.1 given.1)
         (exit_below g f w.1 fact (c.at_exits g f fact w.1 is))
-        (leaves.exit g f at.0 node.0 given.0 fact w.1 node.1 given.1 is))
+        (follows.exit g f at.0 given.0 fact w.1 (record { node = node.0; there = node.1; returns = given.1 }) is))
         given.2
 
   keeps : (a : Key → Bool) → Going a → Going (next (drops r t) a)
@@ -339,25 +337,27 @@ module _ (r : Rlang) (fits : IsRlang r) where
     at_entries = λ g f fact there is. over_below (copies f) fact (entry_over reached ended.holds g f there fact is);
     at_exits = λ g f fact there is. over_below (suc (copies f)) fact (exit_over reached ended.holds g f there fact is);
     at_points = λ g f q fact there is. point_below reached ended.holds g f there q fact is;
-    along = λ g f q node e edge fact there at at_place is. (
-        let none = (neither _ _ (within_none (slice_get r.functions g) (point_drops r t reached g edge.to fact) f (stays (at_point g edge.to fact) is) there)).0 in
-        let drop = at_edge node (edge_drops r t reached g f edge.to q fact) e edge (at_node f (λ n. node_drops r t reached g f edge.to n fact) q node none at) at_place in
-        allowed_so reached ended.holds g f there q edge (record { node = node; place = e; there = at; is = at_place }) fact (point_below reached ended.holds g f there edge.to fact is) (and_not (nat_eq edge.to edge.to) (behind r t reached g f q edge fact) drop (eq-eqb edge.to edge.to refl)));
-    calls = λ g f q node e edge x h arguments fact there at at_place is_call is. (
-        let none = within_none (slice_get r.functions g) (entry_drops r t reached h fact g) f (none_below (λ k. within (slice_get r.functions k) (entry_drops r t reached h fact k)) (length r.functions) g (stays (at_entry h fact) is) (slice_get_within r.functions g f there)) there in
-        let drop = at_edge node (λ (d : Edge). call_drops r t reached g f q h fact d.effect) e edge (at_node f (λ n. node_calls r t reached g f n h fact) q node none at) at_place in
-        so_test reached ended.holds g f there ((of reached).before g q) (fact_with (λ v. get_or arguments v 0) fact) (point_kept reached ended.holds g f there q)
-        (given_below g f there q edge x h arguments (record { node = node; place = e; there = at; is = at_place }) is_call fact (λ fh th. over_below (copies fh) fact (entry_over reached ended.holds h fh th fact is)))
-        (a_call g f q h fact edge.effect x arguments is_call drop));
-    entry = λ g f fact there is. (
-        let none = (neither _ _ (within_none (slice_get r.functions g) (point_drops r t reached g 0 fact) f (stays (at_point g 0 fact) is) there)).1 in
-        so_test reached ended.holds g f there ((of reached).entry g) fact (entry_kept reached ended.holds g f there) (below_more (spare f (t g)) (kept f (t g)) (omega arith) fact (point_below reached ended.holds g f there 0 fact is)) (not_false (derives (kept f (t g)) ((of reached).entry g) fact) none));
-    exit = λ g f q node given fact there at returns is. (
-        let none = within_none (slice_get r.functions g) (exit_drops r t reached g fact) f (stays (at_exit g fact) is) there in
-        let drop = within_none node.returns (return_drops r t reached g f q fact) given (at_node f (λ n (d : Node). within d.returns (return_drops r t reached g f n fact)) q node none at) returns in
-        so_test reached ended.holds g f there (λ s. (of reached).before g q s || returned_facts f (t g) given s) (fact_with (renamed (copies f) (spare f (t g))) fact) (returned_over reached ended.holds g f there q node given at returns)
-        (exit_below g f there fact (over_below (suc (copies f)) fact (exit_over reached ended.holds g f there fact is)))
-        (not_false (derives (kept f (t g)) (λ s. (of reached).before g q s || returned_facts f (t g) given s) (fact_with (renamed (copies f) (spare f (t g))) fact)) drop));
+    follows = record {
+      along = λ g f q edge fact there one is. (
+          let none = (neither _ _ (within_none (slice_get r.functions g) (point_drops r t reached g edge.to fact) f (stays (at_point g edge.to fact) is) there)).0 in
+          let drop = at_edge one.node (edge_drops r t reached g f edge.to q fact) one.place edge (at_node f (λ n. node_drops r t reached g f edge.to n fact) q one.node none one.there) one.is in
+          allowed_so reached ended.holds g f there q edge one fact (point_below reached ended.holds g f there edge.to fact is) (and_not (nat_eq edge.to edge.to) (behind r t reached g f q edge fact) drop (eq-eqb edge.to edge.to refl)));
+      calls = λ g f q edge x h arguments fact there one is_call is. (
+          let none = within_none (slice_get r.functions g) (entry_drops r t reached h fact g) f (none_below (λ k. within (slice_get r.functions k) (entry_drops r t reached h fact k)) (length r.functions) g (stays (at_entry h fact) is) (slice_get_within r.functions g f there)) there in
+          let drop = at_edge one.node (λ (d : Edge). call_drops r t reached g f q h fact d.effect) one.place edge (at_node f (λ n. node_calls r t reached g f n h fact) q one.node none one.there) one.is in
+          so_test reached ended.holds g f there ((of reached).before g q) (fact_with (λ v. get_or arguments v 0) fact) (point_kept reached ended.holds g f there q)
+          (given_below g f there q edge x h arguments one is_call fact (λ fh th. over_below (copies fh) fact (entry_over reached ended.holds h fh th fact is)))
+          (a_call g f q h fact edge.effect x arguments is_call drop));
+      entry = λ g f fact there is. (
+          let none = (neither _ _ (within_none (slice_get r.functions g) (point_drops r t reached g 0 fact) f (stays (at_point g 0 fact) is) there)).1 in
+          so_test reached ended.holds g f there ((of reached).entry g) fact (entry_kept reached ended.holds g f there) (below_more (spare f (t g)) (kept f (t g)) (omega arith) fact (point_below reached ended.holds g f there 0 fact is)) (not_false (derives (kept f (t g)) ((of reached).entry g) fact) none));
+      exit = λ g f q given fact there one is. (
+          let none = within_none (slice_get r.functions g) (exit_drops r t reached g fact) f (stays (at_exit g fact) is) there in
+          let drop = within_none one.node.returns (return_drops r t reached g f q fact) given (at_node f (λ n (d : Node). within d.returns (return_drops r t reached g f n fact)) q one.node none one.there) one.returns in
+          so_test reached ended.holds g f there (λ s. (of reached).before g q s || returned_facts f (t g) given s) (fact_with (renamed (copies f) (spare f (t g))) fact) (returned_over reached ended.holds g f there q one.node given one.there one.returns)
+          (exit_below g f there fact (over_below (suc (copies f)) fact (exit_over reached ended.holds g f there fact is)))
+          (not_false (derives (kept f (t g)) (λ s. (of reached).before g q s || returned_facts f (t g) given s) (fact_with (renamed (copies f) (spare f (t g))) fact)) drop));
+    };
     main = λ fact. no_drop (reached (at_entry r.main fact)) (λ e. refute (nat_eq r.main r.main) (eq-eqb r.main r.main refl) (and_parts (not (nat_eq r.main r.main)) _ (ended.holds.low (at_entry r.main fact) e)).0);
   }
 

@@ -7,10 +7,9 @@ use Rattle.rc_rlang.specs.RegionCode.{Routine, Rlang}
 use Rattle.rc_rlang.specs.IsRlang.{IsRlang}
 use Rattle.rc_rlang.specs.RegionFlow.{Effect, nothing, nulled, moved, fixed, beside, made, under, loaded, looked_at, stored, present, absent, called, entered, assigned, routine_nodes}
 use Rattle.rc_annotations.specs.Heights.{temporaries_of}
-use Rattle.rc_annotations.specs.Annotations.{Facts, Annotation, Consistent, gained, exit_facts, allowed, assigning, Proven, Removable}
+use Rattle.rc_annotations.specs.Annotations.{Facts, Annotation, Consistent, gained, exit_facts, allowed_where, assigning, Proven, Removable}
 use Rattle.rc_annotations.specs.Laws.{Inside, Within}
 use Rattle.rc_annotations.proofs.Derivations.{derivable_more, either_more}
-use Rattle.rc_edges.specs.Edges.{NodeEdge}
 use Rattle.std.proofs.lemmas.Option.{slice_get_within}
 use Rattle.rc_edges.specs.Inferred.{GreatestOf, InsideOf, has_point, only_of}
 use Rattle.rc_edges.proofs.Fitting.{calls_fit}
@@ -108,7 +107,7 @@ module _ (r : Rlang) (b : Annotation) where
   called_before s (entered pairs) there x h ys e = cc
 
   allowed_only : (n s : ℕ) (x : Option ℕ) (effect : Effect) (before others : Facts) (fact : Fact) → ((x : Option ℕ) (h : ℕ) (arguments : List ℕ) → effect ≡ called x h arguments → is_some (slice_get r.functions h) ≡ true) → Within before others
-      → allowed n s (gained (exit_facts b)) x effect before fact → allowed n s (gained (exit_facts (only_of r b))) x effect others fact
+      → allowed_where n s (gained (exit_facts b)) x effect before fact → allowed_where n s (gained (exit_facts (only_of r b))) x effect others fact
   allowed_only n s None effect before others fact there h d = derivable_more (either_more h (gained_only effect there)) d
   allowed_only n s (Some x) effect before others fact there h d = derivable_more (either_more h (gained_only (assigning s effect) (called_before s effect there))) d
 
@@ -126,13 +125,14 @@ only_consistent r is b c =
       at_entries = λ g f fact there q. c.at_entries g f fact there (entries g fact q);
       at_exits = λ g f fact there q. c.at_exits g f fact there (exits g fact q);
       at_points = λ g f p fact there q. c.at_points g f p fact there (points g p fact q);
-      along = λ g f p node e edge fact there at is_edge q. (
-          let one : NodeEdge f p edge = record { node = node; place = e; there = at; is = is_edge } in
-          allowed_only r b _ _ (assigned edge.effect) edge.effect (b.before g p) ((only_of r b).before g p) fact (λ x h arguments is_call. (let call = calls_fit r is g f there p edge x h arguments one is_call in there_is (slice_get r.functions h) call.routine call.there)) (here g f p there (slice_get_within (routine_nodes f) p node at))
-          (c.along g f p node e edge fact there at is_edge (points g edge.to fact q)));
-      calls = λ g f p node e edge x h arguments fact there at is_edge is_call q. derivable_more (here g f p there (slice_get_within (routine_nodes f) p node at)) (c.calls g f p node e edge x h arguments fact there at is_edge is_call (entries h fact q));
-      entry = λ g f fact there q. derivable_more (λ p k. with_test (is_some (slice_get r.functions g)) (b.entry g p) (there_is (slice_get r.functions g) f there) k) (c.entry g f fact there (points g 0 fact q));
-      exit = λ g f p node given fact there at returns q. derivable_more (either_more (here g f p there (slice_get_within (routine_nodes f) p node at)) (λ q k. k)) (c.exit g f p node given fact there at returns (exits g fact q));
+      follows = record {
+        along = λ g f p edge fact there one q.
+            allowed_only r b _ _ (assigned edge.effect) edge.effect (b.before g p) ((only_of r b).before g p) fact (λ x h arguments is_call. (let call = calls_fit r is g f there p edge x h arguments one is_call in there_is (slice_get r.functions h) call.routine call.there)) (here g f p there (slice_get_within (routine_nodes f) p one.node one.there))
+            (c.follows.along g f p edge fact there one (points g edge.to fact q));
+        calls = λ g f p edge x h arguments fact there one is_call q. derivable_more (here g f p there (slice_get_within (routine_nodes f) p one.node one.there)) (c.follows.calls g f p edge x h arguments fact there one is_call (entries h fact q));
+        entry = λ g f fact there q. derivable_more (λ p k. with_test (is_some (slice_get r.functions g)) (b.entry g p) (there_is (slice_get r.functions g) f there) k) (c.follows.entry g f fact there (points g 0 fact q));
+        exit = λ g f p given fact there one q. derivable_more (either_more (here g f p there (slice_get_within (routine_nodes f) p one.node one.there)) (λ q k. k)) (c.follows.exit g f p given fact there one (exits g fact q));
+      };
       main = λ fact. nothing_there (b.entry r.main fact) (c.main fact) (is_some (slice_get r.functions r.main));
     }
 

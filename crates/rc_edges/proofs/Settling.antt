@@ -10,8 +10,8 @@ use Rattle.rc_rlang.specs.RegionFlow.{Effect, nothing, nulled, moved, fixed, bes
 use Rattle.rc_annotations.specs.Annotations.{Facts, Annotation, Consistent, gained, exit_facts, fact_with, renamed, renamed_by, is_below, returned_facts}
 use Rattle.rc_annotations.specs.Laws.{Inside, Within}
 use Rattle.rc_annotations.proofs.Derivations.{derivable_more, either_more, allowed_more}
-use Rattle.rc_annotations.proofs.Greatest.{leaves_inside}
-use Rattle.rc_edges.specs.Edges.{spare, kept, NodeEdge}
+use Rattle.rc_annotations.proofs.Greatest.{follows_inside}
+use Rattle.rc_edges.specs.Edges.{spare, kept}
 use Rattle.rc_edges.specs.Families.{InOrder, Settled, Own, KeepsInside}
 use Rattle.rc_edges.proofs.Renaming.{derivable_under, own_name}
 use Rattle.rc_edges.proofs.Carrying.{edges_allow, fewer_derive}
@@ -67,14 +67,15 @@ module _ (r : Rlang) (temporaries : ℕ → ℕ) where
     at_entries = λ g f fact there is. o.entries g f there fact is;
     at_exits = λ g f fact there is. o.exits g f there fact is;
     at_points = λ g f p fact there is. o.points g f p there fact is;
-    along = λ g f p node e edge fact there at is_edge is. (
-        let t = temporaries g in
-        let one : NodeEdge f p edge = record { node = node; place = e; there = at; is = is_edge } in
-        let c = (h g f there).1.along p edge fact one is in
-        (edges_allow (variables f t) (spare f t) (scratch f t) a edge.effect p edge.to c.flow (a.before g p) fact (omega arith) (omega arith) ((h g f there).0 p edge one) (o.points g f p there) (o.points g f edge.to there fact is) c.carries).1 c.behind);
-    calls = λ g f p node e edge x k arguments fact there at is_edge is_call is. derivable_wider (omega arith) ((h g f there).1.calls p edge x k arguments fact (record { node = node; place = e; there = at; is = is_edge }) is_call is);
-    entry = λ g f fact there is. derivable_wider (omega arith) ((h g f there).1.entry fact is);
-    exit = λ g f p node given fact there at returns is. derivable_wider (omega arith) ((h g f there).1.exit p node given fact at returns is);
+    follows = record {
+      along = λ g f p edge fact there one is. (
+          let t = temporaries g in
+          let c = (h g f there).1.along p edge fact one is in
+          (edges_allow (variables f t) (spare f t) (scratch f t) a edge.effect p edge.to c.flow (a.before g p) fact (omega arith) (omega arith) ((h g f there).0 p edge one) (o.points g f p there) (o.points g f edge.to there fact is) c.carries).1 c.behind);
+      calls = λ g f p edge x k arguments fact there one is_call is. derivable_wider (omega arith) ((h g f there).1.calls p edge x k arguments fact one is_call is);
+      entry = λ g f fact there is. derivable_wider (omega arith) ((h g f there).1.entry fact is);
+      exit = λ g f p given fact there one is. derivable_wider (omega arith) ((h g f there).1.exit p one.node given fact one.there one.returns is);
+    };
     main = o.main;
   }
 
@@ -86,16 +87,16 @@ module _ (r : Rlang) (temporaries : ℕ → ℕ) where
         along = λ p edge e fact one carries is.
             (edges_allow (variables f t) s (scratch f t) a edge.effect p edge.to e (b.before g p) fact (omega arith) (omega arith) (own p edge one) (λ q k. c.at_points g f p q there k) (c.at_points g f edge.to fact there is) carries).0
             (allowed_more (variables f t) (scratch f t) (gained (exit_facts (between b a))) (gained (exit_facts a)) (assigned edge.effect) edge.effect (b.before g p) (b.before g p) fact (same_gains b a) (λ q k. k)
-            ((leaves_inside r temporaries b (between b a) c (record { before = λ g p q k. k; entry = i.entry; exit = i.exit })).along g f p one.node one.place edge fact there one.there one.is is));
+            ((follows_inside r temporaries b (between b a) c (record { before = λ g p q k. k; entry = i.entry; exit = i.exit })).along g f p edge fact there one is));
         calls = λ p edge x k arguments fact one is_call below is.
             (fewer_derive (variables f t) (kept f t) (a.before g p) (fact_with (λ v. get_or arguments v 0) fact) (omega arith) (omega arith) (λ q is1. more_below s (kept f t) (omega arith) q (o.points g f p there q is1)) (more_below s (kept f t) (omega arith) (fact_with (λ v. get_or arguments v 0) fact) below)).0
-            (derivable_more (i.before g p) (c.calls g f p one.node one.place edge x k arguments fact there one.there one.is is_call is));
+            (derivable_more (i.before g p) (c.follows.calls g f p edge x k arguments fact there one is_call is));
         entry = λ fact is.
             (fewer_derive (variables f t) (kept f t) (a.entry g) fact (omega arith) (omega arith) (λ q is1. more_below (copies f) (kept f t) (omega (arith, le)) q (o.entries g f there q is1)) (more_below s (kept f t) (omega arith) fact (c.at_points g f 0 fact there is))).0
-            (derivable_more (i.entry g) (c.entry g f fact there is));
+            (derivable_more (i.entry g) (c.follows.entry g f fact there is));
         exit = λ p node given fact at returns below is.
             (fewer_derive (variables f t) (kept f t) (λ q. a.before g p q || returned_facts f t given q) (fact_with (renamed (copies f) s) fact) (omega arith) (omega arith)
             (λ q is1. elim (or_cases (a.before g p q) (returned_facts f t given q) is1) [ inl x ↦ more_below s (kept f t) (omega arith) q (o.points g f p there q x) | inr y ↦ below q y ])
             (put_below (copies f) s le fact (c.at_exits g f fact there is))).0
-            (derivable_more (either_more (i.before g p) (λ q k. k)) (c.exit g f p node given fact there at returns is));
+            (derivable_more (either_more (i.before g p) (λ q k. k)) (c.follows.exit g f p given fact there (record { node = node; there = at; returns = returns }) is));
       }

@@ -12,12 +12,12 @@ use Rattle.rc_facts.proofs.Closes.{derivable_over}
 use Rattle.rc_rlang.specs.RegionCode.{Routine, Rlang}
 use Rattle.rc_rlang.specs.IsRlang.{IsRlang}
 use Rattle.rc_rlang.specs.RegionFlow.{called, Edge, Node, copies, routine_nodes}
-use Rattle.rc_annotations.specs.Annotations.{Annotation, Consistent, fact_with, renamed, is_below, returned_facts}
+use Rattle.rc_annotations.specs.Annotations.{Annotation, Consistent, fact_with, renamed, is_below, returned_facts, NodeEdge}
 use Rattle.rc_annotations.specs.Laws.{Within}
 use Rattle.rc_annotations.specs.Heights.{temporaries_of}
 use Rattle.rc_annotations.proofs.Derivations.{derivable_more, either_more}
 use Rattle.rc_flow.specs.Flow.{AreShut, Behind, IsInside, no_set, set_at}
-use Rattle.rc_edges.specs.Edges.{EffectBelow, NodeEdge, all_below, kept, spare}
+use Rattle.rc_edges.specs.Edges.{EffectBelow, all_below, kept, spare}
 use Rattle.rc_edges.specs.EdgeLaws.{AllBelow}
 use Rattle.rc_edges.specs.Families.{Family, Settled, Owned, KeepsInside, annotation_in}
 use Rattle.rc_edges.proofs.Owning.{functions_own}

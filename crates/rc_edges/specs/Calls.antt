@@ -3,7 +3,7 @@
 use Rattle.std.specs.Prelude.{◌≡◌, ℕ, ◌≤◌, List, length, slice_get, Option, Some}
 use Rattle.rc_rlang.specs.RegionCode.{Routine, Rlang}
 use Rattle.rc_rlang.specs.RegionFlow.{called, Edge, Node, copies, result_variable, routine_nodes}
-use Rattle.rc_edges.specs.Edges.{NodeEdge}
+use Rattle.rc_annotations.specs.Annotations.{NodeEdge}
 
 pub record CallOf (r : Rlang) (function : ℕ) (arguments : List ℕ) : Type 0 where
   pub routine : Routine

@@ -2,7 +2,7 @@
 use Rattle.std.specs.Prelude.{ℕ, suc, ◌<◌, ◌≤◌, IsTrue, ◌↔◌}
 use Rattle.rc_facts.specs.declared.fact.Fact.{Fact}
 use Rattle.rc_facts.specs.Derivable.{Derivable}
-use Rattle.rc_rlang.specs.RegionFlow.{Effect, assigned}
+use Rattle.rc_rlang.specs.RegionFlow.{Effect}
 use Rattle.rc_annotations.specs.Annotations.{Facts, Annotation, gained, exit_facts, allowed, is_below}
 use Rattle.rc_flow.specs.declared.edge.Edge.{Edge as FlowEdge}
 use Rattle.rc_flow.specs.Flow.{Behind}
@@ -15,7 +15,7 @@ AllBelow s facts = (p : Fact) → IsTrue (facts p) → is_below s p
 -- are allowed behind the effect
 abbrev pub EdgesAllow : Type 0
 EdgesAllow = (n s u : ℕ) (a : Annotation) (effect : Effect) (from to : ℕ) (e : FlowEdge) (before : Facts) (fact : Fact) → s < u → u < n → EffectBelow s effect → AllBelow s before → is_below s fact → Carries s (exit_facts a) effect from to e →
-    allowed n u (gained (exit_facts a)) (assigned effect) effect before fact ↔ Behind (suc s) s e.assigned e.news.items before fact
+    allowed n u (gained (exit_facts a)) effect before fact ↔ Behind (suc s) s e.assigned e.news.items before fact
 
 -- what is derivable from facts on variables below m, of such variables, is so over m variables
 abbrev pub FewerDerive : Type 0

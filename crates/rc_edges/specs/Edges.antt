@@ -1,13 +1,14 @@
 -- Region code as edges that carry facts. At no point of a function is anything known of its result, so facts are kept over the variables
 -- before it, and its number is free there: it serves as the scratch variable of edges. What an effect adds is a list of facts on these
 -- variables alone; what is lost so is said of no variable that a point speaks of.
-use Rattle.std.specs.Prelude.{◌≡◌, ℕ, suc, ◌<◌, IsTrue, List, [], ◌∷◌, slice_get, Option, Some, None, IfSome}
+use Rattle.std.specs.Prelude.{◌≡◌, ℕ, suc, ◌<◌, IsTrue, List, [], ◌∷◌, Option, Some, None, IfSome}
 use Rattle.std.specs.List.{All, list_any}
 use Rattle.rc_facts.specs.declared.fact.Fact.{Fact}
 use Rattle.rc_facts.specs.Facts.{same_fact, is_over}
 use Rattle.rc_rlang.specs.RegionCode.{Routine}
-use Rattle.rc_rlang.specs.RegionFlow.{Effect, nothing, nulled, moved, fixed, beside, made, under, loaded, looked_at, stored, present, absent, called, entered, assigned, Edge, Node, result_variable, routine_nodes}
+use Rattle.rc_rlang.specs.RegionFlow.{Effect, nothing, nulled, moved, fixed, beside, made, under, loaded, looked_at, stored, present, absent, called, entered, assigned, result_variable}
 use Rattle.rc_annotations.specs.Annotations.{Facts, assigning, gained}
+pub use Rattle.rc_annotations.specs.Annotations.{NodeEdge}
 use Rattle.rc_flow.specs.declared.edge.Edge.{Edge as FlowEdge}
 
 -- the scratch variable of edges, and how many variables facts are kept over
@@ -62,10 +63,3 @@ pub record Carries (s : ℕ) (exits : ℕ → List ℕ → Option ℕ → Facts)
   pub leads : e.to ≡ to
   pub assigned : e.assigned ≡ assigned effect
   pub news : AreNews (suc s) exits (renewed s effect) e.news.items
-
--- a node's edge
-pub record NodeEdge (f : Routine) (point : ℕ) (edge : Edge) : Type 0 where
-  pub node : Node
-  pub place : ℕ
-  pub there : slice_get (routine_nodes f) point ≡ Some node
-  pub is : slice_get node.edges place ≡ Some edge

@@ -7,11 +7,11 @@ use Rattle.rc_facts.specs.Facts.{Known}
 use Rattle.rc_facts.specs.Derivable.{Derivable}
 use Rattle.rc_rlang.specs.RegionCode.{Routine, Rlang}
 use Rattle.rc_rlang.specs.RegionFlow.{called, Edge, Node, copies, variables, routine_nodes}
-use Rattle.rc_annotations.specs.Annotations.{Annotation, Consistent, exit_facts, returned_facts, fact_with, renamed, is_below}
+use Rattle.rc_annotations.specs.Annotations.{Annotation, Consistent, exit_facts, returned_facts, fact_with, renamed, is_below, NodeEdge}
 use Rattle.rc_annotations.specs.Laws.{Inside}
 use Rattle.rc_flow.specs.declared.edge.Edge.{Edge as FlowEdge}
 use Rattle.rc_flow.specs.Flow.{Behind, set_at}
-use Rattle.rc_edges.specs.Edges.{spare, kept, EffectBelow, Carries, NodeEdge}
+use Rattle.rc_edges.specs.Edges.{spare, kept, EffectBelow, Carries}
 use Rattle.rc_edges.specs.EdgeLaws.{AllBelow}
 
 pub record Family : Type 0 where

@@ -1,4 +1,4 @@
-use Rattle.rc_annotations.proofs.Greatest.{left_inside, right_inside, leaves_inside, united_consistent, without_facts_consistent, greatest_removes}
+use Rattle.rc_annotations.proofs.Greatest.{left_inside, right_inside, follows_inside, united_consistent, without_facts_consistent, greatest_removes}
 use Rattle.rc_annotations.proofs.Unions.{one_proves_all}
 use Rattle.rc_annotations.proofs.consistent_annotations_unite.Goals as goal
 
@@ -12,7 +12,7 @@ pub returns-clause-right : goal.returns-clause-right
 returns-clause-right c = right_inside
 
 pub returns-clause-kept : goal.returns-clause-kept
-returns-clause-kept c = leaves_inside
+returns-clause-kept c = follows_inside
 
 pub returns-clause-least : goal.returns-clause-least
 returns-clause-least c = without_facts_consistent
