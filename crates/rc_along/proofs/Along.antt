@@ -2,23 +2,23 @@
 use Rattle.std.proofs.Common.{◌≡◌, ℕ, zero, suc, ◌+◌, Bool, true, false, List, length, Some, refl, sym, ◌∙◌, subst, arith}
 use Rattle.std.specs.Prelude.{slice_get, take}
 use Rattle.rc_core.specs.Heap.{Value, Null, Heap, parent, fits}
-use Rattle.rc_core.specs.Runs.{Calls}
 use Rattle.rc_core.specs.Source.{World, turn_from, source}
 use Rattle.rc_rlang.specs.RegionCode.{width, more, Code, Routine, Rlang}
 use Rattle.rc_rlang.specs.RegionCode as Code
 use Rattle.rc_rlang.specs.RegionPoints.{steps_points}
 use Rattle.rc_rlang.specs.RegionLive.{before_act}
-use Rattle.rc_rlang.specs.RegionRuns.{run_routine, deletes, calls_within, code_run, Way, Next, Broke, Continued, Returned, kept, Temporaries, temporary, target_at, steps_run}
+use Rattle.rc_rlang.specs.RegionRuns.{run_routine, deletes, calls_within, Way, Next, Broke, Continued, Returned, kept, Temporaries, temporary, target_at}
 use Rattle.rc_rlang.specs.RegionFlow.{looked_at, stored, is_regional, note_in, one_of, first_of, copies, temporary_variable, steps_nodes, routine_nodes, act_nodes}
 use Rattle.rc_annotations.specs.Annotations.{Annotation, Consistent}
 use Rattle.rc_annotations.specs.Holding.{region_in, AllHold}
 use Rattle.rc_annotations.specs.Variables.{past, values_of}
 use Rattle.rc_annotations.specs.Worlds.{Made, Sane, Stays}
-use Rattle.rc_along.specs.Along.{given_to, Good, Called, Keeps, RightRoutine, RoutineMeets, OptionRoutineMeets, CallsMeet, CallDemand}
+use Rattle.rc_along.specs.Along.{given_to, Called, Keeps, RightRoutine, RoutineMeets, OptionRoutineMeets, CallsMeet}
 use Rattle.rc_annotations.specs.Annotations.{asked_of, AllProven}
 use Rattle.rc_along.specs.MarkedRuns.{Put, routine_marked, calls_marked}
 use Rattle.rc_along.specs.MarkedLaws.{Trusting}
-use Rattle.rc_along.specs.RunLaws.{GoodEnd, InEachCall, StepsKeepFacts, CodeKeepsFacts, RemovedFits}
+use Rattle.rc_along.specs.Comes.{Activation, steps_in, code_in}
+use Rattle.rc_along.specs.RunLaws.{AllRight, IsCall, GoodAt, GoodEnd, StepsKeepFacts, CodeKeepsFacts, RemovedFits}
 use Rattle.rc_annotations.proofs.Truths.{asked_fits}
 use Rattle.rc_annotations.proofs.Variables as V
 use Rattle.rc_annotations.proofs.WorldFacts.{Goes, goes_bind, goes_more, goes_both, gives, stays_heap}
@@ -91,33 +91,32 @@ module _ (r : Rlang) (temporaries : ℕ → ℕ) (a : Annotation) (c : Consisten
 
 -- as the laws say it
 module _ (r : Rlang) (temporaries : ℕ → ℕ) (a : Annotation) (c : Consistent r temporaries a) where
-  abbrev at_call : (g : ℕ) (f : Routine) → slice_get r.functions g ≡ Some f → (copied : List Value) → length copied ≡ copies f → (first : Heap) → Setting
-  at_call g f there copied whole first = record { r = r; temporaries = temporaries; a = a; c = c; g = g; f = f; there = there; copied = copied; whole = whole; heap0 = first }
+  abbrev at_call : (d : Activation) → IsCall r d → (first : Heap) → Setting
+  at_call d is first = record { r = r; temporaries = temporaries; a = a; c = c; g = d.function; f = d.routine; there = is.there; copied = d.copied; whole = is.long; heap0 = first }
 
-  abbrev around_call : (g : ℕ) (f : Routine) (there : slice_get r.functions g ≡ Some f) (copied : List Value) (whole : length copied ≡ copies f) (first : Heap) (deleting : ℕ → Bool) (calls : Calls World) (inside : CallDemand) → Keeps r a calls inside → Calling (at_call g f there copied whole first)
-  around_call g f there copied whole first deleting calls inside keeps = record { deleting = deleting; calls = calls; inside = inside; keeps_calls = keeps }
+  abbrev around_call : AllRight r temporaries → (d : Activation) (is : IsCall r d) (first : Heap) → Calling (at_call d is first)
+  around_call rights d is first = record { deleting = deletes r; calls = calls_within source r d.depth; inside = CallsMeet r d.depth; keeps_calls = calls_keep r temporaries a c rights d.depth }
 
-  steps_keep_facts_given : (g : ℕ) (f : Routine) → slice_get r.functions g ≡ Some f → (copied : List Value) → length copied ≡ copies f → (first : Heap) (deleting : ℕ → Bool) (calls : Calls World) (inside : CallDemand) → Keeps r a calls inside → StepsKeepFacts r temporaries a g f copied first deleting calls inside
-  steps_keep_facts_given g f there copied whole first deleting calls inside keeps x here next live env t w st right meets good =
-      (steps_good (at_call g f there copied whole first) (around_call g f there copied whole first deleting calls inside keeps) x here next live env t w st right meets good).holds
+  pub steps_keep_facts : StepsKeepFacts r temporaries a
+  steps_keep_facts rights d first is x here next live env t w st right meets good = (steps_good (at_call d is first) (around_call rights d is first) x here next live env t w st right meets good).holds
 
-  code_keeps_facts_given : (g : ℕ) (f : Routine) → slice_get r.functions g ≡ Some f → (copied : List Value) → length copied ≡ copies f → (first : Heap) (deleting : ℕ → Bool) (calls : Calls World) (inside : CallDemand) → Keeps r a calls inside → CodeKeepsFacts r temporaries a g f copied first deleting calls inside
-  code_keeps_facts_given g f there copied whole first deleting calls inside keeps x here k st right ways env t w meets i =
-      (goes_more (GoodWay (at_call g f there copied whole first) (around_call g f there copied whole first deleting calls inside keeps) k) (GoodEnd a g f copied first k) (code_run source deleting f.locals x calls ways env t w) ends
-      (code_good (at_call g f there copied whole first) (around_call g f there copied whole first deleting calls inside keeps) x here k st right ways env t w meets i)).holds
+  pub code_keeps_facts : CodeKeepsFacts r temporaries a
+  code_keeps_facts rights d first is x here k ways env t w st right meets i =
+      (goes_more (GoodWay (at_call d is first) (around_call rights d is first) k) (GoodEnd a d first k) (code_in r d x ways env t w) ends
+      (code_good (at_call d is first) (around_call rights d is first) x here k st right ways env t w meets i)).holds
     where
-      ends : (way : Way) (w1 : World) → GoodWay (at_call g f there copied whole first) (around_call g f there copied whole first deleting calls inside keeps) k way w1 → GoodEnd a g f copied first k way w1
+      ends : (way : Way) (w1 : World) → GoodWay (at_call d is first) (around_call rights d is first) k way w1 → GoodEnd a d first k way w1
       ends (Next env t) w1 p = p
       ends (Broke env t) w1 p = p
       ends (Continued env t) w1 p = p
       ends (Returned v) w1 p = (p.facts, p.made, p.sane, p.grown)
 
-  removed_fits_given : (g : ℕ) (f : Routine) → slice_get r.functions g ≡ Some f → (copied : List Value) → length copied ≡ copies f → (first : Heap) (deleting : ℕ → Bool) (calls : Calls World) (inside : CallDemand) → Keeps r a calls inside → RemovedFits r temporaries a g f copied first deleting calls inside
-  removed_fits_given g f there copied whole first deleting calls inside keeps steps line acc here k st right ways env t w meets i fact asks has =
-      (goes_more (λ t1 w1. Good a g f copied first at env t1 w1) Fits (steps_run source deleting f.locals steps calls (before_act (Code.store line acc) ways.next) env t w) fit
-      (steps_good (at_call g f there copied whole first) (around_call g f there copied whole first deleting calls inside keeps) steps here at (before_act (Code.store line acc) ways.next) env t w
-      (stand_left (routine_nodes f) here (steps_nodes f steps here at) (act_nodes f (Code.store line acc) at k.next) st) right.0 meets.0
-      (subst (λ p. Good a g f copied first p env t w) (sum (steps_points steps) here) i))).holds
+  pub removed_fits : RemovedFits r temporaries a
+  removed_fits rights d first is steps line acc here k ways env t w st right meets i fact asks has =
+      (goes_more (λ t1 w1. GoodAt a d first at env t1 w1) Fits (steps_in r d steps (before_act (Code.store line acc) ways.next) env t w) fit
+      (steps_good (at_call d is first) (around_call rights d is first) steps here at (before_act (Code.store line acc) ways.next) env t w
+      (stand_left (routine_nodes d.routine) here (steps_nodes d.routine steps here at) (act_nodes d.routine (Code.store line acc) at k.next) st) right.0 meets.0
+      (subst (λ p. GoodAt a d first p env t w) (sum (steps_points steps) here) i))).holds
     where
       at : ℕ
       at = here + steps_points steps
@@ -126,28 +125,19 @@ module _ (r : Rlang) (temporaries : ℕ → ℕ) (a : Annotation) (c : Consisten
       Fits t1 w1 = fits (parent w1.heap) (note_in acc.cell) (region_in (target_at acc t1 0).pointer) (kept acc.cell (temporary acc.cell t1 (width acc))) ≡ true
 
       sum : (j p : ℕ) → first_of (j + 1) p k.next ≡ first_of j p (p + j)
-      sum j p = first_more (at_call g f there copied whole first) (around_call g f there copied whole first deleting calls inside keeps) j 1 p k.next (omega arith)
+      sum j p = first_more (at_call d is first) (around_call rights d is first) j 1 p k.next (omega arith)
 
-      is : is_regional acc.cell ≡ true
-      is = by (is_regional acc.cell) asks
+      regional : is_regional acc.cell ≡ true
+      regional = by (is_regional acc.cell) asks
         where
-          by : (b : Bool) → asked_of (one_of b (stored (temporary_variable f (width acc)) (temporary_variable f 0) (note_in acc.cell)) (looked_at (temporary_variable f 0))) ≡ Some fact → b ≡ true
+          by : (b : Bool) → asked_of (one_of b (stored (temporary_variable d.routine (width acc)) (temporary_variable d.routine 0) (note_in acc.cell)) (looked_at (temporary_variable d.routine 0))) ≡ Some fact → b ≡ true
           by true e = refl
           by false e = cc
 
-      fit : (t1 : Temporaries) (w1 : World) → Good a g f copied first at env t1 w1 → Fits t1 w1
+      fit : (t1 : Temporaries) (w1 : World) → GoodAt a d first at env t1 w1 → Fits t1 w1
       fit t1 w1 good =
-          let v : kept acc.cell (temporary acc.cell t1 (width acc)) ≡ values_of f copied env t1.regions (temporary_variable f (width acc)) =
-          kept_whole (at_call g f there copied whole first) acc.cell (temporary acc.cell t1 (width acc)) is ∙ regional_temp (at_call g f there copied whole first) acc.cell t1 (width acc) (kind_regional (at_call g f there copied whole first) acc.cell right.1.0 is) ∙ sym (V.temp_value f copied whole env t1.regions (width acc)) in
-          let p : (target_at acc t1 0).pointer ≡ values_of f copied env t1.regions (temporary_variable f 0) = target_pointer (at_call g f there copied whole first) acc t1 0 ∙ sym (V.temp_value f copied whole env t1.regions 0) in
-          let q : asked_of (one_of (is_regional acc.cell) (stored (temporary_variable f (width acc)) (temporary_variable f 0) (note_in acc.cell)) (looked_at (temporary_variable f 0))) ≡ Some fact = asks in
-          rw (v, p) (asked_fits (note_in acc.cell) (temporary_variable f (width acc)) (temporary_variable f 0) fact (values_of f copied env t1.regions) w1.heap (subst (λ b. asked_of (one_of b (stored (temporary_variable f (width acc)) (temporary_variable f 0) (note_in acc.cell)) (looked_at (temporary_variable f 0))) ≡ Some fact) is q) (good.facts fact has))
-
-  pub steps_keep_facts : InEachCall r temporaries a (StepsKeepFacts r temporaries a)
-  steps_keep_facts rights g f there copied whole first m = steps_keep_facts_given g f there copied whole first (deletes r) (calls_within source r m) (CallsMeet r m) (calls_keep r temporaries a c rights m)
-
-  pub code_keeps_facts : InEachCall r temporaries a (CodeKeepsFacts r temporaries a)
-  code_keeps_facts rights g f there copied whole first m = code_keeps_facts_given g f there copied whole first (deletes r) (calls_within source r m) (CallsMeet r m) (calls_keep r temporaries a c rights m)
-
-  pub removed_fits : InEachCall r temporaries a (RemovedFits r temporaries a)
-  removed_fits rights g f there copied whole first m = removed_fits_given g f there copied whole first (deletes r) (calls_within source r m) (CallsMeet r m) (calls_keep r temporaries a c rights m)
+          let v : kept acc.cell (temporary acc.cell t1 (width acc)) ≡ values_of d.routine d.copied env t1.regions (temporary_variable d.routine (width acc)) =
+          kept_whole (at_call d is first) acc.cell (temporary acc.cell t1 (width acc)) regional ∙ regional_temp (at_call d is first) acc.cell t1 (width acc) (kind_regional (at_call d is first) acc.cell right.1.0 regional) ∙ sym (V.temp_value d.routine d.copied is.long env t1.regions (width acc)) in
+          let p : (target_at acc t1 0).pointer ≡ values_of d.routine d.copied env t1.regions (temporary_variable d.routine 0) = target_pointer (at_call d is first) acc t1 0 ∙ sym (V.temp_value d.routine d.copied is.long env t1.regions 0) in
+          let q : asked_of (one_of (is_regional acc.cell) (stored (temporary_variable d.routine (width acc)) (temporary_variable d.routine 0) (note_in acc.cell)) (looked_at (temporary_variable d.routine 0))) ≡ Some fact = asks in
+          rw (v, p) (asked_fits (note_in acc.cell) (temporary_variable d.routine (width acc)) (temporary_variable d.routine 0) fact (values_of d.routine d.copied env t1.regions) w1.heap (subst (λ b. asked_of (one_of b (stored (temporary_variable d.routine (width acc)) (temporary_variable d.routine 0) (note_in acc.cell)) (looked_at (temporary_variable d.routine 0))) ≡ Some fact) regional q) (good.facts fact has))

@@ -9,7 +9,7 @@ ghost use Rattle.rc_rlang.specs.RegionCode.{Rlang};
 ghost use Rattle.rc_annotations.specs.Annotations.{Annotation, Consistent};
 ghost use Rattle.rc_along.specs.ComesLaws.{FactsHoldWhenever};
 ghost use Rattle.rc_along.specs.MarkedLaws.{MarkedCallsAreTheSame};
-ghost use Rattle.rc_along.specs.RunLaws.{AllRight, InEachCall, StepsKeepFacts, CodeKeepsFacts, RemovedFits, CallsKeepFacts};
+ghost use Rattle.rc_along.specs.RunLaws.{AllRight, StepsKeepFacts, CodeKeepsFacts, RemovedFits, CallsKeepFacts};
 
 /// The facts of a consistent annotation hold along runs of region code over the source's world, where
 /// the code's types agree and the run meets them: deletions, and locals that name deleted regions,
@@ -20,10 +20,10 @@ ghost use Rattle.rc_along.specs.RunLaws.{AllRight, InEachCall, StepsKeepFacts, C
 /// gives back those of the exit. `removed` says that the check of a store finds that the value fits,
 /// whenever the run comes to it, where the annotation has the fact that the check asks.
 pub fn facts_hold_along_runs()
-    ensures steps { (r : Rlang) (temporaries : ℕ → ℕ) (a : Annotation) → Consistent r temporaries a → InEachCall r temporaries a (StepsKeepFacts r temporaries a) }
-    ensures code { (r : Rlang) (temporaries : ℕ → ℕ) (a : Annotation) → Consistent r temporaries a → InEachCall r temporaries a (CodeKeepsFacts r temporaries a) }
+    ensures steps { (r : Rlang) (temporaries : ℕ → ℕ) (a : Annotation) → Consistent r temporaries a → StepsKeepFacts r temporaries a }
+    ensures code { (r : Rlang) (temporaries : ℕ → ℕ) (a : Annotation) → Consistent r temporaries a → CodeKeepsFacts r temporaries a }
     ensures calls { (r : Rlang) (temporaries : ℕ → ℕ) (a : Annotation) → Consistent r temporaries a → CallsKeepFacts r temporaries a }
-    ensures removed { (r : Rlang) (temporaries : ℕ → ℕ) (a : Annotation) → Consistent r temporaries a → InEachCall r temporaries a (RemovedFits r temporaries a) }
+    ensures removed { (r : Rlang) (temporaries : ℕ → ℕ) (a : Annotation) → Consistent r temporaries a → RemovedFits r temporaries a }
 {}
 
 /// Each fact that a consistent annotation has before a point holds of the values of the region
