@@ -1,7 +1,6 @@
 pub mod Kinds
 pub mod Table
 pub mod Image
-pub mod Laws
 pub mod Running
 pub mod StoreModel
 pub mod Soundness

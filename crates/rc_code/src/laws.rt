@@ -1,7 +1,7 @@
 // Laws of the tables.
 ghost use Rattle.std.specs.Prelude.{◌≡◌, ℕ, List, Some};
 ghost use Rattle.rc_code.specs.Kinds.{cell_tag, cell_tagged, with_no_type, storage_tag, storage_tagged, with_no_pointee};
-ghost use Rattle.rc_code.specs.Table.{number_of, numbered, operands_named, AreOf};
+ghost use Rattle.rc_code.specs.Table.{number_of, numbered, operands_named, AreOperands};
 ghost use Rattle.rc_code.specs.Image.{opcode_of, operands_of};
 ghost use Rattle.rc_code.specs.declared.instruction.Instruction.{Instruction};
 ghost use Rattle.rc_code.specs.declared.kind.Cell.{Cell};
@@ -17,9 +17,9 @@ pub fn numbers_are_those_of_the_table()
 /// An instruction's operands are what its row says, its row and its operands make it up, and numbers
 /// that are what a row says are operands of an instruction of that row.
 pub fn operands_are_those_of_the_table()
-    ensures row { (i : Instruction) → AreOf (operands_named (opcode_of i)) (operands_of i) }
+    ensures row { (i : Instruction) → AreOperands (operands_named (opcode_of i)) (operands_of i) }
     ensures only { (i j : Instruction) → opcode_of i ≡ opcode_of j → operands_of i ≡ operands_of j → i ≡ j }
-    ensures all { (o : Opcode) (ns : List ℕ) → AreOf (operands_named o) ns → (i : Instruction) × (opcode_of i ≡ o) × (operands_of i ≡ ns) }
+    ensures all { (o : Opcode) (ns : List ℕ) → AreOperands (operands_named o) ns → (i : Instruction) × (opcode_of i ≡ o) × (operands_of i ≡ ns) }
 {}
 
 /// A cell has one tag, and a tag one cell, its type left out.

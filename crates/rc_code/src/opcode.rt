@@ -1,6 +1,6 @@
 // The table of instructions, without their operands: numbers and names.
 ghost use Rattle.std.specs.Prelude.{◌≡◌};
-ghost use Rattle.rc_code.specs.Table.{arithmetic_number, typed_number, jump_number, simple_number, number_of, arithmetic_name, typed_name, jump_name, simple_name, name_of, opcodes, numbered, operands_named};
+ghost use Rattle.rc_code.specs.Table.{row, number_of, name_of, opcodes, numbered, operands_named};
 
 use rc_core::ty::Signedness;
 
@@ -210,151 +210,8 @@ const OPCODES: [Opcode; 47] = [
     Opcode::Simple(Simple::Pop),
 ];
 
-impl Arithmetic {
-    /// Its number in the table.
-    pub fn number(self) -> u8
-        ensures { result ≡ arithmetic_number self }
-    {
-        match self {
-            Arithmetic::Add => 7,
-            Arithmetic::Subtract => 8,
-            Arithmetic::Multiply => 9,
-            Arithmetic::Divide => 10,
-            Arithmetic::Remainder => 11,
-            Arithmetic::And => 12,
-            Arithmetic::Or => 13,
-            Arithmetic::Xor => 14,
-            Arithmetic::ShiftLeft => 15,
-            Arithmetic::ShiftRight => 16,
-            Arithmetic::Negate => 17,
-            Arithmetic::Complement => 18,
-            Arithmetic::Equal => 19,
-            Arithmetic::Less => 20,
-            Arithmetic::LessEqual => 21,
-        }
-    }
-
-    /// Its name in the table.
-    pub fn name(self) -> &'static [u8]
-        ensures { result.now ≡ arithmetic_name self }
-    {
-        match self {
-            Arithmetic::Add => b"ADD",
-            Arithmetic::Subtract => b"SUB",
-            Arithmetic::Multiply => b"MUL",
-            Arithmetic::Divide => b"DIV",
-            Arithmetic::Remainder => b"REM",
-            Arithmetic::And => b"AND",
-            Arithmetic::Or => b"OR",
-            Arithmetic::Xor => b"XOR",
-            Arithmetic::ShiftLeft => b"SHL",
-            Arithmetic::ShiftRight => b"SHR",
-            Arithmetic::Negate => b"NEG",
-            Arithmetic::Complement => b"NOT",
-            Arithmetic::Equal => b"EQ",
-            Arithmetic::Less => b"LT",
-            Arithmetic::LessEqual => b"LE",
-        }
-    }
-}
-
-impl Typed {
-    /// Its number in the table.
-    pub fn number(self) -> u8
-        ensures { result ≡ typed_number self }
-    {
-        match self {
-            Typed::Null => 3,
-            Typed::Same => 23,
-            Typed::IsNull => 26,
-            Typed::RegionOf => 35,
-            Typed::Allocate => 36,
-            Typed::AllocateArray => 37,
-        }
-    }
-
-    /// Its name in the table.
-    pub fn name(self) -> &'static [u8]
-        ensures { result.now ≡ typed_name self }
-    {
-        match self {
-            Typed::Null => b"NULLP",
-            Typed::Same => b"EQP",
-            Typed::IsNull => b"NILP",
-            Typed::RegionOf => b"REGIONOF",
-            Typed::Allocate => b"RALLOC",
-            Typed::AllocateArray => b"RARRAY",
-        }
-    }
-}
-
-impl Jump {
-    /// Its number in the table.
-    pub fn number(self) -> u8
-        ensures { result ≡ jump_number self }
-    {
-        match self {
-            Jump::Always => 43,
-            Jump::IfZero => 44,
-            Jump::Back => 45,
-        }
-    }
-
-    /// Its name in the table.
-    pub fn name(self) -> &'static [u8]
-        ensures { result.now ≡ jump_name self }
-    {
-        match self {
-            Jump::Always => b"JUMP",
-            Jump::IfZero => b"JZ",
-            Jump::Back => b"BACK",
-        }
-    }
-}
-
-impl Simple {
-    /// Its number in the table.
-    pub fn number(self) -> u8
-        ensures { result ≡ simple_number self }
-    {
-        match self {
-            Simple::NullRegion => 2,
-            Simple::SameRegion => 22,
-            Simple::IsZero => 24,
-            Simple::IsNullRegion => 25,
-            Simple::ToInt => 27,
-            Simple::ToUnsigned => 28,
-            Simple::ToChar => 29,
-            Simple::NewRegion => 33,
-            Simple::NewSubregion => 34,
-            Simple::Return => 40,
-            Simple::PutChar => 41,
-            Simple::GetChar => 42,
-            Simple::Pop => 46,
-        }
-    }
-
-    /// Its name in the table.
-    pub fn name(self) -> &'static [u8]
-        ensures { result.now ≡ simple_name self }
-    {
-        match self {
-            Simple::NullRegion => b"NULLR",
-            Simple::SameRegion => b"EQR",
-            Simple::IsZero => b"ZERO",
-            Simple::IsNullRegion => b"NILR",
-            Simple::ToInt => b"TOI",
-            Simple::ToUnsigned => b"TOU",
-            Simple::ToChar => b"TOC",
-            Simple::NewRegion => b"NEWREGION",
-            Simple::NewSubregion => b"NEWSUB",
-            Simple::Return => b"RET",
-            Simple::PutChar => b"PUT",
-            Simple::GetChar => b"GETC",
-            Simple::Pop => b"POP",
-        }
-    }
-}
+/// The number of an instruction, its name, and what its operands are, in their order.
+type Row = (u8, &'static [u8], &'static [Operand]);
 
 impl Opcode {
     /// Every row of the table, each at its number.
@@ -365,68 +222,86 @@ impl Opcode {
         &OPCODES
     }
 
+    /// The table: its number, its name, and what its operands are, in their order.
+    fn row(self) -> Row
+        ensures number { result.0 ≡ (row self).number }
+        ensures name { result.1.now ≡ (row self).name }
+        ensures operands { result.2.now ≡ (row self).operands }
+    {
+        match self {
+            Opcode::Constant(Signedness::Signed) => (0, b"INT", &[Operand::Value]),
+            Opcode::Constant(Signedness::Unsigned) => (1, b"UNS", &[Operand::Value]),
+            Opcode::Simple(Simple::NullRegion) => (2, b"NULLR", &[]),
+            Opcode::Typed(Typed::Null) => (3, b"NULLP", &[Operand::Type]),
+            Opcode::Global => (4, b"GLOBAL", &[Operand::Global]),
+            Opcode::Get => (5, b"GET", &[Operand::Local]),
+            Opcode::Set => (6, b"SET", &[Operand::Local]),
+            Opcode::Arithmetic(Arithmetic::Add) => (7, b"ADD", &[Operand::Kind]),
+            Opcode::Arithmetic(Arithmetic::Subtract) => (8, b"SUB", &[Operand::Kind]),
+            Opcode::Arithmetic(Arithmetic::Multiply) => (9, b"MUL", &[Operand::Kind]),
+            Opcode::Arithmetic(Arithmetic::Divide) => (10, b"DIV", &[Operand::Kind]),
+            Opcode::Arithmetic(Arithmetic::Remainder) => (11, b"REM", &[Operand::Kind]),
+            Opcode::Arithmetic(Arithmetic::And) => (12, b"AND", &[Operand::Kind]),
+            Opcode::Arithmetic(Arithmetic::Or) => (13, b"OR", &[Operand::Kind]),
+            Opcode::Arithmetic(Arithmetic::Xor) => (14, b"XOR", &[Operand::Kind]),
+            Opcode::Arithmetic(Arithmetic::ShiftLeft) => (15, b"SHL", &[Operand::Kind]),
+            Opcode::Arithmetic(Arithmetic::ShiftRight) => (16, b"SHR", &[Operand::Kind]),
+            Opcode::Arithmetic(Arithmetic::Negate) => (17, b"NEG", &[Operand::Kind]),
+            Opcode::Arithmetic(Arithmetic::Complement) => (18, b"NOT", &[Operand::Kind]),
+            Opcode::Arithmetic(Arithmetic::Equal) => (19, b"EQ", &[Operand::Kind]),
+            Opcode::Arithmetic(Arithmetic::Less) => (20, b"LT", &[Operand::Kind]),
+            Opcode::Arithmetic(Arithmetic::LessEqual) => (21, b"LE", &[Operand::Kind]),
+            Opcode::Simple(Simple::SameRegion) => (22, b"EQR", &[]),
+            Opcode::Typed(Typed::Same) => (23, b"EQP", &[Operand::Type]),
+            Opcode::Simple(Simple::IsZero) => (24, b"ZERO", &[]),
+            Opcode::Simple(Simple::IsNullRegion) => (25, b"NILR", &[]),
+            Opcode::Typed(Typed::IsNull) => (26, b"NILP", &[Operand::Type]),
+            Opcode::Simple(Simple::ToInt) => (27, b"TOI", &[]),
+            Opcode::Simple(Simple::ToUnsigned) => (28, b"TOU", &[]),
+            Opcode::Simple(Simple::ToChar) => (29, b"TOC", &[]),
+            Opcode::Move => (
+                30,
+                b"MOVE",
+                &[Operand::Type, Operand::Kind, Operand::Direction],
+            ),
+            Opcode::Load => (31, b"LOAD", &[Operand::Path]),
+            Opcode::Store => (32, b"STORE", &[Operand::Path, Operand::Mark]),
+            Opcode::Simple(Simple::NewRegion) => (33, b"NEWREGION", &[]),
+            Opcode::Simple(Simple::NewSubregion) => (34, b"NEWSUB", &[]),
+            Opcode::Typed(Typed::RegionOf) => (35, b"REGIONOF", &[Operand::Type]),
+            Opcode::Typed(Typed::Allocate) => (36, b"RALLOC", &[Operand::Type]),
+            Opcode::Typed(Typed::AllocateArray) => (37, b"RARRAY", &[Operand::Type]),
+            Opcode::Delete => (38, b"DELETE", &[Operand::Pins]),
+            Opcode::Call => (39, b"CALL", &[Operand::Function, Operand::Pins]),
+            Opcode::Simple(Simple::Return) => (40, b"RET", &[]),
+            Opcode::Simple(Simple::PutChar) => (41, b"PUT", &[]),
+            Opcode::Simple(Simple::GetChar) => (42, b"GETC", &[]),
+            Opcode::Jump(Jump::Always) => (43, b"JUMP", &[Operand::Target]),
+            Opcode::Jump(Jump::IfZero) => (44, b"JZ", &[Operand::Target]),
+            Opcode::Jump(Jump::Back) => (45, b"BACK", &[Operand::Target]),
+            Opcode::Simple(Simple::Pop) => (46, b"POP", &[]),
+        }
+    }
+
     /// Its number in the table, at most 46.
     pub fn number(self) -> u8
         ensures { result ≡ number_of self }
     {
-        match self {
-            Opcode::Constant(Signedness::Signed) => 0,
-            Opcode::Constant(Signedness::Unsigned) => 1,
-            Opcode::Global => 4,
-            Opcode::Get => 5,
-            Opcode::Set => 6,
-            Opcode::Load => 31,
-            Opcode::Move => 30,
-            Opcode::Store => 32,
-            Opcode::Delete => 38,
-            Opcode::Call => 39,
-            Opcode::Arithmetic(arithmetic) => arithmetic.number(),
-            Opcode::Typed(typed) => typed.number(),
-            Opcode::Simple(simple) => simple.number(),
-            Opcode::Jump(jump) => jump.number(),
-        }
+        self.row().0
     }
 
     /// Its name in the table.
     pub fn name(self) -> &'static [u8]
         ensures { result.now ≡ name_of self }
     {
-        match self {
-            Opcode::Constant(Signedness::Signed) => b"INT",
-            Opcode::Constant(Signedness::Unsigned) => b"UNS",
-            Opcode::Global => b"GLOBAL",
-            Opcode::Get => b"GET",
-            Opcode::Set => b"SET",
-            Opcode::Load => b"LOAD",
-            Opcode::Move => b"MOVE",
-            Opcode::Store => b"STORE",
-            Opcode::Delete => b"DELETE",
-            Opcode::Call => b"CALL",
-            Opcode::Arithmetic(arithmetic) => arithmetic.name(),
-            Opcode::Typed(typed) => typed.name(),
-            Opcode::Simple(simple) => simple.name(),
-            Opcode::Jump(jump) => jump.name(),
-        }
+        self.row().1
     }
 
     /// What its operands are, in their order.
     pub fn operands(self) -> &'static [Operand]
         ensures { result.now ≡ operands_named self }
     {
-        match self {
-            Opcode::Constant(_) => &[Operand::Value],
-            Opcode::Global => &[Operand::Global],
-            Opcode::Get | Opcode::Set => &[Operand::Local],
-            Opcode::Load => &[Operand::Path],
-            Opcode::Typed(_) => &[Operand::Type],
-            Opcode::Arithmetic(_) => &[Operand::Kind],
-            Opcode::Move => &[Operand::Type, Operand::Kind, Operand::Direction],
-            Opcode::Store => &[Operand::Path, Operand::Mark],
-            Opcode::Simple(_) => &[],
-            Opcode::Delete => &[Operand::Pins],
-            Opcode::Call => &[Operand::Function, Operand::Pins],
-            Opcode::Jump(_) => &[Operand::Target],
-        }
+        self.row().2
     }
 
     /// The row of that number, or none where the number is over 46.

@@ -11,7 +11,7 @@ use Rattle.rc_code.specs.declared.kind.Cell.TheVariants as cell
 use Rattle.rc_code.specs.declared.kind.Storage.{Storage}
 use Rattle.rc_code.specs.declared.kind.Storage.TheVariants as storage
 use Rattle.rc_code.specs.Kinds.{cell_tag, cell_tagged, with_no_type, storage_tag, storage_tagged, with_no_pointee}
-use Rattle.rc_code.specs.Laws.{cell_of_tag, cell_tag_is, storage_of_tag, storage_tag_is}
+use Rattle.rc_code.proofs.Rows.{cell_of_tag, cell_tag_is, storage_of_tag, storage_tag_is}
 use Rattle.rc_code.specs.Image.{IsNumber, kind_number, CellFits, TypeFits, StorageFits, ResultFits}
 use Rattle.std.proofs.lemmas.Bool.{eqb-true}
 use Rattle.rc_fields.specs.Spelling.{number, counted, cell_target, cell_bytes, type_bytes, storage_target, storage_bytes, result_bytes, shift_number}

@@ -18,8 +18,8 @@ use Rattle.rc_code.specs.declared.opcode.Opcode.TheVariants as opcode
 use Rattle.rc_code.specs.declared.instruction.Instruction.{Instruction}
 use Rattle.rc_code.specs.declared.instruction.Instruction.TheVariants as instruction
 use Rattle.std.proofs.lemmas.List.Concat.{flat_map-cons}
-use Rattle.rc_code.specs.Table.{number_of, numbered, arithmetic_number, typed_number, jump_number, simple_number}
-use Rattle.rc_code.specs.Laws.{row_is, number_is}
+use Rattle.rc_code.specs.Table.{number_of, numbered}
+use Rattle.rc_code.proofs.Rows.{row_is, number_is}
 use Rattle.rc_code.specs.Image.{IsNumber, kind_number, direction_number, bit, operands_of, opcode_of, InstructionFits}
 use Rattle.rc_fields.specs.Spelling.{number, numbers, counted}
 use Rattle.rc_image.specs.Spelling.{instruction_bytes}
@@ -184,51 +184,6 @@ operands_again (instruction.Delete pins) rest fits = rw (pins_again pins rest (f
 operands_again (instruction.Call n pins) rest fits = rw (number_head n (length pins ∷ pins) rest fits.operands.0, pins_again pins rest (fits.operands.1.0, fits.operands.1.1)) refl
 
 -- a number of the table is small
-arithmetic_small : (x : Arithmetic) → arithmetic_number x < 4294967296
-arithmetic_small arithmetic.Add = omega arith
-arithmetic_small arithmetic.Subtract = omega arith
-arithmetic_small arithmetic.Multiply = omega arith
-arithmetic_small arithmetic.Divide = omega arith
-arithmetic_small arithmetic.Remainder = omega arith
-arithmetic_small arithmetic.And = omega arith
-arithmetic_small arithmetic.Or = omega arith
-arithmetic_small arithmetic.Xor = omega arith
-arithmetic_small arithmetic.ShiftLeft = omega arith
-arithmetic_small arithmetic.ShiftRight = omega arith
-arithmetic_small arithmetic.Negate = omega arith
-arithmetic_small arithmetic.Complement = omega arith
-arithmetic_small arithmetic.Equal = omega arith
-arithmetic_small arithmetic.Less = omega arith
-arithmetic_small arithmetic.LessEqual = omega arith
-
-typed_small : (x : Typed) → typed_number x < 4294967296
-typed_small typed.Null = omega arith
-typed_small typed.Same = omega arith
-typed_small typed.IsNull = omega arith
-typed_small typed.RegionOf = omega arith
-typed_small typed.Allocate = omega arith
-typed_small typed.AllocateArray = omega arith
-
-jump_small : (x : Jump) → jump_number x < 4294967296
-jump_small jump.Always = omega arith
-jump_small jump.IfZero = omega arith
-jump_small jump.Back = omega arith
-
-simple_small : (x : Simple) → simple_number x < 4294967296
-simple_small simple.NullRegion = omega arith
-simple_small simple.SameRegion = omega arith
-simple_small simple.IsZero = omega arith
-simple_small simple.IsNullRegion = omega arith
-simple_small simple.ToInt = omega arith
-simple_small simple.ToUnsigned = omega arith
-simple_small simple.ToChar = omega arith
-simple_small simple.NewRegion = omega arith
-simple_small simple.NewSubregion = omega arith
-simple_small simple.Return = omega arith
-simple_small simple.PutChar = omega arith
-simple_small simple.GetChar = omega arith
-simple_small simple.Pop = omega arith
-
 number_small : (o : Opcode) → number_of o < 4294967296
 number_small (opcode.Constant Signed) = omega arith
 number_small (opcode.Constant Unsigned) = omega arith
@@ -240,10 +195,43 @@ number_small opcode.Move = omega arith
 number_small opcode.Store = omega arith
 number_small opcode.Delete = omega arith
 number_small opcode.Call = omega arith
-number_small (opcode.Arithmetic x) = arithmetic_small x
-number_small (opcode.Typed x) = typed_small x
-number_small (opcode.Jump x) = jump_small x
-number_small (opcode.Simple x) = simple_small x
+number_small (opcode.Arithmetic arithmetic.Add) = omega arith
+number_small (opcode.Arithmetic arithmetic.Subtract) = omega arith
+number_small (opcode.Arithmetic arithmetic.Multiply) = omega arith
+number_small (opcode.Arithmetic arithmetic.Divide) = omega arith
+number_small (opcode.Arithmetic arithmetic.Remainder) = omega arith
+number_small (opcode.Arithmetic arithmetic.And) = omega arith
+number_small (opcode.Arithmetic arithmetic.Or) = omega arith
+number_small (opcode.Arithmetic arithmetic.Xor) = omega arith
+number_small (opcode.Arithmetic arithmetic.ShiftLeft) = omega arith
+number_small (opcode.Arithmetic arithmetic.ShiftRight) = omega arith
+number_small (opcode.Arithmetic arithmetic.Negate) = omega arith
+number_small (opcode.Arithmetic arithmetic.Complement) = omega arith
+number_small (opcode.Arithmetic arithmetic.Equal) = omega arith
+number_small (opcode.Arithmetic arithmetic.Less) = omega arith
+number_small (opcode.Arithmetic arithmetic.LessEqual) = omega arith
+number_small (opcode.Typed typed.Null) = omega arith
+number_small (opcode.Typed typed.Same) = omega arith
+number_small (opcode.Typed typed.IsNull) = omega arith
+number_small (opcode.Typed typed.RegionOf) = omega arith
+number_small (opcode.Typed typed.Allocate) = omega arith
+number_small (opcode.Typed typed.AllocateArray) = omega arith
+number_small (opcode.Jump jump.Always) = omega arith
+number_small (opcode.Jump jump.IfZero) = omega arith
+number_small (opcode.Jump jump.Back) = omega arith
+number_small (opcode.Simple simple.NullRegion) = omega arith
+number_small (opcode.Simple simple.SameRegion) = omega arith
+number_small (opcode.Simple simple.IsZero) = omega arith
+number_small (opcode.Simple simple.IsNullRegion) = omega arith
+number_small (opcode.Simple simple.ToInt) = omega arith
+number_small (opcode.Simple simple.ToUnsigned) = omega arith
+number_small (opcode.Simple simple.ToChar) = omega arith
+number_small (opcode.Simple simple.NewRegion) = omega arith
+number_small (opcode.Simple simple.NewSubregion) = omega arith
+number_small (opcode.Simple simple.Return) = omega arith
+number_small (opcode.Simple simple.PutChar) = omega arith
+number_small (opcode.Simple simple.GetChar) = omega arith
+number_small (opcode.Simple simple.Pop) = omega arith
 
 instruction_takes : (left n : ℕ) (o : Option Opcode) (bytes rest : List ℕ) (x : Instruction × List ℕ) → IsNumber n → numbered n ≡ o → Takes bytes (number n) rest → instruction_of left o rest ≡ Ok x
     → Takes bytes (instruction_bytes x.0) x.1 × InstructionFits x.0

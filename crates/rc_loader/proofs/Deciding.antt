@@ -18,6 +18,7 @@ use Rattle.rc_code.specs.declared.instruction.Instruction.TheVariants as instruc
 use Rattle.rc_code.specs.declared.image.Function.{Function}
 use Rattle.rc_code.specs.declared.image.Parts.{Parts}
 use Rattle.rc_code.specs.Running.{Reading, reading_of, function_at, path_at, cell_at, layout_of}
+use Rattle.rc_code.proofs.Kinding.{arithmetic_gives, constant_gives}
 use Rattle.rc_code.specs.Soundness.{Kind, takes, gives, result_kinds, count_off, instruction_at, kinds_before, increase, IsPin, ArePins, Names, Operands, Empty, ends}
 use Rattle.rc_loader.specs.declared.fault.Rule.{Rule}
 use Rattle.rc_loader.specs.declared.fault.Rule.TheVariants as rule
@@ -274,6 +275,14 @@ gives_one image f (instruction.Simple row) = by row
     by simple.PutChar = refl
     by simple.GetChar = refl
     by simple.Pop = refl
+gives_one image f (instruction.Constant s n) = ap reverse (constant_gives image f s n) ∙ sym (constant_gives image f s n)
+gives_one image f (instruction.Arithmetic row s) = ap reverse (arithmetic_gives image f row s) ∙ sym (arithmetic_gives image f row s)
+gives_one image f (instruction.Jump row to) = by row
+  where
+    by : (r : Jump) → reverse (gives image f (instruction.Jump r to)) ≡ gives image f (instruction.Jump r to)
+    by jump.Always = refl
+    by jump.IfZero = refl
+    by jump.Back = refl
 gives_one image f i = refl
 
 module _ (parts : Parts) (f : Function) (n : ℕ) (stack : List Operand) (stand : Stand parts f n stack) where

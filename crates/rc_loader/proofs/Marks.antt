@@ -8,9 +8,12 @@ use Rattle.rc_code.specs.declared.instruction.Instruction.{Instruction}
 use Rattle.rc_code.specs.declared.instruction.Instruction.TheVariants as instruction
 use Rattle.rc_code.specs.declared.image.Function.{Function}
 use Rattle.rc_code.specs.declared.image.Parts.{Parts}
-use Rattle.rc_code.specs.Image.{InstructionFits, FunctionFits, FieldsFit}
+use Rattle.rc_code.specs.Image.{InstructionFits, FunctionFits, FieldsFit, opcode_of}
 use Rattle.rc_code.specs.Running.{reading_of, function_at, no_function}
-use Rattle.rc_code.specs.Soundness.{Kind, takes, gives, after, instruction_at, kinds_before, count_off, parameter_kinds, result_kinds, ArePins, Names, Operands, Targets, Empty, IsFine, ends, FunctionIsSound, ReadingIsSound, Sound}
+use Rattle.rc_code.proofs.Kinding.{same_items}
+use Rattle.rc_code.specs.Table.{Item, row}
+use Rattle.rc_code.specs.Table as item
+use Rattle.rc_code.specs.Soundness.{Kind, item_kinds, kinds_on, takes, gives, after, instruction_at, kinds_before, count_off, parameter_kinds, result_kinds, ArePins, Names, Operands, Targets, Empty, IsFine, ends, FunctionIsSound, ReadingIsSound, Sound}
 use Rattle.rc_code.specs.Faithful.{Faithful}
 use Rattle.rc_loader.specs.Unmarked.{unmarked_instruction, unmarked_function, unmarked}
 
@@ -96,18 +99,47 @@ fields_fit parts fits = record {
 -- ---- rules of code
 
 module _ (parts : Parts) (f : Function) where
+  same_item : (x : Item) (i : Instruction) → item_kinds (reading_of (unmarked parts)) (unmarked_function f) x (unmarked_instruction i) ≡ item_kinds (reading_of parts) f x i
+  same_item item.int i = refl
+  same_item item.unsigned i = refl
+  same_item item.number (instruction.Store path proved) = refl
+  same_item item.number i = refl
+  same_item item.region i = refl
+  same_item item.pointer (instruction.Store path proved) = refl
+  same_item item.pointer i = refl
+  same_item item.local (instruction.Store path proved) = refl
+  same_item item.local i = refl
+  same_item item.place (instruction.Store path proved) = refl
+  same_item item.place i = refl
+  same_item item.cell (instruction.Store path proved) = refl
+  same_item item.cell i = refl
+  same_item item.arguments (instruction.Call g pins) = ap (λ (h : Function). reverse (parameter_kinds h)) (function_is parts g)
+  same_item item.arguments i = refl
+  same_item item.result (instruction.Call g pins) = ap (λ (h : Function). result_kinds h.result) (function_is parts g)
+  same_item item.result i = refl
+  same_item item.any (instruction.Store path proved) = refl
+  same_item item.any i = refl
+
+  same_row : (i : Instruction) → opcode_of (unmarked_instruction i) ≡ opcode_of i
+  same_row (instruction.Store path proved) = refl
+  same_row i = refl
+
+  same_kinds_on : (i : Instruction) (items : List Item) → kinds_on (reading_of (unmarked parts)) (unmarked_function f) items (unmarked_instruction i) ≡ kinds_on (reading_of parts) f items i
+  same_kinds_on i items = same_items (reading_of (unmarked parts)) (reading_of parts) (unmarked_function f) f (unmarked_instruction i) i (λ x. same_item x i) items
+
   pub same_takes : (i : Instruction) → takes (reading_of (unmarked parts)) (unmarked_function f) (unmarked_instruction i) ≡ takes (reading_of parts) f i
-  same_takes (instruction.Call g pins) = ap (λ (h : Function). reverse (parameter_kinds h)) (function_is parts g)
-  same_takes i = refl
+  same_takes i =
+      ap (λ o. kinds_on (reading_of (unmarked parts)) (unmarked_function f) (row o).takes (unmarked_instruction i)) (same_row i)
+      ∙ same_kinds_on i (row (opcode_of i)).takes
 
   same_gives : (i : Instruction) → gives (reading_of (unmarked parts)) (unmarked_function f) (unmarked_instruction i) ≡ gives (reading_of parts) f i
-  same_gives (instruction.Call g pins) = ap (λ (h : Function). result_kinds h.result) (function_is parts g)
-  same_gives i = refl
+  same_gives i =
+      ap (λ o. kinds_on (reading_of (unmarked parts)) (unmarked_function f) (row o).gives (unmarked_instruction i)) (same_row i)
+      ∙ same_kinds_on i (row (opcode_of i)).gives
 
   same_count : (i : Instruction) → count_off (reading_of (unmarked parts)) (unmarked_function f) (unmarked_instruction i) ≡ count_off (reading_of parts) f i
-  same_count (instruction.Call g pins) = ap length (same_takes (instruction.Call g pins))
   same_count (instruction.Simple simple.Pop) = refl
-  same_count i = refl
+  same_count i = ap length (same_takes i)
 
   same_after : (i : Instruction) (kinds : List Kind) → after (reading_of (unmarked parts)) (unmarked_function f) (unmarked_instruction i) kinds ≡ after (reading_of parts) f i kinds
   same_after i kinds = ap (λ ks. ks ++ drop (count_off (reading_of (unmarked parts)) (unmarked_function f) (unmarked_instruction i)) kinds) (same_gives i)
@@ -139,8 +171,8 @@ module _ (parts : Parts) (f : Function) where
   names marked i n = n
 
   operands : (i : Instruction) (kinds : List Kind) → Operands (reading_of parts) f i kinds → Operands (reading_of (unmarked parts)) (unmarked_function f) (unmarked_instruction i) kinds
-  operands (instruction.Call g pins) kinds o = (o.0, o.1 ∙ ap (λ ks. ks ++ o.0) (sym (same_takes (instruction.Call g pins))))
-  operands i kinds o = o
+  operands (instruction.Simple simple.Pop) kinds o = o
+  operands i kinds o = (o.0, o.1 ∙ ap (λ ks. ks ++ o.0) (sym (same_takes i)))
 
   empties : (i : Instruction) (kinds : List Kind) → Empty (reading_of parts) f i kinds → Empty (reading_of (unmarked parts)) (unmarked_function f) (unmarked_instruction i) kinds
   empties (instruction.Store path proved) kinds e = e

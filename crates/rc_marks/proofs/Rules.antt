@@ -4,6 +4,7 @@ use Rattle.std.specs.Prelude.{slice_get}
 use Rattle.std.specs.List.{AllByRecursion as Every}
 use Rattle.rc_core.specs.Layout.{note_of, is_plain}
 use Rattle.rc_code.specs.declared.opcode.Jump.TheVariants as jump
+use Rattle.rc_code.specs.declared.opcode.Simple.TheVariants as simple
 use Rattle.rc_code.specs.declared.instruction.Instruction.{Instruction}
 use Rattle.rc_code.specs.declared.instruction.Instruction.TheVariants as instruction
 use Rattle.rc_code.specs.declared.image.Function.{Function}
@@ -38,8 +39,8 @@ module _ (parts : Parts) (f : Function) where
   names i stands n = n
 
   operands : (i : Instruction) (kinds : List Kind) → Operands (reading_of (unmarked parts)) (unmarked_function f) (unmarked_instruction i) kinds → Operands (reading_of parts) f i kinds
-  operands (instruction.Call g pins) kinds o = (o.0, o.1 ∙ ap (λ ks. ks ++ o.0) (same_takes parts f (instruction.Call g pins)))
-  operands i kinds o = o
+  operands (instruction.Simple simple.Pop) kinds o = o
+  operands i kinds o = (o.0, o.1 ∙ ap (λ ks. ks ++ o.0) (same_takes parts f i))
 
   empties : (i : Instruction) (kinds : List Kind) → Empty (reading_of (unmarked parts)) (unmarked_function f) (unmarked_instruction i) kinds → Empty (reading_of parts) f i kinds
   empties (instruction.Store path proved) kinds e = e

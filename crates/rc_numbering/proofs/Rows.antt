@@ -29,10 +29,11 @@ use Rattle.rc_code.specs.declared.image.Function.{Function}
 use Rattle.rc_code.specs.declared.image.Index.{Index}
 use Rattle.rc_code.specs.declared.image.Path.{Path}
 use Rattle.rc_code.specs.Running.{Reading, reading_of, layout_of, cell_kind, pointee, layout_at, function_at, storage_by}
-use Rattle.rc_code.specs.Soundness.{Kind, numbers, pointers, kind_of, shift_kinds, place_kinds, reached_kind, operation_takes, result_sign, parameter_kinds, result_kinds, no_global, global_at, local_in, takes, gives, count_off, after, Operands, Names, is_regional, IsPin, increase, ArePins}
+use Rattle.rc_code.specs.Soundness.{Kind, numbers, pointers, kind_of, shift_kinds, place_kinds, reached_kind, parameter_kinds, result_kinds, no_global, global_at, local_in, takes, gives, count_off, after, Operands, Names, is_regional, IsPin, increase, ArePins}
+use Rattle.rc_code.proofs.Kinding.{arithmetic_gives, arithmetic_takes, constant_gives, constant_takes, operation_takes, result_sign}
 use Rattle.rc_numbering.specs.Tables.{IsIn}
 use Rattle.rc_numbering.specs.Names.{types_of, instruction_names, same_path, path_of, paths_of, index_of, instruction_paths, stack_of}
-use Rattle.rc_numbering.specs.Numbered.{cell_of, storage_of, numbered, function_of, global_of, string_of, type_in, path_in, layouts_in, image_of}
+use Rattle.rc_numbering.specs.Numbered.{word_of, row_of, unary_row, cell_of, storage_of, numbered, function_of, global_of, string_of, type_in, path_in, layouts_in, image_of}
 use Rattle.rc_numbering.specs.Sayable.{cell_for, AccessFits, IsCalled, result_in, Sayable, result_types}
 use Rattle.rc_numbering.proofs.Same.{dropped_pushed}
 use Rattle.rc_numbering.proofs.Tabled.{get_mapped}
@@ -327,7 +328,7 @@ module _ (r : Rlang) (f : Routine) where
   NamedHere i = Named f.locals (length (all_locals f)) i
 
   row : (at : ℕ) (i : From.Instruction) (deleting : ℕ → Bool) → IsTrue (not (is_pop i)) → Sayable r f deleting i → NamedHere i → Every TypeIn (instruction_names i) → Every PathIn (instruction_paths (type_in r) i) → Row at i
-  row at (From.number s n) deleting other said named types paths = record { takes_is = refl; gives_is = ap (λ k. k ∷ []) (sym (K_number s)); count_is = refl; operands = λ ks below e. (below, e); names = tt }
+  row at (From.number s n) deleting other said named types paths = record { takes_is = constant_takes code F s (word_of n); gives_is = constant_gives code F s (word_of n) ∙ ap (λ k. k ∷ []) (sym (K_number s)); count_is = refl; operands = λ ks below e. (below, e); names = tt }
   row at (From.null int) deleting other said named types paths = absurd (cc said.1)
   row at (From.null unsigned) deleting other said named types paths = absurd (cc said.1)
   row at (From.null char) deleting other said named types paths = absurd (cc said.1)
@@ -337,8 +338,8 @@ module _ (r : Rlang) (f : Routine) where
   row at (From.global g) deleting other said named types paths = record { takes_is = refl; gives_is = ap (λ k. pointers k ∷ []) (object_there g said); count_is = refl; operands = λ ks below e. (below, e); names = (let c = objects_count in omega (arith, said, c)) }
   row at (From.get x) deleting other said named types paths = record { takes_is = refl; gives_is = ap (λ k. k ∷ []) (local_there x named); count_is = refl; operands = λ ks below e. (below, e); names = (let c = locals_count in omega (arith, named, c)) }
   row at (From.set x ty) deleting other said named types paths = record { takes_is = ap (λ k. k ∷ []) (local_there x named); gives_is = refl; count_is = refl; operands = λ ks below e. (below, e); names = (let c = locals_count in omega (arith, named, c)) }
-  row at (From.arithmetic o s) deleting other said named types paths = record { takes_is = ap (λ p. operation_takes p s) (row_there o said) ∙ ap (λ k. k ∷ numbers s ∷ []) (right_there (is_shift o) s) ∙ ap (λ k. K (right_kind (is_shift o) s) ∷ k ∷ []) (sym (K_number s)); gives_is = ap (λ p. numbers (result_sign p s) ∷ []) (row_there o said) ∙ ap (λ k. k ∷ []) (result_sign_there (is_comparison o) s); count_is = refl; operands = λ ks below e. (below, e); names = tt }
-  row at (From.unary o s) deleting other said named types paths = record { takes_is = ap (λ p. operation_takes p s) (unary_there o said) ∙ ap (λ k. k ∷ []) (sym (K_number s)); gives_is = ap (λ p. numbers (result_sign p s) ∷ []) (unary_there o said) ∙ ap (λ k. k ∷ []) (sym (K_number s)); count_is = refl; operands = λ ks below e. (below, e); names = tt }
+  row at (From.arithmetic o s) deleting other said named types paths = record { takes_is = arithmetic_takes code F (row_of o) s ∙ ap (λ p. operation_takes p s) (row_there o said) ∙ ap (λ k. k ∷ numbers s ∷ []) (right_there (is_shift o) s) ∙ ap (λ k. K (right_kind (is_shift o) s) ∷ k ∷ []) (sym (K_number s)); gives_is = arithmetic_gives code F (row_of o) s ∙ ap (λ p. numbers (result_sign p s) ∷ []) (row_there o said) ∙ ap (λ k. k ∷ []) (result_sign_there (is_comparison o) s); count_is = refl; operands = λ ks below e. (below, e); names = tt }
+  row at (From.unary o s) deleting other said named types paths = record { takes_is = arithmetic_takes code F (unary_row o) s ∙ ap (λ p. operation_takes p s) (unary_there o said) ∙ ap (λ k. k ∷ []) (sym (K_number s)); gives_is = arithmetic_gives code F (unary_row o) s ∙ ap (λ p. numbers (result_sign p s) ∷ []) (unary_there o said) ∙ ap (λ k. k ∷ []) (sym (K_number s)); count_is = refl; operands = λ ks below e. (below, e); names = tt }
   row at From.zero_test deleting other said named types paths = record { takes_is = refl; gives_is = refl; count_is = refl; operands = λ ks below e. (below, e); names = tt }
   row at (From.null_test int) deleting other said named types paths = absurd (cc said.1)
   row at (From.null_test unsigned) deleting other said named types paths = absurd (cc said.1)

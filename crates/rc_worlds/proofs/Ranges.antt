@@ -12,7 +12,7 @@ use Rattle.rc_core.specs.Typing.{fits, is_comparison, result_if}
 use Rattle.rc_kinds.specs.Suits.{Suits}
 use Rattle.rc_kinds.proofs.InRange.{less_is, byte_fits, converted_fits, calculated_suits, calculated_one_suits, IfOk}
 use Rattle.rc_code.specs.Running.{Operation, two, one, outcome, value_at}
-use Rattle.rc_code.specs.Soundness.{result_sign}
+use Rattle.rc_code.proofs.Kinding.{result_sign}
 
 -- a byte is an int
 pub byte_is_int : (z : ℤ) → IsTrue (fits Int (converted Char z))

@@ -33,7 +33,8 @@ use Rattle.rc_code.specs.declared.image.Global.{Global}
 use Rattle.rc_code.specs.declared.instruction.Instruction.{Instruction}
 use Rattle.rc_code.specs.Running.{Operation, two, one, operation, outcome, operand_count, path_at, function_at, cell_at, storage_of, value_at, kept, width, target_on, count_taken, Next, onward, backward, done, pinned, result_pushed, result_of, given, effect}
 use Rattle.rc_code.specs.StoreModel.{Held}
-use Rattle.rc_code.specs.Soundness.{operation_takes, right_kind, no_global, Kind, numbers, handles, pointers, kind_of, place_kinds, result_sign, local_in, parameter_kinds, result_kinds, takes, gives, count_off, after, instruction_at, kinds_before, ends, IsFine}
+use Rattle.rc_code.specs.Soundness.{no_global, Kind, numbers, handles, pointers, kind_of, place_kinds, local_in, parameter_kinds, result_kinds, takes, gives, count_off, after, instruction_at, kinds_before, ends, IsFine}
+use Rattle.rc_code.proofs.Kinding.{arithmetic_gives, arithmetic_takes, constant_gives, constant_takes, operation_takes, right_kind, result_sign}
 use Rattle.rc_worlds.specs.Worlds.{Compared, watched, trusting, model, naming}
 use Rattle.rc_worlds.specs.Typed.{HasKind, InRange, Keeps, Good, Reaches}
 use Rattle.rc_worlds.specs.Facts.{ImageIsSound}
@@ -140,7 +141,7 @@ module _ (image : Compared) where
         giving i k below is more single off count e st env w (as_kinds w _ st e all) locals (given (watched image) image.code line i env st w) (given (trusting image.name) image.code line i env st (model image.name w)) (each st env w good (as_kinds w _ st e all) locals)
 
     number_acts : (s : Signedness) (n : ℕ) → Acts (instruction.Constant s n)
-    number_acts s n is fine more = let b = fine.operands in record { agrees = gives_by (instruction.Constant s n) (numbers s) refl refl refl is (more refl) b.0 b.1 (λ st env w good all locals. goes_number w s _ good (λ _. converted_fits (type_of s) (pos n))) }
+    number_acts s n is fine more = let b = fine.operands in record { agrees = gives_by (instruction.Constant s n) (numbers s) (constant_gives image.code f s n) refl (sym (ap length (constant_takes image.code f s n))) is (more refl) b.0 b.1 (λ st env w good all locals. goes_number w s _ good (λ _. converted_fits (type_of s) (pos n))) }
 
     null_region_acts : Acts (instruction.Simple simple.NullRegion)
     null_region_acts is fine more = let b = fine.operands in record {
@@ -171,10 +172,13 @@ module _ (image : Compared) where
 
     arithmetic_acts : (row : Arithmetic) (s : Signedness) → Acts (instruction.Arithmetic row s)
     arithmetic_acts row s is fine more = let b = fine.operands in record {
-      agrees = gives_by (instruction.Arithmetic row s) (numbers (result_sign (operation row) s)) refl refl (count (operation row)) is (more refl) b.0 b.1 (λ st env w good all locals.
-          computed_does w (result_sign (operation row) s) line (outcome (operation row) s st) good (λ e. outcome_fits (operation row) s st (operand (operation row) w st b.0 all e)));
+      agrees = gives_by (instruction.Arithmetic row s) (numbers (result_sign (operation row) s)) (arithmetic_gives image.code f row s) refl (count (operation row) ∙ ap length (sym taken)) is (more refl) b.0 b.1 (λ st env w good all locals.
+          computed_does w (result_sign (operation row) s) line (outcome (operation row) s st) good (λ e. outcome_fits (operation row) s st (operand (operation row) w st b.0 (subst (λ kinds. AreKinds image w.heap (kinds ++ b.0) st) taken all) e)));
     }
       where
+        taken : takes image.code f (instruction.Arithmetic row s) ≡ operation_takes (operation row) s
+        taken = arithmetic_takes image.code f row s
+
         count : (o : Operation) → operand_count o ≡ length (operation_takes o s)
         count (two o) = refl
         count (one o) = refl

@@ -13,6 +13,7 @@ use Rattle.rc_code.specs.declared.image.Function.{Function}
 use Rattle.rc_code.specs.declared.instruction.Instruction.{Instruction}
 use Rattle.rc_code.specs.Running.{layout_at, path_at, function_at, pointee, storage_of, chosen_values, run_main}
 use Rattle.rc_code.specs.StoreModel.{stored}
+use Rattle.rc_code.proofs.Kinding.{arithmetic_gives, arithmetic_takes, constant_gives, constant_takes}
 use Rattle.rc_code.specs.Soundness.{Kind, kind_of, place_kinds, takes, gives, count_off, instruction_at, kinds_before, FunctionIsSound, Names, Operands, Targets, Empty}
 use Rattle.rc_worlds.specs.Worlds.{mapped, own, Compared, watched, model, named_cell}
 use Rattle.rc_worlds.specs.Typed.{Good}
@@ -25,7 +26,7 @@ use Rattle.rc_worlds.proofs.Walks.{exact}
 module _ (image : Compared) (same_number : (ty : Ty) → pointee (image.name ty) ≡ image.code.numbered ty) where
   -- the loader's rules of the image are those of the image with the source's layouts
   same_takes : (f : Function) (i : Instruction) → takes (own image).code f i ≡ takes image.code f i
-  same_takes f (instruction.Constant s n) = refl
+  same_takes f (instruction.Constant s n) = constant_takes (own image).code f s n ∙ sym (constant_takes image.code f s n)
   same_takes f (instruction.Global g) = refl
   same_takes f (instruction.Get x) = refl
   same_takes f (instruction.Set x) = refl
@@ -36,7 +37,7 @@ module _ (image : Compared) (same_number : (ty : Ty) → pointee (image.name ty)
   same_takes f (instruction.Typed typed.RegionOf t) = refl
   same_takes f (instruction.Typed typed.Allocate t) = refl
   same_takes f (instruction.Typed typed.AllocateArray t) = refl
-  same_takes f (instruction.Arithmetic row s) = refl
+  same_takes f (instruction.Arithmetic row s) = arithmetic_takes (own image).code f row s ∙ sym (arithmetic_takes image.code f row s)
   same_takes f (instruction.Move t s direction) = refl
   same_takes f (instruction.Store p b) = ap (λ s. kind_of s ∷ reverse (place_kinds (path_at image.code p))) (own_storage image same_number (path_at image.code p))
   same_takes f (instruction.Simple simple.NullRegion) = refl
@@ -59,7 +60,7 @@ module _ (image : Compared) (same_number : (ty : Ty) → pointee (image.name ty)
   same_takes f (instruction.Jump jump.Back to) = refl
 
   same_gives : (f : Function) (i : Instruction) → gives (own image).code f i ≡ gives image.code f i
-  same_gives f (instruction.Constant s n) = refl
+  same_gives f (instruction.Constant s n) = constant_gives (own image).code f s n ∙ sym (constant_gives image.code f s n)
   same_gives f (instruction.Global g) = refl
   same_gives f (instruction.Get x) = refl
   same_gives f (instruction.Set x) = refl
@@ -70,7 +71,7 @@ module _ (image : Compared) (same_number : (ty : Ty) → pointee (image.name ty)
   same_gives f (instruction.Typed typed.RegionOf t) = refl
   same_gives f (instruction.Typed typed.Allocate t) = refl
   same_gives f (instruction.Typed typed.AllocateArray t) = refl
-  same_gives f (instruction.Arithmetic row s) = refl
+  same_gives f (instruction.Arithmetic row s) = arithmetic_gives (own image).code f row s ∙ sym (arithmetic_gives image.code f row s)
   same_gives f (instruction.Move t s direction) = refl
   same_gives f (instruction.Store p b) = refl
   same_gives f (instruction.Simple simple.NullRegion) = refl

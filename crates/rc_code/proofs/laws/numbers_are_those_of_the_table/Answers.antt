@@ -1,4 +1,4 @@
-use Rattle.rc_code.specs.Laws.{row_is, number_is}
+use Rattle.rc_code.proofs.Rows.{row_is, number_is}
 use Rattle.rc_code.proofs.laws.numbers_are_those_of_the_table.Goals as goal
 
 pub returns-clause-row : goal.returns-clause-row

@@ -1,4 +1,4 @@
-use Rattle.rc_code.specs.Laws.{operands_are, operands_alone, made_of}
+use Rattle.rc_code.proofs.Rows.{operands_are, operands_alone, made_of}
 use Rattle.rc_code.proofs.laws.operands_are_those_of_the_table.Goals as goal
 
 pub returns-clause-row : goal.returns-clause-row

@@ -1,4 +1,4 @@
-use Rattle.rc_code.specs.Laws.{cell_of_tag, cell_tag_is}
+use Rattle.rc_code.proofs.Rows.{cell_of_tag, cell_tag_is}
 use Rattle.rc_code.proofs.laws.tags_are_those_of_cells.Goals as goal
 
 pub returns-clause-cell : goal.returns-clause-cell

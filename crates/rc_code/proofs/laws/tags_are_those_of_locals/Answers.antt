@@ -1,4 +1,4 @@
-use Rattle.rc_code.specs.Laws.{storage_of_tag, storage_tag_is}
+use Rattle.rc_code.proofs.Rows.{storage_of_tag, storage_tag_is}
 use Rattle.rc_code.proofs.laws.tags_are_those_of_locals.Goals as goal
 
 pub returns-clause-local : goal.returns-clause-local

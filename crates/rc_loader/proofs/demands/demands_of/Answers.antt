@@ -19,6 +19,18 @@ returns-else-not-has_type c =
       given = ap (λ d. map kind_in (option_to_list d.given)) is ∙ c.given_by_typed-given.ensures (reading_of c.args.parts.now) c.args.function.now;
     })
 
+pub returns-in-Arithmetic : goal.returns-in-Arithmetic
+returns-in-Arithmetic c =
+    let is = c.going_on-in-Arithmetic.ensures in
+    subst (λ i. AreDemands c.args.parts.now c.args.function.now c.args.at i c.going_on-in-Arithmetic.result) (sym c.in-Arithmetic.is) (record {
+      named = refl;
+      leads = ap (λ d. d.leads) is;
+      empties = ap (λ d. d.empties) is;
+      kinds = ap (λ d. reverse (pushed d.taken)) is ∙ c.taken_by_arithmetic.ensures.kinds (reading_of c.args.parts.now) c.args.function.now;
+      any = ap (λ d. is_any d.taken) is ∙ c.taken_by_arithmetic.ensures.any;
+      given = ap (λ d. map kind_in (option_to_list d.given)) is ∙ c.given_by_arithmetic-given.ensures (reading_of c.args.parts.now) c.args.function.now;
+    })
+
 pub returns-else-not-may_be_marked : goal.returns-else-not-may_be_marked
 returns-else-not-may_be_marked c =
     let is = c.going_on-in-Store.ensures in
