@@ -1,6 +1,7 @@
 pub mod Kinds
 pub mod Table
 pub mod Image
+pub mod Reached
 pub mod Running
 pub mod StoreModel
 pub mod Soundness

@@ -4,7 +4,8 @@ use Rattle.std.proofs.lemmas.Bool.{le-ltb, ltb-true, ltb-false, and_parts, eqb-t
 use Rattle.std.proofs.Math.Nat.{div-eq_of_lt, mod-eq_of_lt, div-lt_iff_lt-mul}
 use Rattle.rc_code.specs.declared.image.Index.{Index}
 use Rattle.rc_code.specs.declared.kind.Cell.{Cell}
-use Rattle.rc_code.specs.Image.{is_apart, is_nested, is_reached, are_alike, has_one_kind}
+use Rattle.rc_code.specs.Image.{is_apart, is_nested}
+use Rattle.rc_code.specs.Reached.{is_reached, are_alike, has_one_kind}
 use Rattle.rc_fields.specs.Wide.{is_wide, wide_of}
 
 not_false : (b : Bool) → not b ≡ true → b ≡ false

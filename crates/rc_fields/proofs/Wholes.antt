@@ -12,7 +12,9 @@ use Rattle.rc_code.specs.declared.image.Initial.TheVariants as initial
 use Rattle.rc_code.specs.declared.image.Global.{Global}
 use Rattle.rc_code.specs.declared.image.Index.{Index}
 use Rattle.rc_code.specs.declared.image.Path.{Path}
-use Rattle.rc_code.specs.Image.{IsNumber, kind_number, cell_bound, bound_of, cells_at, InitialFits, GlobalFits, IndexFits, is_nested, span, has_one_kind, PathFits}
+use Rattle.rc_code.specs.Image.{IsNumber, kind_number, cell_bound, bound_of, cells_at, InitialFits, GlobalFits, IndexFits, is_nested, PathFits}
+use Rattle.rc_code.specs.Reached.{span, has_one_kind}
+use Rattle.rc_code.proofs.OneKind.{fits_by_tests, is_tested, span_inside}
 use Rattle.rc_fields.specs.Spelling.{number, counted, initial_bytes, global_bytes, shift_number, index_bytes, path_bytes}
 use Rattle.rc_fields.specs.Reading.{◌>>=◌, short, field, number_at, number_within, counted_at, kind_at, text_at, initial_of, initial_at, global_at, shift_at, index_at, keeps_rules, path_at}
 use Rattle.rc_fields.proofs.Codecs.{IsBytes, no_then, no_else, ok_is, Takes, Takes-then, Law, not_zero, number_law, within_law, takes_then, counted_law}
@@ -157,8 +159,8 @@ path_again types count p rest fits =
     let most : length types ≤ 4294967296 = omega (arith, count) in
     let regrouped : path_bytes p ++ rest ≡ number p.type_number ++ (number (shift_number p.shift) ++ (number p.offset ++ (counted index_bytes p.indices ++ rest))) = simp append_assoc in
     let from = drop p.offset (cells_at types p.type_number) in
-    let inside : ltb (span p.indices) (length from) ≡ true = lt-ltb (span p.indices) (length from) (omega (arith, fits.inside, length-drop p.offset (cells_at types p.type_number))) in
-    let keeps : keeps_rules from p.indices ≡ true = all_three (is_nested p.indices) (ltb (span p.indices) (length from)) (has_one_kind p.indices from) fits.nested inside fits.one_kind in
+    let inside : ltb (span p.indices) (length from) ≡ true = lt-ltb (span p.indices) (length from) (omega (arith, span_inside types p fits, length-drop p.offset (cells_at types p.type_number))) in
+    let keeps : keeps_rules from p.indices ≡ true = all_three (is_nested p.indices) (ltb (span p.indices) (length from)) (has_one_kind p.indices from) fits.nested inside (is_tested types p fits) in
     ap (path_at types) regrouped
     ∙ rw (
       (within_law 0 (length types) most).again p.type_number (number (shift_number p.shift) ++ (number p.offset ++ (counted index_bytes p.indices ++ rest))) (omega arith, fits.type),
@@ -191,15 +193,7 @@ path_law types count = record {
       let t4 = Takes-then bytes (number a.0.0 ++ number (shift_number b.0.0) ++ number c.0.0) c.0.1 (counted index_bytes d.0.0) d.0.1 t3 d.1 in
       subst (λ (y : Path × List ℕ). Takes bytes (path_bytes y.0) y.1 × PathFits types y.0) (ok_is made x g.1) (
         t4,
-        record {
-          type = a.2.1;
-          offset = c.2;
-          count = d.2.0;
-          indices = d.2.1;
-          nested = one.0;
-          inside = omega (arith, inside, length-drop c.0.0 (cells_at types a.0.0));
-          one_kind = two.1;
-        },
+        fits_by_tests types made.0 a.2.1 c.2 d.2.0 d.2.1 one.0 (omega (arith, inside, length-drop c.0.0 (cells_at types a.0.0))) two.1,
       );
   again = λ p rest f. path_again types count p rest f;
 }

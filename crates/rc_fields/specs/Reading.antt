@@ -13,7 +13,8 @@ use Rattle.rc_code.specs.declared.image.Global.{Global}
 use Rattle.rc_code.specs.declared.image.Index.{Index}
 use Rattle.rc_code.specs.declared.image.Path.{Path}
 use Rattle.rc_code.specs.Kinds.{cell_tagged, storage_tagged}
-use Rattle.rc_code.specs.Image.{bound_of, cells_at, is_nested, span, has_one_kind}
+use Rattle.rc_code.specs.Image.{bound_of, cells_at, is_nested}
+use Rattle.rc_code.specs.Reached.{span, has_one_kind}
 use Rattle.rc_fields.specs.declared.stop.Stop.{Stop}
 use Rattle.rc_fields.specs.declared.stop.Stop.TheVariants as stop
 

@@ -1,6 +1,7 @@
 // Paths.
 ghost use Rattle.std.specs.Prelude.{◌≡◌, ◌++◌, nat_lt, true, length, drop, IfOk, OnOk};
-ghost use Rattle.rc_code.specs.Image.{is_apart, is_nested, span, is_reached, is_alike, are_alike, has_one_kind};
+ghost use Rattle.rc_code.specs.Image.{is_apart, is_nested};
+ghost use Rattle.rc_code.specs.Reached.{span, is_reached, is_alike, are_alike, has_one_kind};
 ghost use Rattle.rc_fields.specs.Spelling.{number, counted, shift_number, index_bytes, path_bytes};
 ghost use Rattle.rc_fields.specs.Wide.{is_wide, wide_of};
 ghost use Rattle.rc_fields.specs.Reading.{Gives, many, counted_at, keeps_rules, shift_at, index_at, path_at};

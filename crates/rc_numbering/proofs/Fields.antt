@@ -37,7 +37,9 @@ use Rattle.rc_code.specs.declared.image.Index.{Index}
 use Rattle.rc_code.specs.declared.image.Path.{Path}
 use Rattle.rc_code.specs.declared.image.Function.{Function}
 use Rattle.rc_code.specs.Kinds.{same_cell}
-use Rattle.rc_code.specs.Image.{IsNumber, kind_number, direction_number, InstructionFits, CellFits, TypeFits, StorageFits, ResultFits, cells_at, bound_of, InitialFits, GlobalFits, is_reached, is_alike, are_alike, has_one_kind, PathFits, FunctionFits, FieldsFit}
+use Rattle.rc_code.specs.Image.{IsNumber, kind_number, direction_number, InstructionFits, CellFits, TypeFits, StorageFits, ResultFits, cells_at, bound_of, InitialFits, GlobalFits, PathFits, FunctionFits, FieldsFit}
+use Rattle.rc_code.proofs.OneKind.{fits_by_tests}
+use Rattle.rc_code.specs.Reached.{is_reached, is_alike, are_alike, has_one_kind}
 use Rattle.rc_code.specs.Soundness.{IsPin, increase, IsFine}
 use Rattle.rc_numbering.specs.Tables.{IsIn}
 use Rattle.rc_numbering.specs.Names.{pointed_to, with_pointed, result_names, instruction_names, code_names, types_named, same_path, index_of, path_of, paths_of, instruction_paths, code_paths, stack_of, types_of}
@@ -345,18 +347,11 @@ module _ (r : Rlang) (fit : IsRlang r) (numberable : IsNumberable r) (small : Is
       let i = f.inside in
       let s = few_cells r.structs fit.structs a.element f.defined in
       let long : length (cells_at (image_of r).types (type_in r a.element)) ≡ size r.structs a.element = ap length cs ∙ l in
-      record {
-        type = below a.element there;
-        offset = omega (arith, i, s);
-        count = many;
-        indices = f.indices;
-        nested = f.nested;
-        inside = omega (arith, long, i);
-        one_kind = ap (λ c. has_one_kind (map index_of a.indices) (drop a.offset c)) cs ∙ one_kind_all (map index_of a.indices) (drop a.offset written) (cell.Number Int)
-            (let d = length_dropped written a.offset (omega (arith, l, i)) in omega (arith, d, l, i))
-            (λ n lt e. get_dropped written a.offset n (cell.Number Int) ∙ get_cells (cells r.structs a.element) (a.offset + n) ∙ ap (cell_of (type_in r) (path_in r)) (f.alike n e)
-            ∙ sym (get_dropped written a.offset 0 (cell.Number Int) ∙ (let z : a.offset + 0 ≡ a.offset = omega arith in ap (λ m. get_or written m (cell.Number Int)) z) ∙ get_cells (cells r.structs a.element) a.offset));
-      }
+      fits_by_tests (image_of r).types (path_of (type_in r) a) (below a.element there) (omega (arith, i, s)) many f.indices f.nested (omega (arith, long, i))
+      (ap (λ c. has_one_kind (map index_of a.indices) (drop a.offset c)) cs ∙ one_kind_all (map index_of a.indices) (drop a.offset written) (cell.Number Int)
+        (let d = length_dropped written a.offset (omega (arith, l, i)) in omega (arith, d, l, i))
+        (λ n lt e. get_dropped written a.offset n (cell.Number Int) ∙ get_cells (cells r.structs a.element) (a.offset + n) ∙ ap (cell_of (type_in r) (path_in r)) (f.alike n e)
+        ∙ sym (get_dropped written a.offset 0 (cell.Number Int) ∙ (let z : a.offset + 0 ≡ a.offset = omega arith in ap (λ m. get_or written m (cell.Number Int)) z) ∙ get_cells (cells r.structs a.element) a.offset)))
     where
       written : List Cell
       written = map (cell_of (type_in r) (path_in r)) (cells r.structs a.element)

@@ -17,7 +17,8 @@ use Rattle.rc_emission.specs.StatementCode.{cell_type}
 use Rattle.rc_kinds.proofs.Zips.{slice_below}
 use Rattle.rc_safety.proofs.Lists.{every_append, every_get_or}
 use Rattle.rc_code.specs.declared.image.Index.{Index as ImageIndex}
-use Rattle.rc_code.specs.Image.{IndexFits, is_nested, span, is_reached}
+use Rattle.rc_code.specs.Image.{IndexFits, is_nested}
+use Rattle.rc_code.specs.Reached.{span, is_reached}
 use Rattle.rc_numbering.specs.Names.{index_of}
 use Rattle.rc_numbering.specs.Sayable.{cell_for, cell_in, AccessFits}
 

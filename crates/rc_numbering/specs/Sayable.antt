@@ -22,7 +22,8 @@ use Rattle.rc_emission.specs.StackCode as To
 use Rattle.rc_emission.specs.StatementCode.{cell_type, further}
 use Rattle.rc_stack_rules.specs.LoaderRules.{kinds}
 use Rattle.rc_stack_rules.specs.Loadable.{all_locals}
-use Rattle.rc_code.specs.Image.{IndexFits, is_nested, span, is_reached}
+use Rattle.rc_code.specs.Image.{IndexFits, is_nested}
+use Rattle.rc_code.specs.Reached.{span, is_reached}
 use Rattle.rc_numbering.specs.Names.{index_of}
 
 abbrev pub is_char : Ty → Bool

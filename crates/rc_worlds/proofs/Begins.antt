@@ -21,7 +21,9 @@ use Rattle.rc_code.specs.declared.image.Initial.TheVariants as initial
 use Rattle.rc_code.specs.declared.image.Global.{Global}
 use Rattle.rc_code.specs.declared.image.Path.{Path}
 use Rattle.rc_code.specs.declared.image.Parts.{Parts}
-use Rattle.rc_code.specs.Image.{PathFits, GlobalFits, FunctionFits, FieldsFit, InitialFits, bound_of, cells_at, is_reached, has_one_kind}
+use Rattle.rc_code.specs.Image.{PathFits, GlobalFits, FunctionFits, FieldsFit, InitialFits, bound_of, cells_at}
+use Rattle.rc_code.specs.Reached.{is_reached, has_one_kind}
+use Rattle.rc_code.proofs.OneKind.{is_tested, span_inside}
 use Rattle.rc_code.specs.Running.{pointee, Reading, reading_of, layout_of, cell_kind, layout_at, path_at, function_at, cell_at, no_path, no_function, storage_of, chosen_values}
 use Rattle.rc_code.specs.Soundness.{ReadingIsSound}
 use Rattle.rc_code.specs.ImageMeaning.{first_values, global_object, first_objects, first_held}
@@ -75,14 +77,14 @@ module _ (parts : Parts) (fields : FieldsFit parts) where
     distance = cells_chosen (chosen_values p.indices vs)
 
     far : p.offset + distance < length cells
-    far = let s = inside_span p.indices vs long e in let i = fits.inside in omega (arith, s, i)
+    far = let s = inside_span p.indices vs long e in let i = span_inside parts.types p fits in omega (arith, s, i)
 
     kind_same : get_or (map cell_kind cells) (p.offset + distance) int_cell ≡ get_or (map cell_kind cells) p.offset int_cell
     kind_same =
         let l = length_dropped cells p.offset (omega (arith, far)) in
         let zero_on : p.offset + 0 ≡ p.offset = omega arith in
         sym (get_dropped cells p.offset distance)
-        ∙ one_kind_there p.indices (drop p.offset cells) distance fits.one_kind (omega (arith, l, far)) (is_reached_there p.indices vs fits.indices fits.nested long e)
+        ∙ one_kind_there p.indices (drop p.offset cells) distance (is_tested parts.types p fits) (omega (arith, l, far)) (is_reached_there p.indices vs fits.indices fits.nested long e)
         ∙ get_dropped cells p.offset 0
         ∙ ap (λ m. get_or (map cell_kind cells) m int_cell) zero_on
 

@@ -14,7 +14,8 @@ use Rattle.rc_code.specs.declared.kind.Cell.{Cell}
 use Rattle.rc_code.specs.declared.kind.Cell.TheVariants as cell
 use Rattle.rc_code.specs.declared.image.Index.{Index}
 use Rattle.rc_code.specs.Kinds.{cell_tag, cell_type, same_cell}
-use Rattle.rc_code.specs.Image.{IndexFits, is_apart, is_nested, span, is_reached, is_alike, are_alike}
+use Rattle.rc_code.specs.Image.{IndexFits, is_apart, is_nested}
+use Rattle.rc_code.specs.Reached.{span, is_reached, is_alike, are_alike}
 use Rattle.rc_code.specs.Running.{chosen_values, cell_kind}
 use Rattle.rc_worlds.proofs.WorldOps.{index_is_below}
 

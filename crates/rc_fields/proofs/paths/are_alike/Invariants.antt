@@ -1,5 +1,5 @@
 use Rattle.std.proofs.Common.{◌≡◌, ◌+◌, length}
-use Rattle.rc_code.specs.Image.{are_alike}
+use Rattle.rc_code.specs.Reached.{are_alike}
 use Rattle.rc_fields.proofs.paths.are_alike.Given as goal
 
 abbrev pub invariant-loop-rest : goal.invariant-loop-rest

@@ -1,5 +1,5 @@
 use Rattle.std.proofs.Common.{◌≡◌, nat_lt, length}
-use Rattle.rc_code.specs.Image.{span}
+use Rattle.rc_code.specs.Reached.{span}
 use Rattle.rc_fields.proofs.paths.is_inside.Given as goal
 
 abbrev pub invariant-loop-rest : goal.invariant-loop-rest

@@ -1,5 +1,5 @@
 use Rattle.std.proofs.Common.{◌≡◌, length}
-use Rattle.rc_code.specs.Image.{is_reached}
+use Rattle.rc_code.specs.Reached.{is_reached}
 use Rattle.rc_fields.proofs.paths.is_reached.Given as goal
 
 abbrev pub invariant-loop-rest : goal.invariant-loop-rest

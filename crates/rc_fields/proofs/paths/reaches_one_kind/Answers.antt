@@ -1,5 +1,5 @@
 use Rattle.std.proofs.Common.{◌∙◌, ap}
-use Rattle.rc_code.specs.Image.{has_one_kind}
+use Rattle.rc_code.specs.Reached.{has_one_kind}
 use Rattle.rc_fields.proofs.Narrow.{one_by_wide}
 use Rattle.rc_fields.proofs.paths.reaches_one_kind.Goals as goal
 

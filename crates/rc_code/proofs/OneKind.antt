@@ -1,16 +1,19 @@
--- The test of one kind is the rule.
-use Rattle.std.proofs.Common.{◌≡◌, ◌<◌, ◌≤◌, ℕ, zero, suc, ◌+◌, ◌-◌, ◌*◌, ◌/◌, ◌%◌, Bool, true, false, ◌&&◌, not, cond, ltb, eqb, List, [], ◌∷◌, length, get_or, refl, sym, ap, subst, ◌∙◌, arith}
+-- The tests of what a path reaches are the rules.
+use Rattle.std.proofs.Common.{◌≡◌, ◌↔◌, ◌<◌, ◌≤◌, ℕ, zero, suc, ◌+◌, ◌-◌, ◌*◌, ◌/◌, ◌%◌, Bool, true, false, ◌&&◌, not, cond, ltb, eqb, List, [], ◌∷◌, length, drop, get_or, slice_get, Some, refl, sym, ap, subst, ◌∙◌, arith}
 use Rattle.std.specs.List.{AllByRecursion as Every}
 use Rattle.std.proofs.lemmas.Bool.{eq-eqb, eqb-true, false≢true, ltb-true, lt-ltb}
+use Rattle.std.proofs.lemmas.List.{length-drop, get_or-drop}
 use Rattle.std.proofs.lemmas.Nat.{div-add-mod', div-mul-add, mod-mul-add}
+use Rattle.std.proofs.lemmas.Option.{slice_get-get_or}
 use Rattle.rc_core.specs.declared.ty.NumberType.TheVariants as numbers
 use Rattle.rc_core.specs.declared.ty.Note.TheVariants as note
 use Rattle.rc_code.specs.declared.kind.Cell.{Cell}
 use Rattle.rc_code.specs.declared.kind.Cell.TheVariants as cell
 use Rattle.rc_code.specs.declared.image.Index.{Index}
-use Rattle.rc_code.specs.Image.{IndexFits, are_alike, is_alike, is_apart, is_nested, is_reached, span}
+use Rattle.rc_code.specs.declared.image.Path.{Path}
+use Rattle.rc_code.specs.Image.{IsNumber, IndexFits, PathFits, InRange, reach, is_apart, is_nested, cells_at}
+use Rattle.rc_code.specs.Reached.{are_alike, has_one_kind, is_alike, is_reached, span}
 use Rattle.rc_code.specs.Kinds.{cell_tag, cell_type, same_cell}
-use Rattle.rc_refusals.specs.Kinds.{InRange, OneKindIsOfAll, reach}
 
 both_true : (a b : Bool) → (a && b) ≡ true → (a ≡ true) × (b ≡ true)
 both_true true true e = (refl, refl)
@@ -61,7 +64,7 @@ times_below (suc a) (suc n) s e =
     let y : suc a * s ≡ s + a * s = omega arith in
     omega (arith, h, x, y)
 
-below_span : (is : List Index) (ns : List ℕ) → InRange is ns → reach is ns ≤ span is
+pub below_span : (is : List Index) (ns : List ℕ) → InRange is ns → reach is ns ≤ span is
 below_span [] [] within = omega arith
 below_span [] (n ∷ ns) within = absurd within
 below_span (i ∷ is) [] within = absurd within
@@ -163,7 +166,8 @@ alike_all first is k (c ∷ cells) same =
     here true there is_first = ap (λ x. cond (same_cell x first) true (not (is_reached k is))) (is_first refl) ∙ ap (λ s. cond s true (not (is_reached k is))) (same_itself first)
     here false there is_first = ap (λ r. cond (same_cell c first) true (not r)) there ∙ always (same_cell c first)
 
-pub one_kind : OneKindIsOfAll
+pub one_kind : (indices : List Index) (first : Cell) (cells : List Cell) → Every IndexFits indices → is_nested indices ≡ true → span indices < length (first ∷ cells)
+    → (has_one_kind indices (first ∷ cells) ≡ true) ↔ ((ns : List ℕ) → InRange indices ns → get_or (first ∷ cells) (reach indices ns) first ≡ first)
 one_kind indices first cells fits nested inside = (
   λ e ns within.
       let far : reach indices ns < length (first ∷ cells) = omega (arith, below_span indices ns within, inside) in
@@ -174,3 +178,85 @@ one_kind indices first cells fits nested inside = (
       let found = leads indices n (ap (λ d. is_reached d indices) (sym at) ∙ reached) in
       subst (λ d. get_or (first ∷ cells) d first ≡ first) found.there (all found.ns found.within))),
 )
+
+-- ---- the rules of a path
+
+-- the greatest numbers in range lead furthest
+abbrev furthest : List Index → List ℕ
+furthest [] = []
+furthest (i ∷ is) = (i.length - 1) ∷ furthest is
+
+furthest_within : (is : List Index) → Every IndexFits is → InRange is (furthest is)
+furthest_within [] fits = tt
+furthest_within (i ∷ is) fits = (let some = fits.0.some in omega (arith, some), furthest_within is fits.1)
+
+furthest_there : (is : List Index) → reach is (furthest is) ≡ span is
+furthest_there [] = refl
+furthest_there (i ∷ is) = ap (λ n. (i.length - 1) * i.stride + n) (furthest_there is)
+
+module _ (cells : List Cell) (offset : ℕ) (indices : List Index) (fits : Every IndexFits indices) (nested : is_nested indices ≡ true) (inside : offset + span indices < length cells) where
+  -- the cell so far behind the first
+  found : (first : Cell) (n : ℕ) → offset + n < length cells → slice_get cells (offset + n) ≡ Some (get_or (drop offset cells) n first)
+  found first n below = slice_get-get_or cells (offset + n) first below ∙ ap Some (sym (get_or-drop offset cells n first))
+
+  first_found : (first : Cell) → slice_get cells offset ≡ Some (get_or (drop offset cells) 0 first)
+  first_found first = let z : offset + 0 ≡ offset = omega arith in ap (slice_get cells) (sym z) ∙ found first 0 (omega (arith, inside, z))
+
+  some_left : offset + length (drop offset cells) ≡ length cells
+  some_left = let l = length-drop offset cells in omega (arith, l, inside)
+
+  all_by_test : has_one_kind indices (drop offset cells) ≡ true → (ns : List ℕ) → InRange indices ns → slice_get cells (offset + reach indices ns) ≡ slice_get cells offset
+  all_by_test e ns within = by (drop offset cells) refl e
+    where
+      by : (from : List Cell) → drop offset cells ≡ from → has_one_kind indices from ≡ true → slice_get cells (offset + reach indices ns) ≡ slice_get cells offset
+      by [] same e = absurd (false≢true e)
+      by (first ∷ rest) same e =
+          let far = below_span indices ns within in
+          let long = ap length same in
+          let left = some_left in
+          let one = (one_kind indices first rest fits nested (omega (arith, long, left, inside))).0 e ns within in
+          found first (reach indices ns) (omega (arith, far, inside))
+          ∙ ap (λ from. Some (get_or from (reach indices ns) first)) same
+          ∙ ap Some one
+          ∙ sym (first_found first ∙ ap (λ from. Some (get_or from 0 first)) same)
+
+  test_by_all : ((ns : List ℕ) → InRange indices ns → slice_get cells (offset + reach indices ns) ≡ slice_get cells offset) → has_one_kind indices (drop offset cells) ≡ true
+  test_by_all all = by (drop offset cells) refl
+    where
+      by : (from : List Cell) → drop offset cells ≡ from → has_one_kind indices from ≡ true
+      by [] same = absurd (let long = ap length same in let left = some_left in omega (arith, long, left, inside))
+      by (first ∷ rest) same =
+          let long = ap length same in
+          let left = some_left in
+          (one_kind indices first rest fits nested (omega (arith, long, left, inside))).1 (λ ns within.
+          let far = below_span indices ns within in
+          let e : Some (get_or (first ∷ rest) (reach indices ns) first) ≡ Some first =
+          ap (λ from. Some (get_or from (reach indices ns) first)) (sym same)
+          ∙ sym (found first (reach indices ns) (omega (arith, far, inside)))
+          ∙ all ns within
+          ∙ first_found first
+          ∙ ap (λ from. Some (get_or from 0 first)) same in
+          cc e)
+
+module _ (types : List (List Cell)) (p : Path) where
+  pub span_inside : PathFits types p → p.offset + span p.indices < length (cells_at types p.type_number)
+  span_inside fits =
+      let far = fits.inside (furthest p.indices) (furthest_within p.indices fits.indices) in
+      let there = furthest_there p.indices in
+      omega (arith, far, there)
+
+  pub is_tested : PathFits types p → has_one_kind p.indices (drop p.offset (cells_at types p.type_number)) ≡ true
+  is_tested fits = test_by_all (cells_at types p.type_number) p.offset p.indices fits.indices fits.nested (span_inside fits) fits.one_kind
+
+  -- a path that passes the tests keeps the rules
+  pub fits_by_tests : p.type_number < length types → IsNumber p.offset → IsNumber (length p.indices) → Every IndexFits p.indices → is_nested p.indices ≡ true
+      → p.offset + span p.indices < length (cells_at types p.type_number) → has_one_kind p.indices (drop p.offset (cells_at types p.type_number)) ≡ true → PathFits types p
+  fits_by_tests type offset count indices nested inside one = record {
+    type = type;
+    offset = offset;
+    count = count;
+    indices = indices;
+    nested = nested;
+    inside = λ ns within. let far = below_span p.indices ns within in omega (arith, far, inside);
+    one_kind = all_by_test (cells_at types p.type_number) p.offset p.indices indices nested inside one;
+  }
