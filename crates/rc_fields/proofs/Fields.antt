@@ -15,7 +15,7 @@ use Rattle.rc_code.proofs.Rows.{cell_of_tag, cell_tag_is, storage_of_tag, storag
 use Rattle.rc_code.specs.Image.{IsNumber, kind_number, CellFits, TypeFits, StorageFits, ResultFits}
 use Rattle.std.proofs.lemmas.Bool.{eqb-true}
 use Rattle.rc_fields.specs.Spelling.{number, counted, cell_target, cell_bytes, type_bytes, storage_target, storage_bytes, result_bytes, shift_number}
-use Rattle.rc_fields.specs.Reading.{◌>>=◌, Read, number_at, number_within, many, kind_of, kind_at, cell_of, cell_at, type_at, types_at, shift_of, shift_at, storage_of, storage_at, result_at}
+use Rattle.rc_fields.specs.Reading.{◌>>=◌, Read, number_at, number_within, many, kind_numbered, kind_at, cell_of, cell_at, type_at, types_at, shift_of, shift_at, storage_of, storage_at, result_at}
 use Rattle.rc_fields.proofs.Codecs.{IsBytes, bind_ok, chosen, ok_is, Takes, Takes-then, Takes-nothing, Law, number_law, within_law, takes_then, many_law}
 
 abbrev pub Anything : {A : Type 0} → A → Type 0
@@ -39,12 +39,12 @@ pub pick_again : {A : Type 0} (pick : (left n : ℕ) → List ℕ → Read A) (c
     → (number_at (number (code a) ++ rest) >>= λ n. pick left n.0 n.1) ≡ Ok (a, rest)
 pick_again pick code picks left a rest = rw (number_law.again (code a) rest (picks.small a)) (picks.again left a rest)
 
-kind_is : (left n : ℕ) (rest : List ℕ) (x : Signedness × List ℕ) → kind_of left n rest ≡ Ok x → (n ≡ kind_number x.0) × (rest ≡ x.1)
+kind_is : (left n : ℕ) (rest : List ℕ) (x : Signedness × List ℕ) → kind_numbered left n rest ≡ Ok x → (n ≡ kind_number x.0) × (rest ≡ x.1)
 kind_is left zero rest x e = let s = ok_is (Signed, rest) x e in (ap (λ (y : Signedness × List ℕ). kind_number y.0) s, ap (λ (y : Signedness × List ℕ). y.1) s)
 kind_is left (suc zero) rest x e = let s = ok_is (Unsigned, rest) x e in (ap (λ (y : Signedness × List ℕ). kind_number y.0) s, ap (λ (y : Signedness × List ℕ). y.1) s)
 kind_is left (suc (suc n)) rest x e = absurd cc
 
-kind_again : (left : ℕ) (a : Signedness) (rest : List ℕ) → kind_of left (kind_number a) rest ≡ Ok (a, rest)
+kind_again : (left : ℕ) (a : Signedness) (rest : List ℕ) → kind_numbered left (kind_number a) rest ≡ Ok (a, rest)
 kind_again left Signed rest = refl
 kind_again left Unsigned rest = refl
 
@@ -52,14 +52,14 @@ pub kind_small : (a : Signedness) → kind_number a < 4294967296
 kind_small Signed = omega arith
 kind_small Unsigned = omega arith
 
-kind_picks : Picks kind_of kind_number
+kind_picks : Picks kind_numbered kind_number
 kind_picks = record { is = kind_is; again = kind_again; small = kind_small }
 
 pub kind_law : Law kind_at (λ k. number (kind_number k)) Anything
 unfolding kind_at
 kind_law = record {
-  takes = λ bytes x fits e. pick_takes kind_of kind_number kind_picks bytes x fits e;
-  again = λ a rest f. pick_again kind_of kind_number kind_picks (length (number (kind_number a) ++ rest)) a rest;
+  takes = λ bytes x fits e. pick_takes kind_numbered kind_number kind_picks bytes x fits e;
+  again = λ a rest f. pick_again kind_numbered kind_number kind_picks (length (number (kind_number a) ++ rest)) a rest;
 }
 
 shift_is : (left n : ℕ) (rest : List ℕ) (x : Option Signedness × List ℕ) → shift_of left n rest ≡ Ok x → (n ≡ shift_number x.0) × (rest ≡ x.1)

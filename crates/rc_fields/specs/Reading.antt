@@ -74,13 +74,13 @@ many item (suc n) bytes = item bytes >>= λ first. many item n first.1 >>= λ ot
 unfoldable pub counted_at : {A : Type 0} → (List ℕ → Read A) → List ℕ → Read (List A)
 counted_at item bytes = number_at bytes >>= λ count. many item count.0 count.1
 
-abbrev pub kind_of : (left : ℕ) → ℕ → List ℕ → Read Signedness
-kind_of left zero rest = Ok (Signed, rest)
-kind_of left (suc zero) rest = Ok (Unsigned, rest)
-kind_of left (suc (suc n)) rest = Err (field left)
+abbrev pub kind_numbered : (left : ℕ) → ℕ → List ℕ → Read Signedness
+kind_numbered left zero rest = Ok (Signed, rest)
+kind_numbered left (suc zero) rest = Ok (Unsigned, rest)
+kind_numbered left (suc (suc n)) rest = Err (field left)
 
 unfoldable pub kind_at : List ℕ → Read Signedness
-kind_at bytes = number_at bytes >>= λ n. kind_of (length bytes) n.0 n.1
+kind_at bytes = number_at bytes >>= λ n. kind_numbered (length bytes) n.0 n.1
 
 -- ---- types
 

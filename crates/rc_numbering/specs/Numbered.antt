@@ -43,7 +43,7 @@ use Rattle.rc_numbering.specs.Names.{types_of, same_path, path_of, paths_of, sta
 abbrev pub word_of : ℤ → ℕ
 word_of n = unsigned_abs (wrapped n)
 
--- the rows of operators that stack code has; it has the other comparisons by their opposites, and no unary plus
+-- the rows of operators; stack code has the other comparisons by their opposites, and no unary plus (`has_row`, `has_unary_row` of Sayable)
 abbrev pub row_of : Operator → Arithmetic
 row_of operator.Multiply = arithmetic.Multiply
 row_of operator.Divide = arithmetic.Divide
@@ -53,19 +53,21 @@ row_of operator.Subtract = arithmetic.Subtract
 row_of operator.ShiftLeft = arithmetic.ShiftLeft
 row_of operator.ShiftRight = arithmetic.ShiftRight
 row_of operator.Less = arithmetic.Less
-row_of operator.Greater = arithmetic.LessEqual
 row_of operator.LessEqual = arithmetic.LessEqual
-row_of operator.GreaterEqual = arithmetic.Less
 row_of operator.Equal = arithmetic.Equal
-row_of operator.NotEqual = arithmetic.Equal
 row_of operator.And = arithmetic.And
 row_of operator.Xor = arithmetic.Xor
 row_of operator.Or = arithmetic.Or
+-- these never come, and what stands for them counts nowhere
+row_of operator.Greater = arithmetic.LessEqual
+row_of operator.GreaterEqual = arithmetic.Less
+row_of operator.NotEqual = arithmetic.Equal
 
 abbrev pub unary_row : UnaryOperator → Arithmetic
 unary_row unary.Negate = arithmetic.Negate
-unary_row unary.Plus = arithmetic.Negate
 unary_row unary.Complement = arithmetic.Complement
+-- nor does this
+unary_row unary.Plus = arithmetic.Negate
 
 abbrev pub conversion : NumberType → Simple
 conversion Int = simple.ToInt

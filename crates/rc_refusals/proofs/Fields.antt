@@ -10,15 +10,15 @@ use Rattle.rc_code.specs.declared.image.Initial.{Initial}
 use Rattle.rc_code.specs.declared.image.Initial.TheVariants as initial
 use Rattle.rc_code.specs.Image.{bound_of, cells_at}
 use Rattle.rc_code.specs.Kinds.{cell_tagged, storage_tagged}
-use Rattle.rc_fields.specs.Reading.{◌>>=◌, field, short, number_within, kind_of, kind_at, cell_of, cell_at, type_at, types_at, text_at, initial_of, initial_at, global_at, shift_of, shift_at, index_at, path_at, storage_of, storage_at, result_at}
+use Rattle.rc_fields.specs.Reading.{◌>>=◌, field, short, number_within, kind_numbered, kind_at, cell_of, cell_at, type_at, types_at, text_at, initial_of, initial_at, global_at, shift_of, shift_at, index_at, path_at, storage_of, storage_at, result_at}
 use Rattle.rc_refusals.proofs.Steady.{Grows, Steady, guard_else, ok, then, number_steady, within_steady, many_steady, counted_steady, picked}
 
 module _ (more : List ℕ) where
   pub kind_steady : Steady more kind_at
   unfolding kind_at
-  kind_steady = picked more kind_of pick
+  kind_steady = picked more kind_numbered pick
     where
-      pick : (left n : ℕ) (rest : List ℕ) → Grows more (kind_of left n rest) (kind_of (left + length more) n (rest ++ more))
+      pick : (left n : ℕ) (rest : List ℕ) → Grows more (kind_numbered left n rest) (kind_numbered (left + length more) n (rest ++ more))
       pick left zero rest = (record { is = refl })
       pick left (suc zero) rest = (record { is = refl })
       pick left (suc (suc n)) rest = (record { is = refl })
