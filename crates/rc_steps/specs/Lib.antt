@@ -2,5 +2,5 @@ pub mod Places
 pub mod Stands
 pub mod Leads
 pub mod Ready
-pub mod Follows
 pub mod ShortForms
+pub mod Follows
