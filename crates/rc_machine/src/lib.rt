@@ -1,6 +1,10 @@
-//! The machine: loaded images run exactly as they mean. `specs/Stepping` says what one instruction does,
-//! `specs/Coming` how far a machine has come and where it left, `specs/Runs` what a run comes to from
-//! where a machine stands, and `specs/Image` what the run of an image does.
+//! The machine: loaded images run exactly as they mean.
+//!
+//! What `run` promises is `RunsImage` of `specs/Image`. It says what was done outside by `Acted`, `ReadFailed`
+//! and `WriteFailed` of `specs/Stepping`, and what a front of acts is by `specs/Fronts`. Nothing else needs to
+//! be read: `GoesOn` and the rest of `specs/Stepping` are what one instruction does, `specs/Coming` how far a
+//! machine has come in its loop and where it left, and `specs/Runs` what a run comes to from where it stands,
+//! but for `stop_of` and `IfExits`. The functions of the loop promise these to one another.
 //!
 //! Runs that are cut short: a machine that has come somewhere in the run of an image has done a front of
 //! the acts that the image means, and where `main` gives a value nothing is pinned (`specs/Fronts`).
