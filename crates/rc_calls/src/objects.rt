@@ -1,5 +1,5 @@
 // Objects and pointers.
-ghost use Rattle.std.specs.Prelude.{◌≡◌, ◌≤◌, ◌<◌, ◌+◌, ℕ, false, true, length, pos, suc, unsigned_abs, IsTrue, MatchOption};
+ghost use Rattle.std.specs.Prelude.{int_le, ◌≡◌, ◌≤◌, ◌<◌, ◌+◌, ℕ, false, true, length, pos, suc, unsigned_abs, IsTrue, MatchOption};
 ghost use Rattle.rc_core.specs.Evaluation.{toward};
 ghost use Rattle.rc_core.specs.Shapes.{kinds_in};
 ghost use Rattle.rc_core.specs.Source.{is_index};
@@ -67,6 +67,16 @@ struct Wanted {
     count: i64,
 }
 
+/// How many elements that are, which isn't negative.
+#[inline(always)]
+fn elements(count: i64) -> u32
+    requires fits { IsTrue (fits Int count) }
+    requires there { int_le (pos 0) count ≡ true }
+    ensures { result ≡ unsigned_abs count }
+{
+    count as u32
+}
+
 /// Makes an object in a live region, and puts its address on the stack.
 #[inline(always)]
 fn make<H: Heap>(
@@ -91,7 +101,7 @@ fn make<H: Heap>(
         return Some(Exit::Trapped(Trap::Size));
     }
     let layout = layout_of(setting, wanted.type_number);
-    match heap.allocate(wanted.region, layout, wanted.count as u32) {
+    match heap.allocate(wanted.region, layout, elements(wanted.count)) {
         Ok(object) => {
             let pointer = Pointer {
                 region: wanted.region,
