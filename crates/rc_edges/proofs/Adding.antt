@@ -13,7 +13,8 @@ use Rattle.rc_facts.proofs.Sets.{same_fact-true}
 use Rattle.rc_rlang.specs.RegionFlow.{Effect, nothing, nulled, moved, fixed, beside, made, under, loaded, looked_at, stored, present, absent, called, entered}
 use Rattle.rc_annotations.specs.Annotations.{Facts, Annotation, by_note, of_null, some_pair, gained, is_place, place_in, some_below, pair_fact, exit_facts}
 use Rattle.rc_edges.specs.Edges.{all_below, pairs_below, EffectBelow, AreNews}
-use Rattle.rc_edges.specs.News.{in_each, null_news, note_news, pair_news, fact_if, row_news, rows_news, places_of, news_of}
+use Rattle.rc_facts.specs.Null.{in_each, null_news}
+use Rattle.rc_edges.specs.News.{note_news, pair_news, fact_if, row_news, rows_news, places_of, news_of}
 use Rattle.rc_edges.proofs.Renaming.{same_self}
 
 same_swap : (p q : Fact) → same_fact p q ≡ true → same_fact q p ≡ true

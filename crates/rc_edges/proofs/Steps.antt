@@ -244,7 +244,7 @@ module _ (r : Rlang) (is : IsRlang r) where
               let lt = slice_get_within (routine_nodes f) p node at in
               let long = (s.shaped.each g f there).points in
               and_from (is_over (length arguments) fact) (set_at (get_or m.points g []) p (fact_with (λ v. get_or arguments v 0) fact)) (below_over (length arguments) fact own)
-              (s.shut g f there p (omega (arith, lt, long)) (fact_with (λ v. get_or arguments v 0) fact) (unnamed (spare f (heights g)) (fact_with (λ v. get_or arguments v 0) fact) named)
+              ((s.shut g f there p (omega (arith, lt, long))).shut (fact_with (λ v. get_or arguments v 0) fact) (unnamed (spare f (heights g)) (fact_with (λ v. get_or arguments v 0) fact) named)
               ((keeps m s b c).calls p edge x h arguments fact one is_call named has))
 
     -- its exit loses what its returns don't give, or some of them
@@ -319,9 +319,12 @@ module _ (r : Rlang) (is : IsRlang r) where
           entry = λ g fact has. at_entries b c g fact has (slice_get r.functions g) refl;
           exit = λ g fact has. at_exits b c g fact has (slice_get r.functions g) refl;
         });
-    shut = λ g f th p lt fact apart d. (
-        u.points g f p fact th lt ∙ and_from (is_over (kept f (heights g)) fact) (not (names (spare f (heights g)) fact))
-        (derivable_over (λ q k. (and_parts (is_over (kept f (heights g)) q) (not (names (spare f (heights g)) q)) (sym (u.points g f p q th lt) ∙ k)).0) d) (truly (names (spare f (heights g)) fact) apart));
+    shut = λ g f th p lt. record {
+      shut = λ fact apart d. (
+          u.points g f p fact th lt ∙ and_from (is_over (kept f (heights g)) fact) (not (names (spare f (heights g)) fact))
+          (derivable_over (λ q k. (and_parts (is_over (kept f (heights g)) q) (not (names (spare f (heights g)) q)) (sym (u.points g f p q th lt) ∙ k)).0) d) (truly (names (spare f (heights g)) fact) apart));
+      clean = λ fact has. falsely (names (spare f (heights g)) fact) (and_parts (is_over (kept f (heights g)) fact) (not (names (spare f (heights g)) fact)) (sym (u.points g f p fact th lt) ∙ has)).1;
+    };
   }
     where
       truly : (b : Bool) → b ≡ false → not b ≡ true

@@ -5,16 +5,9 @@ use Rattle.rc_core.specs.declared.ty.Note.{Note}
 use Rattle.rc_core.specs.declared.ty.Note.TheVariants.{Plain, SameRegion, ParentPtr, Traditional}
 use Rattle.rc_facts.specs.declared.fact.Fact.{Fact}
 use Rattle.rc_facts.specs.declared.fact.Fact.TheVariants.{In, Up, Trad, NonNull}
+use Rattle.rc_facts.specs.Null.{null_news}
 use Rattle.rc_rlang.specs.RegionFlow.{Effect, nothing, nulled, moved, fixed, beside, made, under, loaded, looked_at, stored, present, absent, called, entered}
 use Rattle.rc_annotations.specs.Annotations.{Facts}
-
--- in every variable's region, from the last to the first
-abbrev pub in_each : ℕ → (x : ℕ) → List Fact
-in_each zero x = []
-in_each (suc k) x = In x k ∷ in_each k x
-
-abbrev pub null_news : ℕ → (x : ℕ) → List Fact
-null_news n x = Trad x ∷ in_each n x
 
 abbrev pub note_news : Note → (value holder : ℕ) → List Fact
 note_news Plain value holder = []

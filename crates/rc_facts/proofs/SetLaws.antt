@@ -1,5 +1,5 @@
 -- What an operation on the fields of a set of facts does to the set.
-use Rattle.std.proofs.Common.{◌≡◌, ◌∙◌, inl, inr, ◌↔◌, subst, ◌<◌, ◌≤◌, ℕ, Bool, true, false, not, ◌||◌, ◌&&◌, ◌==◌, nat_lt, cond, List, length, replicate, MatchBool, IsTrue, refl, sym, ap}
+use Rattle.std.proofs.Common.{◌≡◌, ◌≢◌, ◌∙◌, inl, inr, ◌↔◌, subst, ◌<◌, ◌≤◌, ℕ, Bool, true, false, not, ◌||◌, ◌&&◌, ◌==◌, nat_lt, cond, List, length, replicate, MatchBool, IsTrue, refl, sym, ap}
 use Rattle.std.proofs.lemmas.List.{length-replicate, get_or-replicate}
 use Rattle.std.proofs.lemmas.Bool.{MatchBool-at_true, cases_lt, cases_eq, ne_eqb, or_cases, and_parts, and_from, both_ways, lt-ltb, le-ltb}
 use Rattle.rc_facts.specs.declared.fact.Fact.{Fact}
@@ -11,6 +11,8 @@ use Rattle.rc_base.specs.BitSets.{marks}
 use Rattle.rc_facts.specs.Rows.{links, TellsExcess, TellsLost}
 use Rattle.rc_facts.proofs.RowLoops.{links_beyond}
 use Rattle.rc_facts.proofs.RowLaws.{and_never, eq_swap}
+use Rattle.rc_facts.specs.Shut.{Placed, extended, IsBehind, IsClean, IsShut}
+use Rattle.rc_facts.proofs.Fresh.{extended_over}
 use Rattle.rc_facts.proofs.Sets.{holds_known, same_fact-true, all_over, and_implied, filter-lt}
 
 -- a set holds what its fields have
@@ -140,11 +142,29 @@ module _ {f g : Fields} {old : Known} (turns : Turns f g old) where
       let count : old.variables ≡ length f.within = sym (ap (λ known. known.variables) turns.is) in
       by_rule (λ test fact. test (with_replaced to from fact)) has (λ fact there. replaced_over (length f.within) from to (rw count at below) fact (turns.sound.over (with_replaced to from fact) there))
 
+  pub placed_set : (x : ℕ) (p : Placed) → x < old.variables → ((y : ℕ) → p.row_in y ≡ true → y < old.variables) → ((y : ℕ) → p.row_up y ≡ true → y < old.variables) → ((y : ℕ) → p.into_in y ≡ true → y < old.variables) → ((y : ℕ) → p.into_up y ≡ true → y < old.variables) → Has g (extended x p (test_of f)) → IsSound g × ((fact : Fact) → holds (known_of g) fact ≡ extended x p (holds old) fact)
+  placed_set x p below row_in row_up into_in into_up has =
+      let count : old.variables ≡ length f.within = sym (ap (λ known. known.variables) turns.is) in
+      by_rule (λ test fact. extended x p test fact) has (extended_over (length f.within) x (test_of f) p (rw count at below) turns.sound.over (rw count at row_in) (rw count at row_up) (rw count at into_in) (rw count at into_up))
+
   pub derived : IsSound g → ((fact : Fact) → IsTrue (test_of g fact) ↔ Derivable (length f.within) (test_of f) fact) → (fact : Fact) → IsTrue (holds (known_of g) fact) ↔ Derivable old.variables (holds old) fact
   derived sound tests fact =
       let told = holds_of g sound fact in
       let same : Derivable (length f.within) (test_of f) fact ≡ Derivable old.variables (holds old) fact = λ i. Derivable (turns.is i).variables (old_is i) fact in
       (λ there. subst (λ (A : Type 0). A) same ((tests fact).0 (sym told ∙ there)), λ follows. told ∙ (tests fact).1 (subst (λ (A : Type 0). A) (sym same) follows))
+
+  -- what a fact that is added to a closed set leaves
+  pub gained_at : (news : List Fact) (s : ℕ) → IsSound g → (IsShut (length f.within) s (test_of f) → IsClean s (test_of f) → (fact : Fact) → IsTrue (test_of g fact) ↔ IsBehind (length f.within) s (test_of f) news fact) → IsShut old.variables s (holds old) → IsClean s (holds old) → (fact : Fact) → IsTrue (holds (known_of g) fact) ↔ IsBehind old.variables s (holds old) news fact
+  gained_at news s sound tests shut clean fact =
+      let told = holds_of g sound fact in
+      let same : IsBehind (length f.within) s (test_of f) news fact ≡ IsBehind old.variables s (holds old) news fact = λ i. IsBehind (turns.is i).variables s (old_is i) news fact in
+      let shut_rows : IsShut (length f.within) s (test_of f) = subst (λ (A : Type 0). A) (λ i. IsShut (sym turns.is i).variables s (sym old_is i)) shut in
+      let clean_rows : IsClean s (test_of f) = subst (λ (A : Type 0). A) (λ i. IsClean s (sym old_is i)) clean in
+      let closes = tests shut_rows clean_rows fact in
+      (λ there. subst (λ (A : Type 0). A) same (closes.0 (sym told ∙ there)), λ follows. told ∙ closes.1 (subst (λ (A : Type 0). A) (sym same) follows))
+
+  pub gained : (news : List Fact) (v : ℕ) → IsSound g → ((s : ℕ) → s ≢ v → IsShut (length f.within) s (test_of f) → IsClean s (test_of f) → (fact : Fact) → IsTrue (test_of g fact) ↔ IsBehind (length f.within) s (test_of f) news fact) → (s : ℕ) → s ≢ v → IsShut old.variables s (holds old) → IsClean s (holds old) → (fact : Fact) → IsTrue (holds (known_of g) fact) ↔ IsBehind old.variables s (holds old) news fact
+  gained news v sound tests s apart = gained_at news s sound (tests s apart)
 
   -- what meeting the set of other fields drops
   module _ (other : Fields) (has : Has g (λ fact. test_of f fact && test_of other fact)) where

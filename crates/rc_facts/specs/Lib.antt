@@ -1,4 +1,7 @@
 pub mod Derivable
 pub mod Facts
 pub mod Inside
+pub mod Null
 pub mod Rows
+pub mod Shut
+pub mod Steps

@@ -1,6 +1,7 @@
 //! Facts about the regions that variables name, sets of them, and what follows from a set.
 #![tactic(auto)]
 
+mod adding;
 mod closing;
 mod fact;
 mod fact_set;

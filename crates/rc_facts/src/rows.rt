@@ -3,6 +3,8 @@ ghost use Rattle.std.specs.Prelude.{◌≡◌, ◌≢◌, ◌<◌, ◌≤◌, �
 ghost use Rattle.rc_base.specs.BitSets.{marks};
 ghost use Rattle.rc_facts.specs.Rows.{links, Chain, IsWithin, TellsExcess, TellsLost};
 ghost use Rattle.rc_facts.specs.Facts.{replaced};
+ghost use Rattle.rc_facts.specs.Shut.{one_by, pair_by, spot, IsBelow};
+ghost use Rattle.rc_facts.specs.Steps.{IsWidened};
 
 use rc_base::BitSet;
 
@@ -15,6 +17,14 @@ pub(crate) fn link(rows: &mut [BitSet], from: usize, to: usize)
     ensures { (x y : ℕ) → links rows.new x y ≡ (links rows.old x y || (from == x && to == y)) }
 {
     rows[from] = rows[from].with(to);
+}
+
+/// What a variable is linked to.
+pub(crate) fn row_of(rows: &[BitSet], x: usize) -> BitSet
+    requires { x < length rows.now }
+    ensures { (y : ℕ) → marks result y ≡ links rows.now x y }
+{
+    rows[x]
 }
 
 /// Whether one is linked to another.
@@ -170,6 +180,40 @@ pub(crate) fn double(rows: &mut [BitSet], from: usize, to: usize)
         *row = aliased(*row, from, to);
     }
     rows[to] = rows[from];
+}
+
+/// The row that has a variable where that is wanted.
+pub(crate) fn marked(row: BitSet, x: usize, wanted: bool) -> BitSet
+    requires { x < 128 }
+    ensures { (y : ℕ) → marks result y ≡ one_by (marks row) wanted (spot x y) }
+{
+    if wanted { row.with(x) } else { row.without(x) }
+}
+
+/// Links those of `column` to `x`, and no others, and `x` to itself and to those of `row` alone.
+pub(crate) fn write(rows: &mut [BitSet], x: usize, row: BitSet, column: BitSet)
+    requires few { length rows.old ≤ 128 }
+    requires x { x < length rows.old }
+    requires column { IsBelow (length rows.old) column }
+    ensures { (a b : ℕ) → links rows.new a b
+        ≡ pair_by (links rows.old) (marks row) (marks column) (spot x a) (spot x b) }
+{
+    for (at, cells) in rows.iter_mut().enumerate() {
+        *cells = marked(*cells, x, column.contains(at));
+    }
+    rows[x] = row.with(x);
+}
+
+/// Links those that are linked to one of `entry` to all of `more`.
+pub(crate) fn widen(rows: &mut [BitSet], entry: BitSet, more: BitSet)
+    requires { length rows.old ≤ 128 }
+    ensures { IsWidened (links rows.old) (links rows.new) (marks entry) (marks more) }
+{
+    for row in rows.iter_mut() {
+        if !row.is_disjoint(entry) {
+            *row = row.union(more);
+        }
+    }
 }
 
 /// Keeps what is in both, and says whether something was dropped.

@@ -8,7 +8,8 @@ use Rattle.rc_facts.specs.Derivable.{Derivable, stated, in_itself, in_through, u
 use Rattle.rc_facts.specs.Facts.{Known, names, same_fact, replaced, with_replaced}
 use Rattle.rc_facts.proofs.Sets.{same_fact-true}
 use Rattle.rc_flow.specs.declared.edge.Edge.{Edge}
-use Rattle.rc_flow.specs.Flow.{Facts, Annotation, IsShut, AreShut, Keeps, IsInside, facts_in, set_at, together, Behind}
+use Rattle.rc_facts.specs.Shut.{together, IsShut}
+use Rattle.rc_flow.specs.Flow.{Facts, Annotation, AreShut, IsClosed, Keeps, IsInside, facts_in, set_at, Behind}
 
 pub derivable_cut : {n : ℕ} {given others : Facts} → ((p : Fact) → IsTrue (given p) → Derivable n others p) → {fact : Fact} → Derivable n given fact → Derivable n others fact
 derivable_cut h (stated is) = h _ is
@@ -91,17 +92,20 @@ shut_carry n scratch e sets sets1 lt long others there shut p below = by (nat_eq
     under : p < length sets
     under = omega (arith, below, long)
 
-    by : (b : Bool) → nat_eq p e.to ≡ b → IsShut n scratch (set_at sets1 p)
-    by false q = subst (IsShut n scratch) (sym (others p (λ r. absurd (apart (sym q ∙ eq-eqb p e.to r))))) (shut p under)
+    by : (b : Bool) → nat_eq p e.to ≡ b → IsClosed n scratch (set_at sets1 p)
+    by false q = subst (IsClosed n scratch) (sym (others p (λ r. absurd (apart (sym q ∙ eq-eqb p e.to r))))) (shut p under)
       where
         apart : false ≡ true → ⊥
         apart r = cc
     by true q =
         let r : p ≡ e.to = eqb-true p e.to q in
-        subst (λ i. IsShut n scratch (set_at sets1 i)) (sym r) (λ fact apart d. (there fact).1 (
-          shut e.to (subst (λ i. i < length sets) r under) fact apart (derivable_more (λ p is. ((there p).0 is).0) d),
-          behind_shut n scratch e.assigned e.news.items (set_at sets e.from) (set_at sets1 e.to) lt (λ p is. ((there p).0 is).1) fact apart d,
-        ))
+        subst (λ i. IsClosed n scratch (set_at sets1 i)) (sym r) (record {
+          shut = λ fact apart d. (there fact).1 (
+            (shut e.to (subst (λ i. i < length sets) r under)).shut fact apart (derivable_more (λ p is. ((there p).0 is).0) d),
+            behind_shut n scratch e.assigned e.news.items (set_at sets e.from) (set_at sets1 e.to) lt (λ p is. ((there p).0 is).1) fact apart d,
+          );
+          clean = λ fact is. ((there fact).0 is).1.1;
+        })
 
 -- where no new fact is lacked, the set is what it would be closed
 none_new : (before : Facts) (news : List Fact) → list_any (λ p. not (before p)) news ≡ false → (fact : Fact) → list_any (λ p. same_fact p fact) news ≡ true → before fact ≡ true

@@ -1,1 +1,2 @@
-mod Flows
+pub mod Flows
+pub mod Crossings

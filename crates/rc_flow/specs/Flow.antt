@@ -1,17 +1,14 @@
 -- Facts along edges: what may stand behind an edge, and annotations that no edge drops.
-use Rattle.std.specs.Prelude.{◌≡◌, ℕ, ◌<◌, ◌≤◌, Bool, false, ◌||◌, IsTrue, List, [], length, get_or, slice_get, Option, Some, None, IfSome}
-use Rattle.std.specs.List.{All, list_any, sum_by}
+use Rattle.std.specs.Prelude.{◌≡◌, ℕ, ◌<◌, ◌≤◌, Bool, false, IsTrue, List, [], length, get_or, slice_get, Option, Some, None, IfSome}
+use Rattle.std.specs.List.{All, sum_by}
 use Rattle.rc_flow.specs.declared.edge.Edge.{Edge}
 use Rattle.rc_facts.specs.declared.fact.Fact.{Fact}
 use Rattle.rc_facts.specs.Derivable.{Derivable}
-use Rattle.rc_facts.specs.Facts.{Known, holds, names, same_fact, with_replaced, is_over}
+use Rattle.rc_facts.specs.Facts.{Known, holds, names, with_replaced, is_over}
+use Rattle.rc_facts.specs.Shut.{together, IsClean, IsShut}
 
 abbrev pub Facts : Type 0
 Facts = Fact → Bool
-
--- the facts before, and new ones
-abbrev pub together : Facts → List Fact → Facts
-together before news fact = before fact || list_any (λ p. same_fact p fact) news
 
 -- a fact may stand behind an edge; the scratch variable holds the new value of an assigned one, and no fact names it
 abbrev pub allowed : (n scratch : ℕ) → Option ℕ → List Fact → Facts → Fact → Type 0
@@ -28,12 +25,13 @@ no_set = record { variables = 0; facts = [] }
 abbrev pub set_at : List Known → ℕ → Facts
 set_at sets p = holds (get_or sets p no_set)
 
--- no rule gives more facts, save on the scratch variable
-abbrev pub IsShut : (n scratch : ℕ) → Facts → Type 0
-IsShut n scratch facts = (fact : Fact) → names scratch fact ≡ false → Derivable n facts fact → IsTrue (facts fact)
+-- no rule gives more facts, save on the scratch variable, and no fact names that
+pub record IsClosed (n scratch : ℕ) (facts : Facts) : Type 0 where
+  pub shut : IsShut n scratch facts
+  pub clean : IsClean scratch facts
 
 abbrev pub AreShut : (n scratch : ℕ) → List Known → Type 0
-AreShut n scratch sets = (p : ℕ) → p < length sets → IsShut n scratch (set_at sets p)
+AreShut n scratch sets = (p : ℕ) → p < length sets → IsClosed n scratch (set_at sets p)
 
 -- facts of each point
 abbrev pub Annotation : Type 0

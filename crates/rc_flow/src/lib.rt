@@ -2,8 +2,9 @@
 //! one for each point, that no edge drops a fact of.
 #![tactic(auto)]
 
+mod assignment;
 mod edge;
 mod propagation;
 
 pub use edge::Edge;
-pub use propagation::propagate;
+pub use propagation::{carry, propagate};

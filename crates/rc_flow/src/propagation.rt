@@ -1,11 +1,18 @@
 // Facts carried along edges until no edge drops one.
-ghost use Rattle.std.specs.Prelude.{◌≡◌, ◌<◌, ◌↔◌, ◌+◌, IsTrue, IfSome, MatchBool, ℕ, length, ◌&&◌, ◌^◌, nat_le, if◌then◌else◌, not, false};
+ghost use Rattle.std.specs.Prelude.{◌≡◌, ◌<◌, ◌∷◌, [], List, Some, ◌↔◌, ◌+◌, IsTrue, IfSome, MatchBool, ℕ, length, ◌&&◌, ◌^◌, nat_le, if◌then◌else◌, not, false};
 ghost use Rattle.std.specs.List.{All, list_any};
 ghost use Rattle.rc_facts.specs.declared.fact.Fact.{Fact};
 ghost use Rattle.rc_facts.specs.Derivable.{Derivable};
 ghost use Rattle.rc_facts.specs.Facts.{holds, is_over, names};
-ghost use Rattle.rc_flow.specs.Flow.{Annotation, AreShut, Behind, HaveFewer, HaveVariables, IsConsistent, IsEdge, IsInside, IsShut, facts_in, set_at, together, StartsAt};
+ghost use Rattle.rc_flow.specs.Flow.{Annotation, AreShut, Behind, HaveFewer, HaveVariables, IsClosed, IsConsistent, IsEdge, IsInside, facts_in, set_at, StartsAt};
+ghost use Rattle.rc_facts.specs.Shut.{together, IsBehind, IsShut};
+ghost use Rattle.rc_flow.specs.Rows.{IsNullOf, IsRow};
+ghost use Rattle.rc_facts.specs.Null.{null_news};
+ghost use Rattle.rc_facts.specs.declared.fact.Fact.{Fact as AnyFact};
+ghost use Rattle.rc_facts.specs.declared.fact.Fact.TheVariants.{Trad};
+ghost use Rattle.rc_flow.specs.declared.assignment.Row.TheVariants.{Beside};
 
+use crate::assignment::{Row, are_of_null, row_of};
 use crate::edge::Edge;
 use rc_facts::{Fact, FactSet};
 
@@ -57,33 +64,209 @@ fn settle(set: &mut FactSet, news: &[Fact], scratch: u32)
     derive(set, news);
 }
 
+/// Adds a fact to a closed set, and all that is derivable then, save on the scratch variable.
+fn gain(set: &mut FactSet, fact: Fact, scratch: u32)
+    requires over { IsTrue (is_over set.old.variables fact) }
+    requires apart { names scratch fact ≡ false }
+    requires closed { IsClosed set.old.variables scratch (holds set.old) }
+    ensures variables { set.new.variables ≡ set.old.variables }
+    ensures facts { (other : Fact) → IsTrue (holds set.new other) ↔ IsBehind set.old.variables scratch (holds set.old) (fact ∷ []) other }
+{
+    if set.has(fact) {
+        return;
+    }
+    match fact {
+        Fact::In(x, y) => set.add_within(x, y, scratch),
+        Fact::Up(x, y) => set.add_above(x, y, scratch),
+        Fact::Trad(x) => set.add_traditional(x),
+        Fact::NonNull(x) => set.add_present(x),
+    }
+}
+
+/// Whether one of the facts is on the variable.
+fn name(facts: &[Fact], x: u32) -> bool
+    ensures { result ≡ list_any (λ p. names x p) facts.now }
+{
+    for fact in facts {
+        if is_on(*fact, x) {
+            return true;
+        }
+    }
+    false
+}
+
+/// Whether the fact is on the variable.
+fn is_on(fact: Fact, x: u32) -> bool
+    ensures { result ≡ names x fact }
+{
+    match fact {
+        Fact::In(a, b) => a == x || b == x,
+        Fact::Up(a, b) => a == x || b == x,
+        Fact::Trad(a) => a == x,
+        Fact::NonNull(a) => a == x,
+    }
+}
+
+/// What stands behind an edge that assigns no variable, where a fact names the scratch variable: a variable
+/// is null, and so in the region of each, or the set is closed anew.
+fn learn_null(set: &mut FactSet, news: &[Fact], scratch: u32)
+    requires over { All (λ p. IsTrue (is_over set.old.variables p)) news.now }
+    requires scratch { scratch < set.old.variables }
+    requires closed { IsClosed set.old.variables scratch (holds set.old) }
+    ensures variables { set.new.variables ≡ set.old.variables }
+    ensures facts { (fact : Fact) → IsTrue (holds set.new fact) ↔ IsBehind set.old.variables scratch (holds set.old) news.now fact }
+{
+    match null_of(set, news, scratch) {
+        Some(x) => set.add_null(x, scratch),
+        None => {
+            settle(set, news, scratch);
+            set.forget(scratch);
+        }
+    }
+}
+
+/// The variable that the facts say is null, if they say that and it may be.
+fn null_of(set: &FactSet, news: &[Fact], scratch: u32) -> Option<u32>
+    requires over { All (λ p. IsTrue (is_over set.now.variables p)) news.now }
+    ensures { IfSome result (IsNullOf set.now scratch news.now) }
+{
+    let x = first_of(news)?;
+    if x == scratch {
+        return None;
+    }
+    if !are_of_null(news, set.count(), x) {
+        return None;
+    }
+    if set.has(Fact::NonNull(x)) {
+        return None;
+    }
+    Some(x)
+}
+
+/// The variable of the first fact, if it is traditional.
+fn first_of(news: &[Fact]) -> Option<u32>
+    ensures { IfSome result (λ x. (rest : List AnyFact) × (news.now ≡ Trad x ∷ rest)) }
+{
+    match news {
+        [Fact::Trad(x), ..] => Some(*x),
+        _ => None,
+    }
+}
+
+/// What stands behind an edge that assigns no variable.
+fn learn(set: &mut FactSet, news: &[Fact], scratch: u32)
+    requires over { All (λ p. IsTrue (is_over set.old.variables p)) news.now }
+    requires scratch { scratch < set.old.variables }
+    requires closed { IsClosed set.old.variables scratch (holds set.old) }
+    ensures variables { set.new.variables ≡ set.old.variables }
+    ensures facts { (fact : Fact) → IsTrue (holds set.new fact) ↔ IsBehind set.old.variables scratch (holds set.old) news.now fact }
+{
+    if name(news, scratch) {
+        learn_null(set, news, scratch);
+        return;
+    }
+    for fact in news {
+        gain(set, *fact, scratch);
+    }
+}
+
+/// What stands behind an edge that assigns a variable, by closing the set anew.
+fn derive_assigned(set: &mut FactSet, x: u32, news: &[Fact], scratch: u32)
+    requires over { All (λ p. IsTrue (is_over set.old.variables p)) news.now }
+    requires scratch { scratch < set.old.variables }
+    requires x { x < scratch }
+    ensures variables { set.new.variables ≡ set.old.variables }
+    ensures facts { (fact : Fact) → IsTrue (holds set.new fact) ↔ Behind set.old.variables scratch (Some x) news.now (holds set.old) fact }
+{
+    derive(set, news);
+    set.rename(scratch, x);
+}
+
+/// What stands behind an edge that gives a variable a new object of the region of `y`.
+fn assign_beside(set: &mut FactSet, x: u32, y: u32, news: &[Fact], scratch: u32)
+    requires over { All (λ p. IsTrue (is_over set.old.variables p)) news.now }
+    requires scratch { scratch < set.old.variables }
+    requires x { x < scratch }
+    requires closed { IsClosed set.old.variables scratch (holds set.old) }
+    requires row { IsRow set.old.variables scratch (Beside y) news.now }
+    ensures variables { set.new.variables ≡ set.old.variables }
+    ensures facts { (fact : Fact) → IsTrue (holds set.new fact) ↔ Behind set.old.variables scratch (Some x) news.now (holds set.old) fact }
+{
+    if !set.has(Fact::NonNull(y)) {
+        derive_assigned(set, x, news, scratch);
+        return;
+    }
+    set.assign_moved(x, y, scratch);
+}
+
+/// What stands behind an edge that assigns a variable.
+fn assign(set: &mut FactSet, x: u32, news: &[Fact], scratch: u32)
+    requires over { All (λ p. IsTrue (is_over set.old.variables p)) news.now }
+    requires scratch { scratch < set.old.variables }
+    requires x { x < scratch }
+    requires closed { IsClosed set.old.variables scratch (holds set.old) }
+    ensures variables { set.new.variables ≡ set.old.variables }
+    ensures facts { (fact : Fact) → IsTrue (holds set.new fact) ↔ Behind set.old.variables scratch (Some x) news.now (holds set.old) fact }
+{
+    match row_of(news, scratch, set.count()) {
+        Row::Unknown => set.assign_unknown(x, scratch),
+        Row::Made => set.assign_made(x, scratch),
+        Row::Fixed => set.assign_fixed(x, scratch),
+        Row::Traditional => set.assign_traditional(x, scratch),
+        Row::Within(y) => set.assign_within(x, y, scratch),
+        Row::Above(y) => set.assign_above(x, y, scratch),
+        Row::Under(y) => set.assign_under(x, y, scratch),
+        Row::Moved(y) => set.assign_moved(x, y, scratch),
+        Row::Beside(y) => assign_beside(set, x, y, news, scratch),
+        Row::Null => set.assign_null(x, scratch),
+        Row::Other => derive_assigned(set, x, news, scratch),
+    }
+}
+
+/// What stands behind an edge that assigns a variable. Where another isn't null, that is added first.
+fn pass(set: &mut FactSet, x: u32, news: &[Fact], scratch: u32)
+    requires over { All (λ p. IsTrue (is_over set.old.variables p)) news.now }
+    requires scratch { scratch < set.old.variables }
+    requires x { x < scratch }
+    requires closed { IsClosed set.old.variables scratch (holds set.old) }
+    ensures variables { set.new.variables ≡ set.old.variables }
+    ensures facts { (fact : Fact) → IsTrue (holds set.new fact) ↔ Behind set.old.variables scratch (Some x) news.now (holds set.old) fact }
+{
+    let Some((first, rest)) = news.split_first() else {
+        return assign(set, x, news, scratch);
+    };
+    let Fact::NonNull(y) = *first else {
+        return assign(set, x, news, scratch);
+    };
+    if y == scratch {
+        return assign(set, x, news, scratch);
+    }
+    gain(set, Fact::NonNull(y), scratch);
+    assign(set, x, rest, scratch);
+}
+
 /// The facts that may stand behind an edge.
 fn cross(set: &mut FactSet, assigned: Option<u32>, news: &[Fact], scratch: u32)
     requires over { All (λ p. IsTrue (is_over set.old.variables p)) news.now }
     requires scratch { scratch < set.old.variables }
     requires assigned { IfSome assigned (λ x. x < scratch) }
-    requires shut { IsShut set.old.variables scratch (holds set.old) }
+    requires closed { IsClosed set.old.variables scratch (holds set.old) }
     ensures variables { set.new.variables ≡ set.old.variables }
     ensures facts { (fact : Fact) → IsTrue (holds set.new fact) ↔ Behind set.old.variables scratch assigned news.now (holds set.old) fact }
 {
     match assigned {
-        None => {
-            settle(set, news, scratch);
-            set.forget(scratch);
-        }
-        Some(x) => {
-            derive(set, news);
-            set.rename(scratch, x);
-        }
+        None => learn(set, news, scratch),
+        Some(x) => pass(set, x, news, scratch),
     }
 }
 
-/// Takes what the edge may lead to from the sets of its points, and says whether a fact was dropped.
-fn carry(sets: &mut [FactSet], work: &mut FactSet, edge: &Edge, scratch: u32) -> bool
+/// Takes from the set of the point that the edge leads to what may not stand behind the edge, and says
+/// whether a fact was dropped. `work` is scratch.
+pub fn carry(sets: &mut [FactSet], work: &mut FactSet, edge: &Edge, scratch: u32) -> bool
     requires variables { HaveVariables work.old.variables sets.old }
     requires scratch { scratch < work.old.variables }
     requires edge { IsEdge work.old.variables scratch (length sets.old) edge.now }
-    requires shut { IsShut work.old.variables scratch (set_at sets.old edge.now.from) }
+    requires closed { IsClosed work.old.variables scratch (set_at sets.old edge.now.from) }
     ensures same { work.new.variables ≡ work.old.variables }
     ensures points { length sets.new ≡ length sets.old }
     ensures variables { HaveVariables work.old.variables sets.new }

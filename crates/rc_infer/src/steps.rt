@@ -1,5 +1,5 @@
 // The steps through a function, of the facts of all functions.
-ghost use Rattle.std.specs.Prelude.{◌≡◌, ◌<◌, ◌≤◌, OnOk, IfOk, Some, length, slice_get};
+ghost use Rattle.std.specs.Prelude.{◌≡◌, ◌<◌, OnOk, IfOk, Some, length, slice_get};
 ghost use Rattle.rc_rlang.specs.RegionFlow.{Node};
 ghost use Rattle.rc_graph.specs.Nodes.{nodes_of};
 ghost use Rattle.rc_edges.specs.Inferred.{family_of};
@@ -97,23 +97,13 @@ pub(crate) fn cross_from(
     graph: &Graph,
     facts: &mut Facts,
     place: Place,
-    starts: &mut [u32],
 ) -> Result<bool, NoMemory>
     requires ready { Ready graph.now place.function (family_of facts.old) }
     requires there { place.point < length graph.now.nodes.items }
-    requires enough { length graph.now.nodes.items ≤ length starts.old }
-    ensures starts { length starts.new ≡ length starts.old }
-    ensures lowered { IfOk result (λ dropped. LoweredAt graph.now place.function (family_of facts.old) (family_of facts.new)) }
+    ensures { IfOk result (λ dropped. LoweredAt graph.now place.function (family_of facts.old) (family_of facts.new)) }
 {
     let sets = facts.points[place.function].as_mut_slice();
-    cross(
-        alloc,
-        graph,
-        sets,
-        facts.exits.as_slice(),
-        place.point,
-        starts,
-    )
+    cross(alloc, graph, sets, facts.exits.as_slice(), place.point)
 }
 
 /// Takes from the entries of functions what the calls at a point don't give.

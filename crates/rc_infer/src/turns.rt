@@ -1,5 +1,5 @@
 // Turns of the search: at one point after another, and at once into the functions that are called.
-ghost use Rattle.std.specs.Prelude.{◌≡◌, ◌<◌, ◌≤◌, ℕ, OnOk, IfOk, Some, length, slice_get};
+ghost use Rattle.std.specs.Prelude.{◌≡◌, ◌<◌, ℕ, OnOk, IfOk, Some, length, slice_get};
 ghost use Rattle.std.specs.List.{All};
 ghost use Rattle.rc_rlang.specs.Shapes.{rlang_of};
 ghost use Rattle.rc_graph.specs.declared.graph.Graph.{Graph as AnyGraph};
@@ -28,18 +28,15 @@ fn turn(
     field: &Field<'_>,
     graph: &Graph,
     facts: &mut Facts,
-    starts: &mut [u32],
     place: Place,
 ) -> Result<Losses, NoMemory>
     requires turning { Turning (rlang_of field.now.code.now) field.now.graphs.now (family_of facts.old) }
     requires graph { slice_get field.now.graphs.now place.function ≡ Some graph.now }
     requires there { place.point < length graph.now.nodes.items }
-    requires enough { length graph.now.nodes.items ≤ length starts.old }
-    ensures starts { length starts.new ≡ length starts.old }
-    ensures swept { OnOk result (Swept (rlang_of field.now.code.now) (family_of facts.old) (family_of facts.new)) }
+    ensures { OnOk result (Swept (rlang_of field.now.code.now) (family_of facts.old) (family_of facts.new)) }
 {
     come_into(field.alloc, graph, facts, place)?;
-    let behind = cross_from(field.alloc, graph, facts, place, starts)?;
+    let behind = cross_from(field.alloc, graph, facts, place)?;
     let entry = call_from(field.alloc, graph, facts, place)?;
     let exit = leave_from(field.alloc, graph, facts, place)?;
     Ok(Losses {
@@ -50,15 +47,9 @@ fn turn(
 }
 
 /// Lets the point that waits first have its turn, where one waits, and says whether one did.
-fn turn_next(
-    field: &Field<'_>,
-    facts: &mut Facts,
-    starts: &mut [u32],
-    waiting: &mut Waiting,
-) -> Result<bool, NoMemory>
+fn turn_next(field: &Field<'_>, facts: &mut Facts, waiting: &mut Waiting) -> Result<bool, NoMemory>
     requires turning { Turning (rlang_of field.now.code.now) field.now.graphs.now (family_of facts.old) }
-    ensures starts { length starts.new ≡ length starts.old }
-    ensures swept { OnOk result (Swept (rlang_of field.now.code.now) (family_of facts.old) (family_of facts.new)) }
+    ensures { OnOk result (Swept (rlang_of field.now.code.now) (family_of facts.old) (family_of facts.new)) }
 {
     let Some(place) = waiting.next()? else {
         return Ok(false);
@@ -69,23 +60,9 @@ fn turn_next(
     let Some(node) = graph.nodes.get(place.point as usize) else {
         return Ok(false);
     };
-    if starts.len() < graph.nodes.len() {
-        return Ok(false);
-    }
-    let losses = turn(field, graph, facts, starts, place)?;
+    let losses = turn(field, graph, facts, place)?;
     waiting.note(place.function, node, losses)?;
     Ok(true)
-}
-
-/// As many numbers as the longest function has points.
-fn starts(alloc: Global, graphs: &[Graph]) -> Result<Vec<u32>, NoMemory> {
-    let mut all = Vec::new(alloc);
-    for g in 0..graphs.len() {
-        for _point in all.len()..graphs[g].nodes.len() {
-            all.push(1)?;
-        }
-    }
-    Ok(all)
 }
 
 /// Lets points have their turns until none waits. The points of a function come up one after another,
@@ -97,9 +74,8 @@ pub(crate) fn sweep(field: &Field<'_>, facts: &mut Facts) -> Result<(), NoMemory
 {
     let first = field.code.parts().main as usize;
     let mut waiting = Waiting::all(field.alloc, field.graphs, first)?;
-    let mut starts = starts(field.alloc, field.graphs)?;
     for _turn in 0..u64::MAX {
-        let more = turn_next(field, facts, starts.as_mut_slice(), &mut waiting)?;
+        let more = turn_next(field, facts, &mut waiting)?;
         if !more {
             return Ok(());
         }

@@ -349,9 +349,9 @@ module _ (r : Rlang) (fit : IsRlang r) (numberable : IsNumberable r) (small : Is
       let long : length (cells_at (image_of r).types (type_in r a.element)) ≡ size r.structs a.element = ap length cs ∙ l in
       fits_by_tests (image_of r).types (path_of (type_in r) a) (below a.element there) (omega (arith, i, s)) many f.indices f.nested (omega (arith, long, i))
       (ap (λ c. has_one_kind (map index_of a.indices) (drop a.offset c)) cs ∙ one_kind_all (map index_of a.indices) (drop a.offset written) (cell.Number Int)
-        (let d = length_dropped written a.offset (omega (arith, l, i)) in omega (arith, d, l, i))
-        (λ n lt e. get_dropped written a.offset n (cell.Number Int) ∙ get_cells (cells r.structs a.element) (a.offset + n) ∙ ap (cell_of (type_in r) (path_in r)) (f.alike n e)
-        ∙ sym (get_dropped written a.offset 0 (cell.Number Int) ∙ (let z : a.offset + 0 ≡ a.offset = omega arith in ap (λ m. get_or written m (cell.Number Int)) z) ∙ get_cells (cells r.structs a.element) a.offset)))
+      (let d = length_dropped written a.offset (omega (arith, l, i)) in omega (arith, d, l, i))
+      (λ n lt e. get_dropped written a.offset n (cell.Number Int) ∙ get_cells (cells r.structs a.element) (a.offset + n) ∙ ap (cell_of (type_in r) (path_in r)) (f.alike n e)
+      ∙ sym (get_dropped written a.offset 0 (cell.Number Int) ∙ (let z : a.offset + 0 ≡ a.offset = omega arith in ap (λ m. get_or written m (cell.Number Int)) z) ∙ get_cells (cells r.structs a.element) a.offset)))
     where
       written : List Cell
       written = map (cell_of (type_in r) (path_in r)) (cells r.structs a.element)

@@ -1,5 +1,5 @@
 -- An edge of a point is crossed.
-use Rattle.std.proofs.Common.{◌≡◌, ℕ, zero, suc, ◌<◌, ◌≤◌, IsTrue, List, [], ◌∷◌, length, get_or, Some, None, IfSome, Option, Result, Ok, Err, refl, sym, ap, ◌∙◌, subst, arith}
+use Rattle.std.proofs.Common.{◌≡◌, ℕ, zero, suc, ◌<◌, ◌≤◌, ◌↔◌, IsTrue, List, [], ◌∷◌, length, get_or, Some, None, IfSome, Option, Result, Ok, Err, refl, sym, ap, ◌∙◌, subst, arith}
 use Rattle.std.specs.Prelude.{slice_get, IfOk}
 use Rattle.std.specs.List.{All}
 use Rattle.std.proofs.lemmas.List.Elements.{All-nil, All-cons}
@@ -9,7 +9,8 @@ use Rattle.rc_rlang.specs.RegionFlow.{Edge, Effect, Node}
 use Rattle.rc_annotations.specs.Annotations.{exit_facts}
 use Rattle.rc_annotations.proofs.Derivations.{derivable_more, either_more}
 use Rattle.rc_flow.specs.declared.edge.Edge.{Edge as FlowEdge}
-use Rattle.rc_flow.specs.Flow.{Annotation, AreShut, Behind, Facts, HaveFewer, HaveVariables, IsConsistent, IsEdge, IsInside, StartsAt, set_at}
+use Rattle.rc_flow.specs.Flow.{AreShut, Behind, Facts, HaveFewer, HaveVariables, IsEdge, set_at}
+use Rattle.rc_flow.proofs.Flows.{fewer_carry, inside_carry, shut_carry}
 use Rattle.rc_graph.specs.declared.node.Effect.{Effect as CodeEffect}
 use Rattle.rc_graph.specs.declared.node.Node.{Node as CodeNode}
 use Rattle.rc_graph.specs.declared.node.Node.TheVariants.{Fork, Go, Return}
@@ -23,10 +24,6 @@ behind_more : (n scratch : ℕ) (assigned : Option ℕ) (news : List Fact) (befo
 behind_more n scratch None news before others fact h b = (derivable_more (either_more h (λ p e. e)) b.0, b.1)
 behind_more n scratch (Some x) news before others fact h b = (derivable_more (either_more h (λ p e. e)) b.0, b.1)
 
-only : (e d : FlowEdge) (k : ℕ) → slice_get (e ∷ []) k ≡ Some d → (k ≡ 0) × (e ≡ d)
-only e d zero is = (refl, cc)
-only e d (suc k) is = cc
-
 module _ (s : ℕ) (exits : List Known) (effect : Effect) (from to : ℕ) (e : FlowEdge) (carries : Carries s (exit_facts (leaving exits)) effect from to e) where
   pub one_edge : (points : ℕ) → from < points → to < points → EffectBelow s effect → IsEdge (suc s) s points e
   one_edge points f t own = record {
@@ -36,43 +33,23 @@ module _ (s : ℕ) (exits : List Known) (effect : Effect) (from to : ℕ) (e : F
     news = carries.news.over;
   }
 
-  pub one_good : (points : ℕ) → from < points → to < points → EffectBelow s effect → All (IsEdge (suc s) s points) (e ∷ [])
-  one_good points f t own = All-cons (IsEdge (suc s) s points) e [] (one_edge points f t own) (All-nil (IsEdge (suc s) s points))
-
-  pub one_start : (points : ℕ) (starts : List ℕ) → points ≤ length starts → get_or starts from 0 ≡ 0 → StartsAt (e ∷ []) starts points
-  one_start points starts enough first = record {
-    enough = enough;
-    first = λ k d is. (
-        let q = only e d k is in
-        let z = ap (λ (x : FlowEdge). get_or starts x.from 0) (sym q.1) ∙ ap (λ i. get_or starts i 0) carries.begins ∙ first in
-        omega (arith, z));
-  }
-
-  pub crossed_by : (n : ℕ) (es : List FlowEdge) (old new : List Known) → n ≡ suc s → es ≡ e ∷ [] → HaveFewer new old → IsConsistent n s es (set_at new) → (fact : Fact) → IsTrue (set_at new to fact) → Crossed exits s from (record { effect = effect; to = to }) (set_at old from) fact
-  crossed_by n es old new wide same fewer consistent fact has = record {
-    flow = e;
-    carries = carries;
-    behind = behind_more (suc s) s e.assigned e.news.items (set_at new from) (set_at old from) fact (λ p is. fewer from p is)
-        (subst (λ i. Behind (suc s) s e.assigned e.news.items (set_at new i) fact) carries.begins
-        ((subst (λ k. IsConsistent k s (e ∷ []) (set_at new)) wide (subst (λ x. IsConsistent n s x (set_at new)) same consistent)) 0 e refl fact (subst (λ i. IsTrue (set_at new i fact)) (sym carries.leads) has)));
-  }
-
-  module _ (nodes : List Node) (copies : ℕ) (first : Known) (of : EdgeOf nodes from (record { effect = effect; to = to })) (old new : List Known) where
-    lowered_by : length new ≡ length old → HaveVariables (suc s) new → HaveFewer new old → AreShut (suc s) s new → ((a : Annotation) → IsConsistent (suc s) s (e ∷ []) a → IsInside a old → IsInside a new) → Lowered nodes copies s first exits old new
-    lowered_by long variables fewer shut inside = record {
-      long = long;
-      variables = variables;
-      fewer = fewer;
-      shut = shut;
-      inside = λ low along begins within. inside low (λ k d is. (
-          let q = only e d k is in
-          subst (λ (x : FlowEdge). (fact : _) → IsTrue (low x.to fact) → Behind (suc s) s x.assigned x.news.items (low x.from) fact) q.1
-          (λ fact has. subst (λ i. Behind (suc s) s e.assigned e.news.items (low i) fact) (sym carries.begins) (along from (record { effect = effect; to = to }) e fact of carries (subst (λ i. IsTrue (low i fact)) carries.leads has))))) within;
+  module _ (old new : List Known) (others : (p : ℕ) → (p ≡ e.to → ⊥) → set_at new p ≡ set_at old p) (there : (fact : Fact) → IsTrue (set_at new e.to fact) ↔ (IsTrue (set_at old e.to fact) × Behind (suc s) s e.assigned e.news.items (set_at old e.from) fact)) where
+    pub crossed_by : (fact : Fact) → IsTrue (set_at new to fact) → Crossed exits s from (record { effect = effect; to = to }) (set_at old from) fact
+    crossed_by fact has = record {
+      flow = e;
+      carries = carries;
+      behind = subst (λ i. Behind (suc s) s e.assigned e.news.items (set_at old i) fact) carries.begins ((there fact).0 (subst (λ i. IsTrue (set_at new i fact)) (sym carries.leads) has)).1;
     }
 
-    pub lowered_as : (n : ℕ) (es : List FlowEdge) → n ≡ suc s → es ≡ e ∷ [] → length new ≡ length old → HaveVariables n new → HaveFewer new old → AreShut n s new → ((a : Annotation) → IsConsistent n s es a → IsInside a old → IsInside a new) → Lowered nodes copies s first exits old new
-    lowered_as n es wide same long variables fewer shut inside = lowered_by long (subst (λ k. HaveVariables k new) wide variables) fewer (subst (λ k. AreShut k s new) wide shut)
-        (λ a ca within. inside a (subst (λ x. IsConsistent n s x a) (sym same) (subst (λ k. IsConsistent k s (e ∷ []) a) (sym wide) ca)) within)
+    pub lowered_by : (nodes : List Node) (copies : ℕ) (first : Known) → EdgeOf nodes from (record { effect = effect; to = to }) → from < length old → length new ≡ length old → HaveVariables (suc s) new → AreShut (suc s) s old → Lowered nodes copies s first exits old new
+    lowered_by nodes copies first of inside long variables shut = record {
+      long = long;
+      variables = variables;
+      fewer = fewer_carry (suc s) s e old new others there;
+      shut = shut_carry (suc s) s e old new (omega arith) long others there shut;
+      inside = λ low along begins within. inside_carry (suc s) s e low old new (let q = carries.begins in omega (arith, inside, q)) long others there
+          (λ fact has. subst (λ i. Behind (suc s) s e.assigned e.news.items (low i) fact) (sym carries.begins) (along from (record { effect = effect; to = to }) e fact of carries (subst (λ i. IsTrue (low i fact)) carries.leads has))) within;
+    }
 
 -- one step after another
 pub lowered_more : (nodes : List Node) (copies s : ℕ) (first : Known) (exits old mid new : List Known) → Lowered nodes copies s first exits old mid → Lowered nodes copies s first exits mid new → Lowered nodes copies s first exits old new

@@ -9,7 +9,7 @@ use Rattle.rc_facts.specs.Facts.{Known, holds, is_over, names}
 use Rattle.rc_facts.specs.Derivable.{Derivable}
 use Rattle.rc_rlang.specs.RegionFlow.{Edge, Node}
 use Rattle.rc_flow.specs.declared.edge.Edge.{Edge as FlowEdge}
-use Rattle.rc_flow.specs.Flow.{Annotation, AreShut, Behind, HaveFewer, HaveVariables, IsConsistent, IsEdge, IsInside, IsShut, StartsAt, no_set, set_at}
+use Rattle.rc_flow.specs.Flow.{Annotation, AreShut, Behind, HaveFewer, HaveVariables, IsConsistent, IsEdge, IsClosed, IsInside, StartsAt, no_set, set_at}
 use Rattle.rc_annotations.proofs.Derivations.{derivable_cut, derivable_more}
 use Rattle.std.proofs.lemmas.List.{length-map}
 use Rattle.rc_graph.specs.declared.node.Node.{Node as CodeNode}
@@ -40,15 +40,18 @@ module _ (copies s : ℕ) (entry : Known) (old mid : List Known) (first : (fact 
       under : p < length old
       under = omega (arith, lt, mid_long)
 
-      by : (b : Bool) → nat_eq p 0 ≡ b → IsShut (suc s) s (set_at mid p)
-      by false e = subst (IsShut (suc s) s) (sym (others p (apart p 0 e))) (shut p under)
+      by : (b : Bool) → nat_eq p 0 ≡ b → IsClosed (suc s) s (set_at mid p)
+      by false e = subst (IsClosed (suc s) s) (sym (others p (apart p 0 e))) (shut p under)
       by true e =
           let q : p ≡ 0 = eqb-true p 0 e in
-          subst (λ i. IsShut (suc s) s (set_at mid i)) (sym q) (λ fact unnamed d. (first fact).1 (
-            shut 0 (subst (λ i. i < length old) q under) fact unnamed (derivable_more (λ p is. ((first p).0 is).0) d),
-            derivable_cut (λ p is. ((first p).0 is).1) d,
-            unnamed,
-          ))
+          subst (λ i. IsClosed (suc s) s (set_at mid i)) (sym q) (record {
+            shut = λ fact unnamed d. (first fact).1 (
+              (shut 0 (subst (λ i. i < length old) q under)).shut fact unnamed (derivable_more (λ p is. ((first p).0 is).0) d),
+              derivable_cut (λ p is. ((first p).0 is).1) d,
+              unnamed,
+            );
+            clean = λ fact is. ((first fact).0 is).2;
+          })
 
   low_mid : (low : ℕ → Fact → Bool) → ((fact : Fact) → IsTrue (low 0 fact) → Derivable (suc s) (λ p. is_over copies p && holds entry p) fact × (names s fact ≡ false)) → IsInside low old → IsInside low mid
   low_mid low begins within p fact lt has = by (nat_eq p 0) refl

@@ -4,7 +4,8 @@ ghost use Rattle.rc_facts.specs.declared.fact.Fact.TheVariants.{NonNull};
 ghost use Rattle.rc_flow.specs.Flow.{set_at};
 ghost use Rattle.rc_graph.specs.Nodes.{effect_of, entry_of};
 ghost use Rattle.rc_edges.specs.Edges.{renewed};
-ghost use Rattle.rc_edges.specs.News.{in_each, null_news, note_news, pair_news, news_of};
+ghost use Rattle.rc_facts.specs.Null.{in_each, null_news};
+ghost use Rattle.rc_edges.specs.News.{note_news, pair_news, news_of};
 ghost use Rattle.rc_passing.specs.Given.{CallFits};
 
 use crate::calls::learn;

@@ -1,5 +1,5 @@
 // Steps at one point of a function.
-ghost use Rattle.std.specs.Prelude.{◌≡◌, ◌<◌, ◌≤◌, ◌&&◌, ℕ, suc, IsTrue, List, get_or, slice_get, Some, OnOk, IfOk, length};
+ghost use Rattle.std.specs.Prelude.{◌≡◌, ◌<◌, ◌≤◌, ◌&&◌, ℕ, suc, IsTrue, List, slice_get, Some, OnOk, IfOk, length};
 ghost use Rattle.rc_facts.specs.declared.fact.Fact.{Fact};
 ghost use Rattle.rc_facts.specs.Derivable.{Derivable};
 ghost use Rattle.rc_facts.specs.Facts.{Known, holds, is_over};
@@ -15,7 +15,7 @@ use crate::edges::{Setting, edge};
 use rc_base::NoMemory;
 use rc_boundaries::begin;
 use rc_facts::FactSet;
-use rc_flow::propagate;
+use rc_flow::carry;
 use rc_graph::{Effect, Graph, Node};
 use std::alloc::Global;
 
@@ -39,25 +39,24 @@ pub fn come_in(
     Ok(())
 }
 
-/// Lets facts cross an edge, and says whether one was dropped. Among the edges of a point, where those of
-/// each begin, its own are the first.
+/// Lets facts cross an edge, and says whether one was dropped. `work` is scratch.
 fn cross_edge(
     setting: &Setting<'_>,
     sets: &mut [FactSet],
+    work: &mut FactSet,
     effect: &Effect,
     from: u32,
     to: u32,
-    starts: &[u32],
 ) -> Result<bool, NoMemory>
     requires variables { HaveVariables (suc setting.now.spare) sets.old }
+    requires work { work.old.variables ≡ suc setting.now.spare }
     requires shut { AreShut (suc setting.now.spare) setting.now.spare sets.old }
     requires few { setting.now.spare < 128 }
     requires call { CallFits setting.now.exits.now (effect_of effect.now) }
     requires own { EffectBelow setting.now.spare (effect_of effect.now) }
     requires from { from < length sets.old }
     requires to { to < length sets.old }
-    requires enough { length sets.old ≤ length starts.now }
-    requires first { get_or starts.now from 0 ≡ 0 }
+    ensures work { work.new.variables ≡ work.old.variables }
     ensures long { IfOk result (λ dropped. length sets.new ≡ length sets.old) }
     ensures variables { IfOk result (λ dropped. HaveVariables (suc setting.now.spare) sets.new) }
     ensures shut { IfOk result (λ dropped. AreShut (suc setting.now.spare) setting.now.spare sets.new) }
@@ -66,21 +65,16 @@ fn cross_edge(
     ensures lowered { (nodes : List AnyNode) (copies : ℕ) (first : Known) → EdgeOf nodes from (record { effect = effect_of effect.now; to = to }) → IfOk result (λ dropped. Lowered nodes copies setting.now.spare first setting.now.exits.now sets.old sets.new) }
 {
     let carried = edge(setting, effect, from, to)?;
-    let edges = Vec::from_array(setting.alloc, [carried])?;
-    let mut work = FactSet::empty(setting.alloc, setting.spare + 1)?;
-    let mut before = FactSet::empty(setting.alloc, setting.spare + 1)?;
-    before.copy(&sets[to as usize]);
-    propagate(sets, &mut work, edges.as_slice(), starts, setting.spare);
-    Ok(before.meet(&sets[to as usize]))
+    Ok(carry(sets, work, &carried, setting.spare))
 }
 
 /// Lets facts cross the edges of a node.
 fn cross_node(
     setting: &Setting<'_>,
     sets: &mut [FactSet],
+    work: &mut FactSet,
     node: &Node,
     from: u32,
-    starts: &[u32],
 ) -> Result<bool, NoMemory>
     requires variables { HaveVariables (suc setting.now.spare) sets.old }
     requires shut { AreShut (suc setting.now.spare) setting.now.spare sets.old }
@@ -88,21 +82,21 @@ fn cross_node(
     requires fits { NodeFits setting.now.exits.now setting.now.spare (node_of node.now) }
     requires from { from < length sets.old }
     requires leads { (k : ℕ) (edge : NodeEdge) → slice_get (node_of node.now).edges k ≡ Some edge → edge.to < length sets.old }
-    requires enough { length sets.old ≤ length starts.now }
-    requires first { get_or starts.now from 0 ≡ 0 }
+    requires work { work.old.variables ≡ suc setting.now.spare }
+    ensures work { work.new.variables ≡ work.old.variables }
     ensures along { IfOk result (λ dropped. CrossedFrom (node_of node.now) setting.now.exits.now setting.now.spare from sets.old sets.new) }
     ensures lowered { (nodes : List AnyNode) (copies : ℕ) (first : Known) → slice_get nodes from ≡ Some (node_of node.now) → IfOk result (λ dropped. Lowered nodes copies setting.now.spare first setting.now.exits.now sets.old sets.new) }
 {
     match node {
-        Node::Go { effect, to } => cross_edge(setting, sets, effect, from, *to, starts),
+        Node::Go { effect, to } => cross_edge(setting, sets, work, effect, from, *to),
         Node::Fork {
             left,
             to_left,
             right,
             to_right,
         } => {
-            let first = cross_edge(setting, sets, left, from, *to_left, starts)?;
-            let second = cross_edge(setting, sets, right, from, *to_right, starts)?;
+            let first = cross_edge(setting, sets, work, left, from, *to_left)?;
+            let second = cross_edge(setting, sets, work, right, from, *to_right)?;
             Ok(first || second)
         }
         Node::Return { .. } => Ok(false),
@@ -110,15 +104,13 @@ fn cross_node(
 }
 
 /// Lets facts cross the edges of a point, by the facts of the exits of the functions that are called, and
-/// says whether one was dropped. `starts` has a number for each point, and is scratch. The only error is
-/// want of memory.
+/// says whether one was dropped. The only error is want of memory.
 pub fn cross(
     alloc: Global,
     graph: &Graph,
     sets: &mut [FactSet],
     exits: &[FactSet],
     point: u32,
-    starts: &mut [u32],
 ) -> Result<bool, NoMemory>
     requires long { length sets.old ≡ length graph.now.nodes.items }
     requires variables { HaveVariables (suc graph.now.result) sets.old }
@@ -127,8 +119,6 @@ pub fn cross(
     requires fits { (p : ℕ) (node : AnyNode) → slice_get (nodes_of graph.now.nodes.items) p ≡ Some node → NodeFits exits.now graph.now.result node }
     requires leads { (p : ℕ) (edge : NodeEdge) → EdgeOf (nodes_of graph.now.nodes.items) p edge → edge.to < length graph.now.nodes.items }
     requires there { point < length graph.now.nodes.items }
-    requires enough { length sets.old ≤ length starts.old }
-    ensures starts { length starts.new ≡ length starts.old }
     ensures along { (node : AnyNode) → slice_get (nodes_of graph.now.nodes.items) point ≡ Some node → IfOk result (λ dropped. CrossedFrom node exits.now graph.now.result point sets.old sets.new) }
     ensures lowered { (copies : ℕ) (first : Known) → IfOk result (λ dropped. Lowered (nodes_of graph.now.nodes.items) copies graph.now.result first exits.now sets.old sets.new) }
 {
@@ -137,9 +127,7 @@ pub fn cross(
         exits,
         spare: graph.result,
     };
-    starts[point as usize] = 0;
+    let mut work = FactSet::empty(alloc, graph.result + 1)?;
     let node = &graph.nodes[point as usize];
-    let dropped = cross_node(&setting, sets, node, point, starts)?;
-    starts[point as usize] = 1;
-    Ok(dropped)
+    cross_node(&setting, sets, &mut work, node, point)
 }

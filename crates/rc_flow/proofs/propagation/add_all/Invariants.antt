@@ -1,7 +1,7 @@
 use Rattle.std.proofs.Common.{◌≡◌, take}
 use Rattle.rc_facts.specs.declared.fact.Fact.{Fact}
 use Rattle.rc_facts.specs.Facts.{holds}
-use Rattle.rc_flow.specs.Flow.{together}
+use Rattle.rc_facts.specs.Shut.{together}
 use Rattle.rc_flow.proofs.propagation.add_all.Given as goal
 
 abbrev pub invariant-loop-fact : goal.invariant-loop-fact

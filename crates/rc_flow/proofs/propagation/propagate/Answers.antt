@@ -34,3 +34,8 @@ edges-preserved c =
       at_most = next_below (length c.args.edges.now) c.edges.k _ c.next_edge-k.result c.carry-dropped.result c.edges-test.true c.next_edge-k.ensures;
       kept = step_keeps n c.args.scratch c.args.edges.now c.edges.k e c.args.starts.now c.edges.sets c.carry-dropped.new.sets c.carry-dropped.result at c.requires.starts.first c.carry-dropped.ensures.others there c.carry-dropped.ensures.fewer c.edges.invariant.kept c.next_edge-k.result c.next_edge-k.ensures;
     }
+
+pub carry-dropped-requires-clause-closed : goal.carry-dropped-requires-clause-closed
+carry-dropped-requires-clause-closed c =
+    let good : IsEdge c.args.work.now.variables c.args.scratch (length c.args.sets.now) c.index-edges-k.result = subst (IsEdge c.args.work.now.variables c.args.scratch (length c.args.sets.now)) (sym c.index-edges-k.is) (All-get_or (IsEdge c.args.work.now.variables c.args.scratch (length c.args.sets.now)) c.args.edges.now c.edges.k c.index-edges-k.result c.edges-test.true c.requires.edges) in
+    rw c.edges.invariant.same (c.edges.invariant.shut c.index-edges-k.result.from (let from = good.from in let points = c.edges.invariant.points in omega (arith, from, points)))

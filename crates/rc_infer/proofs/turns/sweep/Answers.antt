@@ -11,4 +11,4 @@ pub turn_next-requires : goal.turn_next-requires
 turn_next-requires c = record { turning = turning_on (rlang_of c.args.field.now.code.now) c.args.field.now.graphs.now (family_of c.args.facts.now) (family_of c.loop-turn.facts) c.requires.turning c.loop-turn.invariant }
 
 pub loop-turn-preserved : goal.loop-turn-preserved
-loop-turn-preserved c = swept_both (rlang_of c.args.field.now.code.now) (family_of c.args.facts.now) (family_of c.loop-turn.facts) (family_of c.turn_next.new.facts) c.loop-turn.invariant c.in_ok-more.ensures.swept
+loop-turn-preserved c = swept_both (rlang_of c.args.field.now.code.now) (family_of c.args.facts.now) (family_of c.loop-turn.facts) (family_of c.turn_next.new.facts) c.loop-turn.invariant c.in_ok-more.ensures

@@ -28,7 +28,7 @@ call_from-requires-clause-ready c =
     let m1 = family_of c.come_into.new.facts in
     let m2 = family_of c.cross_from.new.facts in
     let t1 = turning_on r gs m m1 c.requires.turning (lowered_in r gs g graph at m m1 c.requires.turning c.in_ok-come_into.ensures) in
-    let t2 = turning_on r gs m1 m2 t1 (lowered_in r gs g graph at m1 m2 t1 c.in_ok-behind.ensures.lowered) in
+    let t2 = turning_on r gs m1 m2 t1 (lowered_in r gs g graph at m1 m2 t1 c.in_ok-behind.ensures) in
     ready_in r gs g graph at m2 t2
 
 pub leave_from-requires-clause-ready : goal.leave_from-requires-clause-ready
@@ -43,12 +43,12 @@ leave_from-requires-clause-ready c =
     let m2 = family_of c.cross_from.new.facts in
     let m3 = family_of c.call_from.new.facts in
     let t1 = turning_on r gs m m1 c.requires.turning (lowered_in r gs g graph at m m1 c.requires.turning c.in_ok-come_into.ensures) in
-    let t2 = turning_on r gs m1 m2 t1 (lowered_in r gs g graph at m1 m2 t1 c.in_ok-behind.ensures.lowered) in
+    let t2 = turning_on r gs m1 m2 t1 (lowered_in r gs g graph at m1 m2 t1 c.in_ok-behind.ensures) in
     let t3 = turning_on r gs m2 m3 t2 (called_in r gs g graph at c.args.place.point c.requires.there m2 m3 c.in_ok-entry.entry t2 c.in_ok-entry.ensures) in
     ready_in r gs g graph at m3 t3
 
-pub returns-clause-swept : goal.returns-clause-swept
-returns-clause-swept c =
+pub returns : goal.returns
+returns c =
     let r = rlang_of c.args.field.now.code.now in
     let gs = c.args.field.now.graphs.now in
     let g = c.args.place.function in
@@ -61,7 +61,7 @@ returns-clause-swept c =
     let m4 = family_of c.leave_from.new.facts in
     let s1 = lowered_in r gs g graph at m m1 c.requires.turning c.in_ok-come_into.ensures in
     let t1 = turning_on r gs m m1 c.requires.turning s1 in
-    let s2 = lowered_in r gs g graph at m1 m2 t1 c.in_ok-behind.ensures.lowered in
+    let s2 = lowered_in r gs g graph at m1 m2 t1 c.in_ok-behind.ensures in
     let t2 = turning_on r gs m1 m2 t1 s2 in
     let s3 = called_in r gs g graph at c.args.place.point c.requires.there m2 m3 c.in_ok-entry.entry t2 c.in_ok-entry.ensures in
     let t3 = turning_on r gs m2 m3 t2 s3 in

@@ -1,6 +1,6 @@
 use Rattle.std.proofs.Common.{◌-◌, ◌++◌, ◌∷◌, [], sym, ap, ◌∙◌, append_assoc}
 use Rattle.rc_facts.specs.declared.fact.Fact.TheVariants.{In}
-use Rattle.rc_edges.specs.News.{in_each}
+use Rattle.rc_facts.specs.Null.{in_each}
 use Rattle.rc_passing.proofs.Each.{each_last}
 use Rattle.rc_passing.proofs.listing.null.Goals as goal
 

@@ -1,5 +1,5 @@
 use Rattle.std.proofs.Common.{◌≡◌, ◌++◌}
-use Rattle.rc_edges.specs.News.{in_each, null_news}
+use Rattle.rc_facts.specs.Null.{in_each, null_news}
 use Rattle.rc_passing.proofs.listing.null.Given as goal
 
 abbrev pub invariant-loop-other : goal.invariant-loop-other

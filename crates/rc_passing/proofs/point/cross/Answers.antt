@@ -1,4 +1,5 @@
 use Rattle.std.proofs.Common.{◌∙◌, sym, subst, arith}
+use Rattle.std.specs.Prelude.{IfOk}
 use Rattle.rc_graph.specs.Nodes.{node_of, nodes_of}
 use Rattle.rc_boundaries.proofs.Handing.{node_at}
 use Rattle.rc_passing.specs.Passing.{CrossedFrom}
@@ -15,8 +16,8 @@ cross_node-requires-clause-leads c = λ k edge is. (
     omega (arith, to, long))
 
 pub returns-clause-lowered : goal.returns-clause-lowered
-returns-clause-lowered c = λ copies first. c.in_ok-dropped.ensures.lowered (nodes_of c.args.graph.now.nodes.items) copies first (node_at c.args.graph.now.nodes.items c.args.point c.index-node.result.now c.requires.there c.index-node.ensures)
+returns-clause-lowered c = λ copies first. c.cross_node.ensures.lowered (nodes_of c.args.graph.now.nodes.items) copies first (node_at c.args.graph.now.nodes.items c.args.point c.index-node.result.now c.requires.there c.index-node.ensures)
 
 pub returns-clause-along : goal.returns-clause-along
 returns-clause-along c = λ node here.
-    subst (λ n. CrossedFrom n c.args.exits.now c.args.graph.now.result c.args.point c.args.sets.now c.cross_node.new.sets) (some_is (node_of c.index-node.result.now) node (sym (node_at c.args.graph.now.nodes.items c.args.point c.index-node.result.now c.requires.there c.index-node.ensures) ∙ here)) c.in_ok-dropped.ensures.along
+    subst (λ n. IfOk c.cross_node.result (λ _. CrossedFrom n c.args.exits.now c.args.graph.now.result c.args.point c.args.sets.now c.cross_node.new.sets)) (some_is (node_of c.index-node.result.now) node (sym (node_at c.args.graph.now.nodes.items c.args.point c.index-node.result.now c.requires.there c.index-node.ensures) ∙ here)) c.cross_node.ensures.along

@@ -2,7 +2,7 @@ use Rattle.rc_facts.proofs.SetLaws.{empty_set}
 use Rattle.rc_facts.proofs.fact_set.FactSet.empty.Goals as goal
 
 pub invariant_of-result : goal.invariant_of-result
-invariant_of-result c = (empty_set c.args.n c.empty-none.result c.requires c.empty-none.ensures c.in_ok-rows_of.field-0.items c.in_ok-rows_of-2.field-0.items c.in_ok-rows_of.ensures c.in_ok-rows_of-2.ensures).0
+invariant_of-result c = (empty_set c.args.n c.empty-none.result c.requires c.empty-none.ensures c.in_ok-repeated.field-0.items c.in_ok-repeated-2.field-0.items c.in_ok-repeated.ensures c.in_ok-repeated-2.ensures).0
 
 pub returns-clause-facts : goal.returns-clause-facts
-returns-clause-facts c = (empty_set c.args.n c.empty-none.result c.requires c.empty-none.ensures c.in_ok-rows_of.field-0.items c.in_ok-rows_of-2.field-0.items c.in_ok-rows_of.ensures c.in_ok-rows_of-2.ensures).1
+returns-clause-facts c = (empty_set c.args.n c.empty-none.result c.requires c.empty-none.ensures c.in_ok-repeated.field-0.items c.in_ok-repeated-2.field-0.items c.in_ok-repeated.ensures c.in_ok-repeated-2.ensures).1
