@@ -1,13 +1,13 @@
 -- References and cells where several regions go, one after the other.
-use Rattle.std.proofs.Common.{◌≡◌, ◌≢◌, ◌<◌, ◌+◌, ◌∙◌, ◌⊎◌, inl, inr, ℕ, zero, suc, Bool, true, false, cond, nat_eq, IsTrue, List, [], ◌∷◌, Option, Some, None, length, get_or, set as slice_set, refl, sym, ap, subst, arith, rules, get_or-set_other, length-set}
+use Rattle.std.proofs.Common.{◌≡◌, ◌≢◌, ◌<◌, ◌+◌, ◌∙◌, ◌⊎◌, inl, inr, ℕ, zero, suc, Bool, true, false, cond, nat_eq, List, [], ◌∷◌, None, length, get_or, set as slice_set, refl, sym, ap, subst, arith, rules, get_or-set_other, length-set}
 use Rattle.std.specs.Prelude.{◌||◌, ⊤, All, AllPairs, Contains}
-use Rattle.std.specs.List.{count_by, list_any, sum_by}
+use Rattle.std.specs.List.{count_by, sum_by}
 use Rattle.std.proofs.lemmas.Bool.{cases_eq, false≢true}
 use Rattle.std.proofs.lemmas.List.Sums.{sum_by-cons}
 use Rattle.rc_core.specs.Heap.{names}
 use Rattle.rc_store.specs.Kept.{KeptStore, Regions, refs, view_refs}
 use Rattle.rc_store.specs.Sets.{IsSet, deleted_all, is_in, refs_to, without}
-use Rattle.rc_store.specs.Stores.{IsLive, all_cells, cells_in, deleted, live_in, region_at}
+use Rattle.rc_store.specs.Stores.{IsLive, all_cells, cells_in, deleted, region_at}
 use Rattle.rc_store.proofs.Along.{without_read}
 use Rattle.rc_cells.specs.Together.{SetsFollow, held}
 use Rattle.rc_cells.proofs.Cells.{cells_follow}

@@ -13,9 +13,8 @@ use Rattle.rc_rlang.specs.RegionCode.{Routine, Rlang}
 use Rattle.rc_rlang.specs.RegionFlow.{Effect, nothing, nulled, moved, fixed, beside, made, under, loaded, looked_at, stored, present, absent, called, entered, assigned, Edge, Node, copies, routine_nodes}
 use Rattle.rc_annotations.specs.Annotations.{Facts, Annotation, fact_with, is_below, renamed, returned_facts, some_below}
 use Rattle.rc_annotations.proofs.Derivations.{derivable_more}
-use Rattle.rc_flow.specs.Flow.{Behind}
 use Rattle.rc_facts.specs.Shut.{together}
-use Rattle.rc_edges.specs.Edges.{EffectBelow, NodeEdge, all_below, kept, pairs_below, renewed, spare}
+use Rattle.rc_edges.specs.Edges.{EffectBelow, all_below, kept, pairs_below, renewed, spare}
 use Rattle.rc_edges.specs.News.{news_of}
 use Rattle.rc_edges.proofs.Closing.{decided}
 use Rattle.rc_edges.proofs.Lists.{Has, has_left, has_mapped, has_right}

@@ -14,11 +14,11 @@ use Rattle.rc_rlang.specs.IsRlang.{IsRlang}
 use Rattle.rc_rlang.specs.RegionFlow.{Effect, nothing, nulled, moved, fixed, beside, made, under, loaded, looked_at, stored, present, absent, called, entered, assigned, Edge, Node, copies, result_variable, variables, scratch, routine_nodes}
 use Rattle.rc_annotations.specs.Annotations.{Facts, Annotation, Consistent, Follows, allowed, exit_facts, fact_with, gained, is_below, renamed, renamed_by, returned_facts, some_below, NodeEdge}
 use Rattle.rc_annotations.specs.Heights.{temporaries_of}
-use Rattle.rc_annotations.specs.Laws.{Inside, Leaves}
-use Rattle.rc_annotations.proofs.Greatest.{leaves_inside}
+use Rattle.rc_annotations.specs.Laws.{Inside}
+use Rattle.rc_annotations.proofs.Greatest.{follows_inside}
 use Rattle.rc_flow.specs.Flow.{Behind}
 use Rattle.rc_facts.specs.Shut.{together}
-use Rattle.rc_edges.specs.Edges.{AreNews, EffectBelow, NodeEdge, all_below, kept, renewed, spare}
+use Rattle.rc_edges.specs.Edges.{AreNews, EffectBelow, all_below, kept, renewed, spare}
 use Rattle.rc_edges.specs.EdgeLaws.{AllBelow}
 use Rattle.rc_edges.specs.Families.{Owned}
 use Rattle.rc_edges.proofs.Adding.{news_are}

@@ -1,4 +1,4 @@
-use Rattle.std.proofs.Common.{◌≡◌, ◌∙◌, ◌+◌, ℕ, Bool, true, false, cond, nat_eq, [], ◌∷◌, Some, refl, sym, subst, arith}
+use Rattle.std.proofs.Common.{◌≡◌, ◌∙◌, ℕ, zero, suc, [], ◌∷◌, Some, refl, sym, subst, arith}
 use Rattle.std.proofs.lemmas.List.Sums.{sum_by-cons}
 use Rattle.rc_store.specs.Kept.{KeptStore, refs}
 use Rattle.rc_store.specs.Stores.{PinsState, cells_in, no_view}
@@ -12,11 +12,8 @@ abbrev first : KeptStore
 first = record { regions = Some no_view ∷ []; pins = []; spare = 0; region_limit = 0; block_limit = 0 }
 
 none : (r : ℕ) → refs first r ≡ 0
-none r = by (nat_eq 0 r)
-  where
-    by : (b : Bool) → cond {A = ℕ} b 0 0 + 0 + 0 ≡ 0
-    by true = refl
-    by false = refl
+none zero = refl
+none (suc r) = refl
 
 counted_first : (space : SpaceState) (pins : PinsState) → space.regions ≡ Some no_view ∷ [] → ((r : ℕ) → count_of space r ≡ 0) → (let empty : PinsState = record { pins = []; spare = 0 } in pins ≡ empty)
     → IsCounted space (record { regions = space.regions; pins = pins.pins; spare = pins.spare; region_limit = 0; block_limit = 0 }) 0
