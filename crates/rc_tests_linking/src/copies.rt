@@ -74,7 +74,7 @@ fn is_one_copied(alloc: Global, by: u32) -> Result<bool, Fail> {
 fn is_name_copied(name: &Name, by: u32) -> Result<bool, Fail> {
     let (later, same) = (copy_name(name, by)?, same_name(name)?);
     Ok(
-        later.spot.place == 11 + by
+        Some(later.spot.place) == by.checked_add(11)
             && same.spot.place == 11
             && later.text.as_slice() == b"f".as_slice()
             && same.text.as_slice() == b"f".as_slice(),
@@ -93,7 +93,7 @@ fn place_of(type_name: &TypeName) -> Option<u32> {
 fn is_type_copied(alloc: Global, type_name: &TypeName, by: u32) -> Result<bool, Fail> {
     let later = copy_type(alloc, type_name, by)?;
     let same = same_type(alloc, type_name)?;
-    Ok(place_of(&later) == Some(8 + by) && place_of(&same) == Some(8))
+    Ok(place_of(&later) == by.checked_add(8) && place_of(&same) == Some(8))
 }
 
 /// Whether the type and the name of the function are copied.
