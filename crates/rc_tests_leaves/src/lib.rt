@@ -7,8 +7,6 @@ mod bit_sets;
 #[cfg(test)]
 mod cells;
 #[cfg(test)]
-mod closed;
-#[cfg(test)]
 mod facts;
 #[cfg(test)]
 mod generated;
