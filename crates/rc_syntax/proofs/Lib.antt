@@ -1,5 +1,6 @@
 pub mod ByteLaws
 pub mod Finds
+pub mod FirstBytes
 pub mod SpellingTables
 pub mod Classes
 pub mod NamesAndMarks

@@ -1,6 +1,6 @@
 -- How reserved words and marks are spelled (ISO C 6.4.1 and 6.4.6, and RC's own words).
-use Rattle.std.specs.Prelude.{ℕ, List, [], ◌∷◌, Option, find, codes, bytes_eq, nat_eq}
-use Rattle.std.specs.List.{starts_with}
+use Rattle.std.specs.Prelude.{ℕ, Bool, true, List, [], ◌∷◌, Option, find, codes, bytes_eq, nat_eq}
+use Rattle.std.specs.List.{filter, starts_with}
 use Rattle.rc_syntax.specs.declared.word.Key.{Key}
 use Rattle.rc_syntax.specs.declared.word.Key.TheVariants.{Break, Char, Continue, Deletes, Do, Else, Eof, For, If, Int, Null, ParentPtr, Ralloc, RarrayAlloc, Region, Return, SameRegion, Struct, Traditional, Unsigned, Void, While, Auto, Case, Const, Default, Double, Enum, Extern, Float, Goto, Inline, Long, Register, Restrict, Short, Signed, Sizeof, Static, Switch, Typedef, Union, Volatile}
 use Rattle.rc_syntax.specs.declared.word.Mark.{Mark}
@@ -105,6 +105,17 @@ keys = Break ∷ Char ∷ Continue ∷ Deletes ∷ Do ∷ Else ∷ Eof ∷ For �
 -- every mark, the longer ones first
 unfoldable pub marks : List Mark
 marks = ShiftLeftEqual ∷ ShiftRightEqual ∷ Arrow ∷ PlusPlus ∷ MinusMinus ∷ ShiftLeft ∷ ShiftRight ∷ LessEqual ∷ GreaterEqual ∷ EqualEqual ∷ ExclamationEqual ∷ AmpersandAmpersand ∷ BarBar ∷ StarEqual ∷ SlashEqual ∷ PercentEqual ∷ PlusEqual ∷ MinusEqual ∷ AmpersandEqual ∷ CaretEqual ∷ BarEqual ∷ OpenBrace ∷ CloseBrace ∷ OpenParenthesis ∷ CloseParenthesis ∷ OpenBracket ∷ CloseBracket ∷ Semicolon ∷ Comma ∷ Dot ∷ Ampersand ∷ Star ∷ Plus ∷ Minus ∷ Tilde ∷ Exclamation ∷ Slash ∷ Percent ∷ Less ∷ Greater ∷ Caret ∷ Bar ∷ Question ∷ Colon ∷ Equal ∷ []
+
+-- no other byte stands first
+abbrev pub begins_with : ℕ → List ℕ → Bool
+begins_with first [] = true
+begins_with first (b ∷ bs) = nat_eq b first
+
+abbrev pub keys_from : ℕ → List Key
+keys_from first = filter (λ k. begins_with first (key_spelling k)) keys
+
+abbrev pub marks_from : ℕ → List Mark
+marks_from first = filter (λ m. begins_with first (mark_spelling m)) marks
 
 -- the reserved word that these bytes are
 abbrev pub key_named : List ℕ → Option Key

@@ -3,6 +3,7 @@
 #![tactic(auto)]
 
 pub mod fault;
+mod first_bytes;
 pub mod laws;
 pub mod tree;
 pub mod word;

@@ -1,7 +1,9 @@
 // Words.
-ghost use Rattle.std.specs.Prelude.{◌≡◌, List, ℕ, IfOk};
+ghost use Rattle.std.specs.Prelude.{◌≡◌, List, ℕ, IfOk, find, bytes_eq, nat_eq};
+ghost use Rattle.std.specs.List.{starts_with};
 ghost use Rattle.rc_syntax.specs.Spellings.{key_spelling, mark_spelling, keys, marks, key_named, mark_named};
 
+use crate::first_bytes::{keys_from, marks_from};
 use std::alloc::{AllocError, Global};
 use std::marker::Model;
 use std::rc::RcSlice;
@@ -202,17 +204,28 @@ impl Key {
         }
     }
 
-    /// The reserved word that is spelled so.
+    /// The first of them that is spelled so.
     #[tactic(auto, using(crate::proofs::Finds::find_step, crate::proofs::Finds::find_here, crate::proofs::Finds::find_past))]
-    pub fn named(bytes: &[u8]) -> Option<Key>
-        ensures { result ≡ key_named bytes.now }
+    fn among(keys: &[Key], bytes: &[u8]) -> Option<Key>
+        ensures { result ≡ find (λ k. bytes_eq (key_spelling k) bytes.now) keys.now }
     {
-        for key in Key::all() {
+        for key in keys {
             if key.spelling() == bytes {
                 return Some(*key);
             }
         }
         None
+    }
+
+    /// The reserved word that is spelled so. Only those that begin with its first byte are looked at.
+    #[tactic(auto, using(crate::proofs::FirstBytes::no_key))]
+    pub fn named(bytes: &[u8]) -> Option<Key>
+        ensures { result ≡ key_named bytes.now }
+    {
+        match bytes {
+            [] => None,
+            [first, ..] => Key::among(keys_from(*first), bytes),
+        }
     }
 }
 
@@ -376,17 +389,28 @@ impl Mark {
         }
     }
 
-    /// The longest mark at the front of the text.
+    /// The first of them that the text begins with.
     #[tactic(auto, using(crate::proofs::Finds::find_step, crate::proofs::Finds::find_here, crate::proofs::Finds::find_past))]
-    pub fn at_front(text: &[u8]) -> Option<Mark>
-        ensures { result ≡ mark_named text.now }
+    fn among(marks: &[Mark], text: &[u8]) -> Option<Mark>
+        ensures { result ≡ find (λ m. starts_with nat_eq text.now (mark_spelling m)) marks.now }
     {
-        for mark in Mark::all() {
+        for mark in marks {
             if text.starts_with(mark.spelling()) {
                 return Some(*mark);
             }
         }
         None
+    }
+
+    /// The longest mark at the front of the text. Only those that begin with its first byte are looked at.
+    #[tactic(auto, using(crate::proofs::FirstBytes::no_mark))]
+    pub fn at_front(text: &[u8]) -> Option<Mark>
+        ensures { result ≡ mark_named text.now }
+    {
+        match text {
+            [] => None,
+            [first, ..] => Mark::among(marks_from(*first), text),
+        }
     }
 }
 

@@ -1,7 +1,0 @@
-use Rattle.std.proofs.Common.{◌≡◌, drop, find}
-use Rattle.std.specs.Prelude.{bytes_eq}
-use Rattle.rc_syntax.specs.Spellings.{key_spelling, keys, key_named}
-use Rattle.rc_syntax.proofs.word.Key.named.Given as goal
-
-abbrev pub invariant-loop-key : goal.invariant-loop-key
-invariant-loop-key l = key_named l.bytes ≡ find (λ k. bytes_eq (key_spelling k) l.bytes) (drop l.key-index keys)

@@ -1,8 +1,0 @@
-use Rattle.std.proofs.Common.{◌≡◌, drop, find}
-use Rattle.std.specs.Prelude.{nat_eq}
-use Rattle.std.specs.List.{starts_with}
-use Rattle.rc_syntax.specs.Spellings.{mark_spelling, marks, mark_named}
-use Rattle.rc_syntax.proofs.word.Mark.at_front.Given as goal
-
-abbrev pub invariant-loop-mark : goal.invariant-loop-mark
-invariant-loop-mark l = mark_named l.text ≡ find (λ m. starts_with nat_eq l.text (mark_spelling m)) (drop l.mark-index marks)
