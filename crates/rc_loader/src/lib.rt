@@ -14,4 +14,4 @@ mod taken;
 
 pub use fault::{LoadFault, Rule, Violation};
 pub use laws::{an_image_without_marks_is_faithful, there_is_one_first_violation};
-pub use loading::load;
+pub use loading::{load, sound};

@@ -64,6 +64,24 @@ fn first_violation(alloc: Global, parts: &Parts) -> Result<Option<Violation>, Al
     Ok(None)
 }
 
+/// Whether the image keeps the rules of code, with its marks as they are.
+///
+/// # Errors
+///
+/// The first violation of the rules of code, or `Memory`.
+pub fn sound(alloc: Global, image: &Image) -> Result<(), LoadFault>
+    // What is let through is sound.
+    ensures sound { IfOk result (λ _. Sound image.now) }
+    // What isn't breaks a rule, first there, or there was no memory.
+    ensures fault { IfErr result (λ fault. IsFault image.now fault) }
+{
+    match first_violation(alloc, image.parts()) {
+        Err(_) => Err(LoadFault::Memory),
+        Ok(Some(violation)) => Err(LoadFault::Broken(violation)),
+        Ok(None) => Ok(()),
+    }
+}
+
 /// Takes the mark of an instruction away.
 fn unmark(instruction: &mut Instruction)
     ensures { instruction.new ≡ unmarked_instruction instruction.old }
@@ -130,9 +148,8 @@ pub fn load(alloc: Global, image: Image) -> Result<Loaded, LoadFault>
     // What isn't loaded breaks a rule, first there, or there was no memory.
     ensures fault { IfErr result (λ fault. IsFault image fault) }
 {
-    match first_violation(alloc, image.parts()) {
-        Err(_) => Err(LoadFault::Memory),
-        Ok(Some(violation)) => Err(LoadFault::Broken(violation)),
-        Ok(None) => Ok(Loaded::new(Image::new(without_marks(alloc, image.into_parts())))),
+    match sound(alloc, &image) {
+        Err(fault) => Err(fault),
+        Ok(()) => Ok(Loaded::new(Image::new(without_marks(alloc, image.into_parts())))),
     }
 }

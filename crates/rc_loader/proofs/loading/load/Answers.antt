@@ -10,10 +10,8 @@ use Rattle.rc_loader.proofs.loading.load.Goals as goal
 pub new-requires : goal.new-requires
 new-requires c = subst FieldsFit (sym (c.without_marks.ensures ∙ ap unmarked c.into_parts.ensures.parts)) (fields_fit c.args.image c.into_parts.ensures.fit)
 
-pub new-requires-in-Ok-None-clause-sound : goal.new-requires-in-Ok-None-clause-sound
-new-requires-in-Ok-None-clause-sound c =
-    let found = subst (λ o. MatchOption o (Sound c.parts.result.now) (FirstViolation c.parts.result.now)) c.in-Ok-None.field-0-is c.in-Ok-None.ensures in
-    subst Sound (sym (c.new.ensures ∙ c.without_marks.ensures ∙ ap unmarked c.into_parts.ensures.parts)) (stays_sound true c.args.image (subst Sound c.parts.ensures.parts found))
+pub new-requires-in-Ok-clause-sound : goal.new-requires-in-Ok-clause-sound
+new-requires-in-Ok-clause-sound c = subst Sound (sym (c.new.ensures ∙ c.without_marks.ensures ∙ ap unmarked c.into_parts.ensures.parts)) (stays_sound true c.args.image c.in-Ok.ensures.sound)
 
-pub new-requires-in-Ok-None-clause-faithful : goal.new-requires-in-Ok-None-clause-faithful
-new-requires-in-Ok-None-clause-faithful c = subst Faithful (sym (c.new.ensures ∙ c.without_marks.ensures)) (faithful c.into_parts.result)
+pub new-requires-in-Ok-clause-faithful : goal.new-requires-in-Ok-clause-faithful
+new-requires-in-Ok-clause-faithful c = subst Faithful (sym (c.new.ensures ∙ c.without_marks.ensures)) (faithful c.into_parts.result)
