@@ -1,5 +1,5 @@
 // The objects of a region.
-ghost use Rattle.std.specs.Prelude.{◌≡◌, ◌<◌, ◌+◌, ◌*◌, ◌≤◌, ◌++◌, ◌∷◌, [], length, IsTrue, IfOk, OnOk, OnErr, slice_index, slice_index_or};
+ghost use Rattle.std.specs.Prelude.{◌≡◌, ◌<◌, ◌+◌, ◌*◌, ◌≤◌, ◌++◌, ◌∷◌, [], length, IsTrue, IfOk, OnOk, OnErr, slice_index, slice_index_or, vec_capacity};
 ghost use Rattle.rc_core.specs.declared.layouts.Kind.TheVariants.{Number as NumberKind};
 ghost use Rattle.rc_store.specs.Kept.{blank};
 ghost use Rattle.rc_store.specs.Stores.{HasCell, cell_place, cell_value, no_object, objects_with};
@@ -33,6 +33,21 @@ impl<L: Ledger> Model for Area<L> {
     ghost view = { λ a. record { heads = a.heads.items; codes = a.cells } };
 
     ghost invariant = { λ a. length a.cells ≤ 18446744073709551615 };
+}
+
+/// Makes room for one more head: for the first by itself, since many a region has one object alone, and
+/// then for as many as there are.
+#[inline(always)]
+fn reserve_head(heads: &mut Vec<Head>) -> Result<(), NoMemory>
+    ensures heads { heads.new.items ≡ heads.old.items }
+    ensures room { OnOk result (length heads.new.items < vec_capacity heads.new) }
+{
+    if heads.is_empty() {
+        heads.reserve_exact(1)?;
+        return Ok(());
+    }
+    heads.reserve(1)?;
+    Ok(())
 }
 
 impl<L: Ledger> Area<L> {
@@ -175,10 +190,7 @@ impl<L: Ledger> Area<L> {
         ensures err { OnErr result (self.new ≡ self.old) }
     {
         let start = self.cells.len();
-        match self.heads.reserve(1) {
-            Ok(()) => {}
-            Err(_) => return Err(NoMemory),
-        }
+        reserve_head(&mut self.heads)?;
         self.cells.push_zeros(size, bank)?;
         self.heads
             .push(Head {

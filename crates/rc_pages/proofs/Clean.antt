@@ -3,7 +3,7 @@ use Rattle.std.proofs.Common.{◌≡◌, ◌+◌, ◌-◌, ◌*◌, ◌/◌, ◌
 use Rattle.std.specs.List.{concat}
 use Rattle.std.proofs.lemmas.List.{set-append_left, take_at, take-append-le, take-take, take-replicate, replicate-append-replicate}
 use Rattle.std.proofs.lemmas.List.Folds.{concat-append}
-use Rattle.rc_pages.specs.Cells.{Holds, IsClean, IsLonger, pages_for}
+use Rattle.rc_pages.specs.Cells.{Holds, IsClean, IsLonger, pages_under}
 use Rattle.rc_pages.proofs.CellLaws.{all_cells, held-length, held-write, longer-length, take-past}
 
 -- so many more of them become the list's own
@@ -40,8 +40,8 @@ module _ (pages : List (List ℕ)) (len clean : ℕ) (held : Holds pages len) (i
   }
 
 -- pages are appended, and cells made zero behind those that are
-module _ (pages longer cleared : List (List ℕ)) (len clean total count now : ℕ) (held : Holds pages len) (is : IsClean pages len clean) (more : clean < total) (missing : count ≡ pages_for total - length pages) (longer_is : IsLonger pages longer count) (same : length cleared ≡ length longer) (enough : total ≤ now)
-    (few : now ≤ 256 * pages_for total) (cells : take now (concat cleared) ≡ take clean (concat longer) ++ replicate (now - clean) 0) where
+module _ (pages longer cleared : List (List ℕ)) (len clean total count now : ℕ) (held : Holds pages len) (is : IsClean pages len clean) (more : clean < total) (missing : count ≡ pages_under total - length pages) (longer_is : IsLonger pages longer count) (same : length cleared ≡ length longer) (enough : total ≤ now)
+    (few : now ≤ 256 * pages_under total) (cells : take now (concat cleared) ≡ take clean (concat longer) ++ replicate (now - clean) 0) where
   abbrev first : List ℕ
   first = take len (concat pages)
 

@@ -2,4 +2,5 @@ pub mod BigLiteral
 pub mod CellLaws
 pub mod PageMemory
 pub mod Walks
+mod Begun
 mod Clean

@@ -1,5 +1,5 @@
 -- What a bank shows, and how cells lie in pages.
-use Rattle.std.specs.Prelude.{◌≡◌, ◌≤◌, ◌+◌, ◌-◌, ◌*◌, ◌/◌, take, ℕ, suc, List, [], ◌∷◌, ◌++◌, length, replicate, All, Option, Some, None}
+use Rattle.std.specs.Prelude.{◌≡◌, ◌≤◌, ◌+◌, ◌-◌, ◌*◌, ◌/◌, take, ℕ, List, [], ◌∷◌, ◌++◌, length, replicate, All, Option, Some, None}
 use Rattle.std.specs.List.{concat}
 
 -- the places of a bank, and how many of them have a spare page
@@ -7,9 +7,13 @@ pub record BankState : Type 0 where
   pub places : ℕ
   pub kept : ℕ
 
--- how many pages so many cells need
+-- how many pages so many cells need that stand in pages
+abbrev pub pages_under : ℕ → ℕ
+pages_under cells = (cells + 255) / 256
+
+-- how many pages a list of so many cells has: its first four stand inside it
 abbrev pub pages_for : ℕ → ℕ
-pages_for cells = (cells + 255) / 256
+pages_for cells = pages_under (cells - 4)
 
 -- how many more pages a list of so many cells needs for n more
 abbrev pub more_pages : ℕ → ℕ → ℕ
@@ -18,20 +22,14 @@ more_pages cells n = pages_for (cells + n) - pages_for cells
 abbrev pub zero_page : List ℕ
 zero_page = replicate 256 0
 
+-- the cells inside a list that has none of them yet
+abbrev pub few_zeros : List ℕ
+few_zeros = replicate 4 0
+
 -- the cells of pages, and how many more pages have room
 pub record PagesState : Type 0 where
   pub pages : List (List ℕ)
   pub room : ℕ
-
--- the first page and those behind it; without a first there is none
-abbrev pub pages_in : Option (List ℕ) → List (List ℕ) → List (List ℕ)
-pages_in None more = []
-pages_in (Some first) more = first ∷ more
-
--- the room of those behind it, and one place for the first where there is none
-abbrev pub room_beside : Option (List ℕ) → (capacity count : ℕ) → ℕ
-room_beside None capacity count = suc capacity - count
-room_beside (Some first) capacity count = capacity - count
 
 abbrev pub AreWhole : List (List ℕ) → Type 0
 AreWhole pages = All (λ page. length page ≡ 256) pages
@@ -51,10 +49,16 @@ pub record IsLonger (old new : List (List ℕ)) (count : ℕ) : Type 0 where
 -- pages that hold so many cells: each is whole, and there are as many as it needs
 pub record Holds (pages : List (List ℕ)) (cells : ℕ) : Type 0 where
   pub whole : AreWhole pages
-  pub enough : length pages ≡ pages_for cells
+  pub enough : length pages ≡ pages_under cells
 
 -- behind the first cells, so many, all are zero up to here
 pub record IsClean (pages : List (List ℕ)) (cells clean : ℕ) : Type 0 where
   pub behind : cells ≤ clean
   pub inside : clean ≤ 256 * length pages
   pub zeros : take clean (concat pages) ≡ take cells (concat pages) ++ replicate (clean - cells) 0
+
+-- a list of so many cells, the first four inside it: behind its own these are zero, and the rest comes behind all four
+pub record Begins (few rest : List ℕ) (cells : ℕ) : Type 0 where
+  pub four : length few ≡ 4
+  pub zeros : few ≡ take cells few ++ replicate (4 - cells) 0
+  pub behind : length rest ≡ cells - 4

@@ -9,3 +9,4 @@ pub mod Stored
 pub mod TakenOut
 pub mod Writes
 pub mod Walked
+pub mod WayLaws

@@ -7,7 +7,7 @@ use Rattle.std.proofs.Math.Seq.{map-set_same}
 use Rattle.rc_regions.specs.declared.record.Slot.{Slot}
 use Rattle.rc_regions.specs.declared.record.Slot.TheVariants.{Free}
 use Rattle.rc_regions.specs.declared.record.Record.{Record}
-use Rattle.rc_regions.specs.Columns.{Columns, column, columns, grown, links_of, no_links, slots_of, written}
+use Rattle.rc_regions.specs.Columns.{Columns, column, columns, grown, slots_of, written}
 use Rattle.rc_regions.specs.Lists.{placed}
 use Rattle.rc_regions.proofs.Writes.{written_same, written_other}
 
@@ -27,15 +27,15 @@ column-set field beyond records s r below =
 column-kept : {A : Type 0} (field : Record → A) (beyond : A) (records : List Record) (s : ℕ) (r d : Record) → field r ≡ field (get_or records s d) → column field beyond (set records s r) ≡ column field beyond records
 column-kept field beyond records s r d same = ap (λ xs. λ t. get_or xs t beyond) (map-set_same field records s r d same)
 
-columns_equal : (slots slots' : List Slot) (first_free : Option ℕ) (first_child first_child' previous previous' next next' : ℕ → Option ℕ) (depth depth' : ℕ → ℕ) (links links' : ℕ → List ℕ)
-    → slots ≡ slots' → first_child ≡ first_child' → previous ≡ previous' → next ≡ next' → depth ≡ depth' → links ≡ links'
+columns_equal : (slots slots' : List Slot) (first_free : Option ℕ) (first_child first_child' previous previous' next next' : ℕ → Option ℕ) (depth depth' : ℕ → ℕ) (links : ℕ → List ℕ)
+    → slots ≡ slots' → first_child ≡ first_child' → previous ≡ previous' → next ≡ next' → depth ≡ depth'
     → let a : Columns = record { slots = slots; first_free = first_free; first_child = first_child; previous = previous; next = next; depth = depth; links = links } in
-    let b : Columns = record { slots = slots'; first_free = first_free; first_child = first_child'; previous = previous'; next = next'; depth = depth'; links = links' } in
+    let b : Columns = record { slots = slots'; first_free = first_free; first_child = first_child'; previous = previous'; next = next'; depth = depth'; links = links } in
     a ≡ b
-columns_equal slots slots' first_free first_child first_child' previous previous' next next' depth depth' links links' a b c d e f = cc
+columns_equal slots slots' first_free first_child first_child' previous previous' next next' depth depth' links a b c d e = cc
 
 -- a record that was read is written back with changes
-module _ (records : List Record) (free : Option ℕ) (s : ℕ) (now : Record) (made : s < length (columns records free).slots) (was : now ≡ get_or records s now) where
+module _ (records : List Record) (ways : List (List ℕ)) (free : Option ℕ) (s : ℕ) (now : Record) (made : s < length (columns records ways free).slots) (was : now ≡ get_or records s now) where
   below : s < length records
   below = omega (arith, length-map records (λ r. r.slot), made)
 
@@ -45,42 +45,34 @@ module _ (records : List Record) (free : Option ℕ) (s : ℕ) (now : Record) (m
   kept_slots : (r : Record) → r.slot ≡ now.slot → map (λ x. x.slot) (set records s r) ≡ map (λ x. x.slot) records
   kept_slots r same = map-set_same (λ x. x.slot) records s r now (same ∙ ap (λ x. x.slot) was)
 
-  pub columns-first_child : (child : Option ℕ) → columns (set records s (record now { first_child = child })) free ≡ record (columns records free) { first_child = written (columns records free).first_child s child }
+  pub columns-first_child : (child : Option ℕ) → columns (set records s (record now { first_child = child })) ways free ≡ record (columns records ways free) { first_child = written (columns records ways free).first_child s child }
   columns-first_child child =
       let r : Record = record now { first_child = child } in
-      columns_equal _ _ _ _ _ _ _ _ _ _ _ _ _ (kept_slots r refl) (column-set (λ x. x.first_child) None records s r below) (kept (λ x. x.previous) None r refl) (kept (λ x. x.next) None r refl) (kept (λ x. x.depth) 0 r refl) (kept (λ x. x.links) no_links r refl)
+      columns_equal _ _ _ _ _ _ _ _ _ _ _ _ (kept_slots r refl) (column-set (λ x. x.first_child) None records s r below) (kept (λ x. x.previous) None r refl) (kept (λ x. x.next) None r refl) (kept (λ x. x.depth) 0 r refl)
 
-  pub columns-next : (next : Option ℕ) → columns (set records s (record now { next = next })) free ≡ record (columns records free) { next = written (columns records free).next s next }
+  pub columns-next : (next : Option ℕ) → columns (set records s (record now { next = next })) ways free ≡ record (columns records ways free) { next = written (columns records ways free).next s next }
   columns-next next =
       let r : Record = record now { next = next } in
-      columns_equal _ _ _ _ _ _ _ _ _ _ _ _ _ (kept_slots r refl) (kept (λ x. x.first_child) None r refl) (kept (λ x. x.previous) None r refl) (column-set (λ x. x.next) None records s r below) (kept (λ x. x.depth) 0 r refl) (kept (λ x. x.links) no_links r refl)
+      columns_equal _ _ _ _ _ _ _ _ _ _ _ _ (kept_slots r refl) (kept (λ x. x.first_child) None r refl) (kept (λ x. x.previous) None r refl) (column-set (λ x. x.next) None records s r below) (kept (λ x. x.depth) 0 r refl)
 
-  pub columns-previous : (previous : Option ℕ) → columns (set records s (record now { previous = previous })) free ≡ record (columns records free) { previous = written (columns records free).previous s previous }
+  pub columns-previous : (previous : Option ℕ) → columns (set records s (record now { previous = previous })) ways free ≡ record (columns records ways free) { previous = written (columns records ways free).previous s previous }
   columns-previous previous =
       let r : Record = record now { previous = previous } in
-      columns_equal _ _ _ _ _ _ _ _ _ _ _ _ _ (kept_slots r refl) (kept (λ x. x.first_child) None r refl) (column-set (λ x. x.previous) None records s r below) (kept (λ x. x.next) None r refl) (kept (λ x. x.depth) 0 r refl) (kept (λ x. x.links) no_links r refl)
+      columns_equal _ _ _ _ _ _ _ _ _ _ _ _ (kept_slots r refl) (kept (λ x. x.first_child) None r refl) (column-set (λ x. x.previous) None records s r below) (kept (λ x. x.next) None r refl) (kept (λ x. x.depth) 0 r refl)
 
-  pub columns-placed : (list : Slot) (next : Option ℕ) → columns (set records s (record now { slot = list; previous = None; next = next })) free ≡ placed (columns records free) s list next
+  pub columns-placed : (list : Slot) (next : Option ℕ) → columns (set records s (record now { slot = list; previous = None; next = next })) ways free ≡ placed (columns records ways free) s list next
   columns-placed list next =
       let r : Record = record now { slot = list; previous = None; next = next } in
-      columns_equal _ _ _ _ _ _ _ _ _ _ _ _ _ (map-set (λ x. x.slot) records s r) (kept (λ x. x.first_child) None r refl) (column-set (λ x. x.previous) None records s r below) (column-set (λ x. x.next) None records s r below) (kept (λ x. x.depth) 0 r refl) (kept (λ x. x.links) no_links r refl)
+      columns_equal _ _ _ _ _ _ _ _ _ _ _ _ (map-set (λ x. x.slot) records s r) (kept (λ x. x.first_child) None r refl) (column-set (λ x. x.previous) None records s r below) (column-set (λ x. x.next) None records s r below) (kept (λ x. x.depth) 0 r refl)
 
-  pub columns-depth : (depth : ℕ) → columns (set records s (record now { depth = depth })) free ≡ record (columns records free) { depth = written (columns records free).depth s depth }
+  pub columns-depth : (depth : ℕ) → columns (set records s (record now { depth = depth })) ways free ≡ record (columns records ways free) { depth = written (columns records ways free).depth s depth }
   columns-depth depth =
       let r : Record = record now { depth = depth } in
-      columns_equal _ _ _ _ _ _ _ _ _ _ _ _ _ (kept_slots r refl) (kept (λ x. x.first_child) None r refl) (kept (λ x. x.previous) None r refl) (kept (λ x. x.next) None r refl) (column-set (λ x. x.depth) 0 records s r below) (kept (λ x. x.links) no_links r refl)
-
-  pub columns-links : (links : List ℕ) → columns (set records s (record now { links = links })) free ≡ record (columns records free) { links = written (columns records free).links s links }
-  columns-links links =
-      let r : Record = record now { links = links } in
-      columns_equal _ _ _ _ _ _ _ _ _ _ _ _ _ (kept_slots r refl) (kept (λ x. x.first_child) None r refl) (kept (λ x. x.previous) None r refl) (kept (λ x. x.next) None r refl) (kept (λ x. x.depth) 0 r refl) (column-set (λ x. x.links) no_links records s r below)
+      columns_equal _ _ _ _ _ _ _ _ _ _ _ _ (kept_slots r refl) (kept (λ x. x.first_child) None r refl) (kept (λ x. x.previous) None r refl) (kept (λ x. x.next) None r refl) (column-set (λ x. x.depth) 0 records s r below)
 
   -- what was read stands in the columns
   pub read : {A : Type 0} (field : Record → A) (beyond : A) → column field beyond records s ≡ field now
   read field beyond = get_or-map field records s now beyond below ∙ ap field (sym was)
-
-pub links-read : (records : List Record) (s : ℕ) (d : Record) → s < length records → links_of records s ≡ (get_or records s d).links
-links-read records s d below = get_or-map (λ r. r.links) records s d no_links below
 
 pub slots-made : (records : List Record) (s : ℕ) → s < length (slots_of records) → s < length records
 slots-made records s made = omega (arith, length-map records (λ r. r.slot), made)
@@ -93,10 +85,10 @@ get_or-beyond (x ∷ xs) d zero = refl
 get_or-beyond (x ∷ xs) d (suc t) = get_or-beyond xs d t
 
 -- a record more whose fields are as beyond the last record
-module _ (records : List Record) (free : Option ℕ) (blank : Record) where
+module _ (records : List Record) (ways : List (List ℕ)) (free : Option ℕ) (blank : Record) where
   beyond_kept : {A : Type 0} (field : Record → A) (beyond : A) → field blank ≡ beyond → column field beyond (records ++ blank ∷ []) ≡ column field beyond records
   beyond_kept field beyond same = fun_ext (λ t. ap (λ xs. get_or xs t beyond) (map-append field records (blank ∷ []) ∙ ap (λ x. map field records ++ x ∷ []) same) ∙ get_or-beyond (map field records) beyond t)
 
-  pub columns-grown : blank.slot ≡ Free → blank.first_child ≡ None → blank.previous ≡ None → blank.next ≡ None → blank.depth ≡ 0 → blank.links ≡ no_links → columns (records ++ blank ∷ []) free ≡ grown (columns records free)
-  columns-grown slot first_child previous next depth links =
-      columns_equal _ _ _ _ _ _ _ _ _ _ _ _ _ (map-append (λ x. x.slot) records (blank ∷ []) ∙ ap (λ x. map (λ r. r.slot) records ++ x ∷ []) slot) (beyond_kept (λ x. x.first_child) None first_child) (beyond_kept (λ x. x.previous) None previous) (beyond_kept (λ x. x.next) None next) (beyond_kept (λ x. x.depth) 0 depth) (beyond_kept (λ x. x.links) no_links links)
+  pub columns-grown : blank.slot ≡ Free → blank.first_child ≡ None → blank.previous ≡ None → blank.next ≡ None → blank.depth ≡ 0 → columns (records ++ blank ∷ []) ways free ≡ grown (columns records ways free)
+  columns-grown slot first_child previous next depth =
+      columns_equal _ _ _ _ _ _ _ _ _ _ _ _ (map-append (λ x. x.slot) records (blank ∷ []) ∙ ap (λ x. map (λ r. r.slot) records ++ x ∷ []) slot) (beyond_kept (λ x. x.first_child) None first_child) (beyond_kept (λ x. x.previous) None previous) (beyond_kept (λ x. x.next) None next) (beyond_kept (λ x. x.depth) 0 depth)

@@ -1,5 +1,5 @@
 -- The records of all slots, column by column, and what a write does to a column.
-use Rattle.std.specs.Prelude.{ℕ, List, [], ◌∷◌, ◌++◌, Option, None, map, replicate, slice_index_or, nat_eq, if◌then◌else◌}
+use Rattle.std.specs.Prelude.{ℕ, List, [], ◌∷◌, ◌++◌, Option, None, map, slice_index_or, nat_eq, if◌then◌else◌}
 use Rattle.rc_regions.specs.declared.record.Slot.{Slot}
 use Rattle.rc_regions.specs.declared.record.Slot.TheVariants.{Free}
 use Rattle.rc_regions.specs.declared.record.Record.{Record}
@@ -18,32 +18,29 @@ pub record Columns : Type 0 where
 abbrev pub column : {A : Type 0} → (Record → A) → A → List Record → ℕ → A
 column field beyond records s = slice_index_or (map field records) s beyond
 
--- every link leads to the root
-unfoldable pub no_links : List ℕ
-no_links = replicate 32 0
-
 abbrev pub slots_of : List Record → List Slot
 slots_of records = map (λ r. r.slot) records
 
-abbrev pub links_of : List Record → ℕ → List ℕ
-links_of records = column (λ r. r.links) no_links records
+-- the links of a slot, one in each column; behind the end of one is the root
+abbrev pub links_in : List (List ℕ) → ℕ → List ℕ
+links_in ways s = map (λ way. slice_index_or way s 0) ways
 
 abbrev pub depth_of : List Record → ℕ → ℕ
 depth_of records = column (λ r. r.depth) 0 records
 
-abbrev pub columns : List Record → Option ℕ → Columns
-columns records first_free = record {
+abbrev pub columns : List Record → List (List ℕ) → Option ℕ → Columns
+columns records ways first_free = record {
   slots = slots_of records;
   first_free = first_free;
   first_child = column (λ r. r.first_child) None records;
   previous = column (λ r. r.previous) None records;
   next = column (λ r. r.next) None records;
   depth = depth_of records;
-  links = links_of records;
+  links = links_in ways;
 }
 
 abbrev pub columns_of : Table → Columns
-columns_of table = columns table.records.items table.first_free
+columns_of table = columns table.records.items table.ways table.first_free
 
 -- a column with another value at this slot
 unfoldable pub written : {A : Type 0} → (ℕ → A) → ℕ → A → ℕ → A

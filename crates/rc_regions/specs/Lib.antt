@@ -4,3 +4,4 @@ pub mod Columns
 pub mod Lists
 pub mod Slots
 pub mod Sound
+pub mod Ways

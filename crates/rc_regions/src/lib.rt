@@ -5,5 +5,6 @@ mod ascent;
 mod record;
 mod table;
 mod tree;
+mod ways;
 
 pub use tree::Tree;

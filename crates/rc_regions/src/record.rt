@@ -1,8 +1,5 @@
 // The record of a slot.
 
-/// How many ancestors a record links to: depths are below 2 to the power of this number.
-const LINKS: usize = 32;
-
 /// What stands at a slot.
 #[derive(Clone, Copy)]
 pub(crate) enum Slot {
@@ -23,10 +20,6 @@ pub(crate) struct Record {
     pub next: Option<u32>,
     /// How many ancestors the slot has.
     pub depth: u32,
-    /// The ancestors 1, 2, 4, 8 and so on above, as many as the depth has binary digits; what stands
-    /// behind them is never read. They stand here and not in a vector of their own, so that a slot that
-    /// is used again needs no memory.
-    pub links: [u32; LINKS],
 }
 
 /// The record of a free slot that stands in no list.
@@ -36,5 +29,4 @@ pub(crate) const BLANK: Record = Record {
     previous: None,
     next: None,
     depth: 0,
-    links: [0; LINKS],
 };

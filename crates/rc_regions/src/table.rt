@@ -1,14 +1,16 @@
 // The records of all slots, and the lists in which the slots stand.
-ghost use Rattle.std.specs.Prelude.{◌≡◌, ◌<◌, ◌≤◌, ◌+◌, ℕ, Some, length, slice_index, slice_set, IfOk, OnErr};
+ghost use Rattle.std.specs.Prelude.{◌≡◌, ◌<◌, ◌≤◌, ◌+◌, ℕ, [], Some, length, slice_index_or, slice_set, IfOk, OnErr, OnOk};
 ghost use Rattle.rc_regions.specs.declared.record.Slot.TheVariants.{Free, Child};
 ghost use Rattle.rc_regions.specs.Above.{IsRooted};
 ghost use Rattle.rc_regions.specs.Ascents.{AreAscents};
 ghost use Rattle.rc_regions.specs.Columns.{columns_of, relinked};
 ghost use Rattle.rc_regions.specs.Slots.{IsLive, live_slots};
 ghost use Rattle.rc_regions.specs.Sound.{IsAscended, IsRelinked, IsSoundTree, IsTaken};
+ghost use Rattle.rc_regions.specs.Ways.{NoneShorter, Reach};
 ghost use Rattle.rc_regions.specs.Lists.{AllLinked, first_of, linked, placed, spot, unlinked, with_first, with_follower, with_previous};
 
 use crate::record::{BLANK, Record, Slot};
+use crate::ways::Ways;
 use rc_base::NoMemory;
 
 /// Each slot but the root's stands in one list: the children of its parent, or the free slots. So a
@@ -16,6 +18,7 @@ use rc_base::NoMemory;
 #[derive(Drop)]
 pub(crate) struct Table {
     pub records: Vec<Record>,
+    pub ways: Ways,
     pub first_free: Option<u32>,
 }
 
@@ -35,7 +38,8 @@ impl Table {
     /// Another slot comes first in a list.
     fn set_first(&mut self, list: Slot, first: Option<u32>)
         requires { (parent : ℕ) → list ≡ Child parent → parent < length (columns_of self.old).slots }
-        ensures { columns_of self.new ≡ with_first (columns_of self.old) list first }
+        ensures columns { columns_of self.new ≡ with_first (columns_of self.old) list first }
+        ensures ways { self.new.ways ≡ self.old.ways }
     {
         match list {
             Slot::Free => self.first_free = first,
@@ -48,7 +52,8 @@ impl Table {
     fn set_follower(&mut self, list: Slot, before: Option<u32>, follower: Option<u32>)
         requires parent { (parent : ℕ) → list ≡ Child parent → parent < length (columns_of self.old).slots }
         requires before { (slot : ℕ) → before ≡ Some slot → slot < length (columns_of self.old).slots }
-        ensures { columns_of self.new ≡ with_follower (columns_of self.old) (spot list before) follower }
+        ensures columns { columns_of self.new ≡ with_follower (columns_of self.old) (spot list before) follower }
+        ensures ways { self.new.ways ≡ self.old.ways }
     {
         match before {
             Some(before) => self.records[before as usize].next = follower,
@@ -59,7 +64,8 @@ impl Table {
     /// Another slot comes before one, if that is one.
     fn set_previous(&mut self, slot: Option<u32>, previous: Option<u32>)
         requires { (s : ℕ) → slot ≡ Some s → s < length (columns_of self.old).slots }
-        ensures { columns_of self.new ≡ with_previous (columns_of self.old) slot previous }
+        ensures columns { columns_of self.new ≡ with_previous (columns_of self.old) slot previous }
+        ensures ways { self.new.ways ≡ self.old.ways }
     {
         if let Some(slot) = slot {
             self.records[slot as usize].previous = previous;
@@ -77,23 +83,14 @@ impl Table {
         record.next = next;
     }
 
-    /// A link of a slot.
-    fn link_at(&self, slot: u32, power: usize) -> u32
-        requires made { slot < length (columns_of self.now).slots }
-        requires power { power < 32 }
-        ensures { result ≡ slice_index ((columns_of self.now).links slot) power }
-    {
-        self.records[slot as usize].links[power]
-    }
-
     /// Writes a link of a slot.
     fn set_link(&mut self, slot: u32, power: usize, above: u32)
-        requires made { slot < length (columns_of self.old).slots }
         requires power { power < 32 }
-        ensures { columns_of self.new ≡ relinked (columns_of self.old) slot (slice_set ((columns_of self.old).links slot) power above) }
+        requires place { slot < length (slice_index_or self.old.ways power []) }
+        ensures links { columns_of self.new ≡ relinked (columns_of self.old) slot (slice_set ((columns_of self.old).links slot) power above) }
+        ensures places { NoneShorter self.old.ways self.new.ways }
     {
-        let record = &mut self.records[slot as usize];
-        record.links[power] = above;
+        self.ways.set_link(slot, power, above);
     }
 
     /// Writes the links of a slot that becomes a child of this parent, as many as its depth has binary
@@ -105,6 +102,7 @@ impl Table {
         requires live { IsLive (columns_of self.old).slots parent }
         requires ascents { AreAscents (columns_of self.old).slots (columns_of self.old).depth (columns_of self.old).links }
         requires deep { depth ≡ (columns_of self.old).depth parent + 1 }
+        requires places { Reach self.old.ways (slot + 1) depth }
         ensures { IsRelinked (columns_of self.old) (columns_of self.new) slot parent depth }
     {
         let mut above = parent;
@@ -112,7 +110,7 @@ impl Table {
         let mut reach: u64 = 1;
         while reach <= depth as u64 {
             self.set_link(slot, power, above);
-            above = self.link_at(above, power);
+            above = self.ways.link_at(above, power);
             power += 1;
             reach *= 2;
         }
@@ -125,6 +123,7 @@ impl Table {
         requires live { IsLive (columns_of self.old).slots parent }
         requires ascents { AreAscents (columns_of self.old).slots (columns_of self.old).depth (columns_of self.old).links }
         requires deep { depth ≡ (columns_of self.old).depth parent + 1 }
+        requires places { Reach self.old.ways (slot + 1) depth }
         ensures { IsAscended (columns_of self.old) (columns_of self.new) slot parent depth }
     {
         self.set_links(slot, parent, depth);
@@ -137,7 +136,8 @@ impl Table {
         requires made { slot < length (columns_of self.old).slots }
         requires linked { AllLinked (columns_of self.old) }
         requires rooted { IsRooted (columns_of self.old).slots }
-        ensures { columns_of self.new ≡ unlinked (columns_of self.old) slot }
+        ensures columns { columns_of self.new ≡ unlinked (columns_of self.old) slot }
+        ensures ways { self.new.ways ≡ self.old.ways }
     {
         let Record {
             slot: list,
@@ -162,12 +162,25 @@ impl Table {
         self.set_first(list, Some(slot));
     }
 
+    /// The next slot has a place for the links of a slot so deep, whether it is free now or has no record
+    /// yet.
+    fn reserve(&mut self, depth: u32) -> Result<(), NoMemory>
+        requires { length (columns_of self.old).slots ≤ 4294967296 }
+        ensures columns { columns_of self.new ≡ columns_of self.old }
+        ensures places { OnOk result (Reach self.new.ways (length (columns_of self.old).slots + 1) depth) }
+    {
+        let slots = self.records.len() + 1;
+        self.ways.reserve(slots, depth)
+    }
+
     /// A free slot that stands in no list. It has a new record only where no slot was free.
-    pub(crate) fn take_slot(&mut self) -> Result<u32, NoMemory>
+    fn next_slot(&mut self) -> Result<u32, NoMemory>
         requires sound { IsSoundTree (columns_of self.old) }
         requires room { live_slots (columns_of self.old).slots ≤ 4294967295 }
         ensures ok { IfOk result (λ slot. IsTaken (columns_of self.old) (columns_of self.new) slot) }
+        ensures next { IfOk result (λ slot. slot ≤ length (columns_of self.old).slots) }
         ensures err { OnErr result (columns_of self.new ≡ columns_of self.old) }
+        ensures ways { self.new.ways ≡ self.old.ways }
     {
         match self.first_free {
             Some(slot) => {
@@ -182,5 +195,16 @@ impl Table {
                 }
             }
         }
+    }
+    /// A free slot that stands in no list, with a place for the links of a slot so deep.
+    pub(crate) fn take_slot(&mut self, depth: u32) -> Result<u32, NoMemory>
+        requires sound { IsSoundTree (columns_of self.old) }
+        requires room { live_slots (columns_of self.old).slots ≤ 4294967295 }
+        ensures ok { IfOk result (λ slot. IsTaken (columns_of self.old) (columns_of self.new) slot) }
+        ensures places { IfOk result (λ slot. Reach self.new.ways (slot + 1) depth) }
+        ensures err { OnErr result (columns_of self.new ≡ columns_of self.old) }
+    {
+        self.reserve(depth)?;
+        self.next_slot()
     }
 }

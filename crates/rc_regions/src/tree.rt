@@ -7,6 +7,7 @@ ghost use Rattle.rc_regions.specs.Slots.{HasUnmarked, IsLive, IsParent, live_slo
 use crate::ascent::climb;
 use crate::record::{BLANK, Record, Slot};
 use crate::table::Table;
+use crate::ways::Ways;
 use rc_base::{NoMemory, Steps};
 use std::alloc::Global;
 use std::marker::Model;
@@ -39,6 +40,7 @@ impl Tree {
         ensures root { IfOk result (λ tree. tree ≡ Root ∷ []) }
         ensures tree { IfOk result (λ tree. IsTree tree) }
     {
+        let ways = Ways::new(alloc)?;
         let mut records = Vec::new(alloc);
         let root = Record {
             slot: Slot::Root,
@@ -48,6 +50,7 @@ impl Tree {
             Ok(()) => Ok(Tree {
                 table: Table {
                     records,
+                    ways,
                     first_free: None,
                 },
             }),
@@ -72,7 +75,7 @@ impl Tree {
         ensures tree { IsTree self.new }
     {
         let depth = self.table.records[parent as usize].depth + 1;
-        let slot = self.table.take_slot()?;
+        let slot = self.table.take_slot(depth)?;
         self.table.set_ascent(slot, parent, depth);
         self.table.link(slot, Slot::Child(parent));
         Ok(slot)
@@ -140,6 +143,6 @@ impl Tree {
         if b_depth < a_depth {
             return false;
         }
-        climb(records, b, b_depth - a_depth, steps) == a
+        climb(&self.table, b, b_depth - a_depth, steps) == a
     }
 }

@@ -1,11 +1,9 @@
-use Rattle.std.proofs.Common.{◌∙◌, sym, ap, set}
-use Rattle.rc_regions.specs.Columns.{columns_of, no_links, relinked}
-use Rattle.rc_regions.proofs.Stored.{columns-links, read}
+use Rattle.std.proofs.Common.{◌∙◌, ap, arith}
+use Rattle.rc_regions.specs.Columns.{Columns, columns_of, links_in}
+use Rattle.rc_regions.proofs.WayLaws.{links-written}
 use Rattle.rc_regions.proofs.table.Table.set_link.Goals as goal
 
-pub returns : goal.returns
-returns c =
+pub returns-clause-links : goal.returns-clause-links
+returns-clause-links c =
     let table = c.args.self.now in
-    let was = read table.records.items table.first_free c.args.slot c.index_mut-record.result.now c.requires.made c.index_mut-record.ensures.value (λ r. r.links) no_links in
-    columns-links table.records.items table.first_free c.args.slot c.index_mut-record.result.now c.requires.made c.index_mut-record.ensures.value (set c.index_mut-record.result.now.links c.args.power c.args.above)
-    ∙ ap (λ links. relinked (columns_of table) c.args.slot (set links c.args.power c.args.above)) (sym was)
+    ap (λ links. let all : Columns = record (columns_of table) { links = links } in all) (ap links_in c.set_link.ensures.written ∙ links-written table.ways c.args.power (omega (arith, c.set_link.ensures.long, c.requires.power)) c.args.slot c.args.above c.requires.place)

@@ -16,7 +16,7 @@ overflow_add-depth c =
     let table = c.self.inside.table in
     let old : Columns = columns_of table in
     let live = subst (λ slots. IsLive slots c.args.parent) (sym c.self.view_is) c.requires.live in
-    let depth = read table.records.items table.first_free c.args.parent c.index.result.now (live_made old.slots c.args.parent live) c.index.ensures (λ r. r.depth) 0 in
+    let depth = read table.records.items table.ways table.first_free c.args.parent c.index.result.now (live_made old.slots c.args.parent live) c.index.ensures (λ r. r.depth) 0 in
     let less = depth_less old.slots c.self.invariant.rooted old.depth c.self.invariant.depths c.args.parent live in
     let room = c.requires.room in
     let fits : c.index.result.now.depth + 1 < 2 ^ 32 = omega (arith, depth, less, room, ap live_slots c.self.view_is) in
@@ -36,7 +36,7 @@ set_ascent-requires-clause-ascents c = AreAscents-taken (columns_of c.self.insid
 
 -- the depth that was read, and one more
 deepened : (table : Table) (parent : ℕ) (now : Record) → IsLive (columns_of table).slots parent → now ≡ slice_index_or table.records.items parent now → now.depth + 1 ≡ (columns_of table).depth parent + 1
-deepened table parent now live is = ap (λ d. d + 1) (sym (read table.records.items table.first_free parent now (live_made (columns_of table).slots parent live) is (λ r. r.depth) 0))
+deepened table parent now live is = ap (λ d. d + 1) (sym (read table.records.items table.ways table.first_free parent now (live_made (columns_of table).slots parent live) is (λ r. r.depth) 0))
 
 pub set_ascent-requires-clause-deep : goal.set_ascent-requires-clause-deep
 set_ascent-requires-clause-deep c =

@@ -23,7 +23,7 @@ returns-clause-child c =
     let slot = c.args.slot in
     let linked = c.self.invariant.linked in
     let live = subst (λ slots. IsLive slots slot) (sym c.self.view_is) c.requires in
-    let first : old.first_child slot ≡ c.index.result.now.first_child = read table.records.items table.first_free slot c.index.result.now (live_made old.slots slot live) c.index.ensures (λ r. r.first_child) None in
+    let first : old.first_child slot ≡ c.index.result.now.first_child = read table.records.items table.ways table.first_free slot c.index.result.now (live_made old.slots slot live) c.index.ensures (λ r. r.first_child) None in
     let answer : is_some (old.first_child slot) ≡ c.is_some.result = ap is_some first ∙ sym c.is_some.ensures in
     subst (λ slots. (IsTrue c.is_some.result → IsParent slots slot) × (IsParent slots slot → IsTrue c.is_some.result)) c.self.view_is (
       (λ yes. let child = some_value (old.first_child slot) (answer ∙ yes) in first_has_parent old linked slot child.0 child.1),

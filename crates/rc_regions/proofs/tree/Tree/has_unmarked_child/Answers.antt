@@ -1,9 +1,8 @@
-use Rattle.std.proofs.Common.{◌≡◌, ◌<◌, ◌∙◌, ℕ, true, false, IsTrue, None, Some, length, get_or, sym, ap, subst, refl, arith, add-one, below_more}
+use Rattle.std.proofs.Common.{◌≡◌, ◌∙◌, ℕ, false, None, Some, length, get_or, sym, ap, refl, arith, add-one, below_more}
 use Rattle.std.proofs.lemmas.Bool.{false≢true}
 use Rattle.std.proofs.lemmas.List.{length-map}
-use Rattle.rc_regions.specs.declared.record.Slot.TheVariants.{Child}
-use Rattle.rc_regions.specs.Columns.{Columns, column, columns_of}
-use Rattle.rc_regions.specs.Slots.{HasUnmarked, IsUnmarked, is_live, slot_at}
+use Rattle.rc_regions.specs.Columns.{Columns, columns_of}
+use Rattle.rc_regions.specs.Slots.{IsUnmarked, is_live, slot_at}
 use Rattle.rc_regions.proofs.Stored.{read, slots-made}
 use Rattle.rc_regions.proofs.Walked.{after, met_before, met_child, met_end, walk}
 use Rattle.rc_regions.proofs.tree.Tree.has_unmarked_child.Goals as goal
@@ -46,7 +45,7 @@ loop-preserved c =
     let child = c.in-Some.child in
     let here : walk old.next (old.first_child c.args.slot) c.loop.counter ≡ Some child = sym c.loop.invariant.at ∙ c.in-Some.is in
     let made = (met_child old c.self.invariant.linked c.args.slot c.loop.counter child here).0 in
-    let next : old.next child ≡ c.index-in-loop.result.now.next = read table.records.items table.first_free child c.index-in-loop.result.now made c.index-in-loop.ensures (λ r. r.next) None in
+    let next : old.next child ≡ c.index-in-loop.result.now.next = read table.records.items table.ways table.first_free child c.index-in-loop.result.now made c.index-in-loop.ensures (λ r. r.next) None in
     record {
       at = sym (ap (walk old.next (old.first_child c.args.slot)) (add-one c.loop.counter) ∙ ap (after old.next) here ∙ next);
       marked = below_more (λ k. (s : ℕ) → walk old.next (old.first_child c.args.slot) k ≡ Some s → IsUnmarked c.args.marks.now s → ⊥) c.loop.counter c.loop.invariant.marked

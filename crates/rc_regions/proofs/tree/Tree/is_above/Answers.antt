@@ -1,11 +1,11 @@
-use Rattle.std.proofs.Common.{◌≡◌, ◌≤◌, ◌∙◌, ◌-◌, ℕ, true, IsTrue, List, nat_eq, slice_index_or, count_ones, sym, ap, subst, rules, arith}
+use Rattle.std.proofs.Common.{◌≡◌, ◌∙◌, ◌-◌, ℕ, true, IsTrue, List, nat_eq, slice_index_or, count_ones, sym, ap, subst, rules, arith}
 use Rattle.std.proofs.lemmas.Nat.{ones-le}
 use Rattle.rc_regions.specs.declared.record.Slot.{Slot}
 use Rattle.rc_regions.specs.declared.record.Record.{Record}
 use Rattle.rc_regions.specs.declared.table.Table.{Table}
 use Rattle.rc_regions.specs.Above.{Above, HasDepth, IsTree}
-use Rattle.rc_regions.specs.Ascents.{AreAscents, ancestor}
-use Rattle.rc_regions.specs.Columns.{Columns, columns_of, depth_of, links_of, slots_of}
+use Rattle.rc_regions.specs.Ascents.{ancestor}
+use Rattle.rc_regions.specs.Columns.{Columns, columns_of, slots_of}
 use Rattle.rc_regions.specs.Slots.{IsLive}
 use Rattle.rc_regions.proofs.Ancestors.{Above-ancestor, above_deeper, above_found, depth-unique}
 use Rattle.rc_regions.proofs.Counted.{live_made}
@@ -22,7 +22,7 @@ same_number m n same = search rules
 -- a depth that was read
 depth_read : (table : Table) (slots : List Slot) (s : ℕ) (now : Record) → slots_of table.records.items ≡ slots → IsLive slots s → now ≡ slice_index_or table.records.items s now → (columns_of table).depth s ≡ now.depth
 depth_read table slots s now view live is =
-    read table.records.items table.first_free s now (live_made (slots_of table.records.items) s (subst (λ xs. IsLive xs s) (sym view) live)) is (λ r. r.depth) 0
+    read table.records.items table.ways table.first_free s now (live_made (slots_of table.records.items) s (subst (λ xs. IsLive xs s) (sym view) live)) is (λ r. r.depth) 0
 
 pub returns-then-b_depth-a_depth-clause-above : goal.returns-then-b_depth-a_depth-clause-above
 returns-then-b_depth-a_depth-clause-above g c =
@@ -43,12 +43,12 @@ returns-then-b_depth-a_depth-clause-tree g c = subst IsTree c.self.view_is (IsTr
 pub climb-requires-clause-far : goal.climb-requires-clause-far
 climb-requires-clause-far g c =
     let b_depth = depth_read c.self.inside.table c.args.self.now c.args.b c.index-2.result.now c.self.view_is c.requires.b c.index-2.ensures in
-    subst (λ records. c.index-2.result.now.depth - c.index.result.now.depth ≤ depth_of records c.args.b) (sym c.deref.ensures.value) (omega (arith, b_depth))
+    omega (arith, b_depth)
 
 pub climb-requires-clause-ascents : goal.climb-requires-clause-ascents
 climb-requires-clause-ascents g c =
     let sound = c.self.invariant in
-    subst (λ records. AreAscents (slots_of records) (depth_of records) (links_of records)) (sym c.deref.ensures.value) (record { rooted = sound.rooted; depths = sound.depths; ways = sound.links; long = sound.long })
+    record { rooted = sound.rooted; depths = sound.depths; ways = sound.links; long = sound.long }
 
 pub returns-clause-above : goal.returns-clause-above
 returns-clause-above g c =
@@ -61,7 +61,7 @@ returns-clause-above g c =
     let b_depth = depth_read table c.args.self.now b c.index-2.result.now c.self.view_is c.requires.b c.index-2.ensures in
     let distance : c.index-2.result.now.depth - c.index.result.now.depth ≡ old.depth b - old.depth a = omega (arith, a_depth, b_depth) in
     let found : c.climb.result ≡ ancestor old.slots (old.depth b - old.depth a) b =
-    c.climb.ensures.above ∙ ap (λ records. ancestor (slots_of records) (c.index-2.result.now.depth - c.index.result.now.depth) b) c.deref.ensures.value ∙ ap (λ n. ancestor old.slots n b) distance in
+    c.climb.ensures.above ∙ ap (λ n. ancestor old.slots n b) distance in
     subst (λ slots. (IsTrue (nat_eq c.climb.result a) → Above slots a b) × (Above slots a b → IsTrue (nat_eq c.climb.result a))) c.self.view_is (
       (λ same. subst (λ s. Above old.slots s b) (sym found ∙ is_number c.climb.result a same) (Above-ancestor old.slots (old.depth b - old.depth a) b)),
       (λ above. same_number c.climb.result a (found ∙ above_found old.slots sound.rooted old.depth sound.depths a b above)),

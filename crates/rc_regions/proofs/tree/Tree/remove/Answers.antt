@@ -17,8 +17,8 @@ link-requires-clause-first c = λ first is.
     let live = subst (λ slots. IsLive slots c.args.slot) (sym c.self.view_is) c.requires.live in
     let not_root = λ (root : slot_at old.slots c.args.slot ≡ Root). c.requires.not_root (sound.rooted.only_root c.args.slot root) in
     let loose = AllLinkedBut-unlinked old c.args.slot sound.linked (live_made old.slots c.args.slot live) not_root in
-    let free : (unlinked old c.args.slot).first_free ≡ Some first = ap (λ (columns : Columns). columns.first_free) (sym c.unlink.ensures) ∙ is in
-    subst (λ (columns : Columns). first < length columns.slots) (sym c.unlink.ensures) (loose.stands (Head Free) first (λ same. cc) free).0
+    let free : (unlinked old c.args.slot).first_free ≡ Some first = ap (λ (columns : Columns). columns.first_free) (sym c.unlink.ensures.columns) ∙ is in
+    subst (λ (columns : Columns). first < length columns.slots) (sym c.unlink.ensures.columns) (loose.stands (Head Free) first (λ same. cc) free).0
 
 pub invariant_of-self : goal.invariant_of-self
 invariant_of-self c =
@@ -26,7 +26,7 @@ invariant_of-self c =
     let slot = c.args.slot in
     let live = subst (λ slots. IsLive slots slot) (sym c.self.view_is) c.requires.live in
     let leaf = subst (λ slots. ¬ IsParent slots slot) (sym c.self.view_is) c.requires.leaf in
-    subst IsSoundTree (sym (c.link.ensures ∙ ap (λ columns. linked columns slot Free) c.unlink.ensures)) (IsSoundTree-removed old slot c.self.invariant live c.requires.not_root leaf)
+    subst IsSoundTree (sym (c.link.ensures ∙ ap (λ columns. linked columns slot Free) c.unlink.ensures.columns)) (IsSoundTree-removed old slot c.self.invariant live c.requires.not_root leaf)
 
 pub returns-clause-tree : goal.returns-clause-tree
 returns-clause-tree c = IsTree-sound (columns_of c.link.new.self) (invariant_of-self c)
