@@ -14,9 +14,9 @@ use Rattle.rc_code.specs.Image.{IsNumber, InstructionFits, TypeFits, StorageFits
 use Rattle.rc_image.specs.declared.version.Version.{Version}
 use Rattle.rc_image.specs.declared.version.Version.TheVariants.{One, Two}
 use Rattle.rc_fields.specs.Spelling.{number, counted, type_bytes, storage_bytes, result_bytes, global_bytes, path_bytes}
-use Rattle.rc_image.specs.Spelling.{instruction_bytes, lines_bytes, function_bytes, version_number, start_bytes, proofs_bytes, end_bytes, parts_bytes, spelling}
+use Rattle.rc_image.specs.Spelling.{instruction_bytes, lines_bytes, function_bytes, version_number, start_bytes, proofs_bytes, fields_bytes, parts_bytes, spelling}
 use Rattle.rc_fields.specs.Reading.{◌>>=◌, Fault, extra, wrong_magic, wrong_version, Read, number_at, number_within, many, counted_at, types_at, global_at, path_at, storage_at, result_at}
-use Rattle.rc_image.specs.Reading.{instruction_at, lines_at, head_at, body_at, function_at, proofs_at, parts_at, letter_at, version_at, start_at, parts_of}
+use Rattle.rc_image.specs.Reading.{instruction_at, lines_at, head_at, body_at, function_at, proofs_at, fields_at, parts_at, letter_at, version_at, start_at, parts_of}
 use Rattle.rc_fields.proofs.Codecs.{IsBytes, bind_ok, no_else, chosen, ok_is, Takes, Takes-then, Takes-nothing, Law, number_law, within_law, takes_then, many_law, counted_law}
 use Rattle.rc_fields.proofs.Fields.{types_law, storage_law, result_law}
 use Rattle.rc_image.proofs.Operands.{instruction_law}
@@ -140,33 +140,36 @@ proofs_take Two bytes rest fits e =
     let none : a.0.0 ≡ 0 = omega (arith, a.2.1) in
     subst (λ (r : List ℕ). Takes bytes (number 0) r) (ok_is a.0.1 rest a.3) (subst (λ (n : ℕ). Takes bytes (number n) a.0.1) none a.1)
 
-pub parts_again : (v : Version) (p : Parts) (rest : List ℕ) → FieldsFit p → parts_at v (parts_bytes v p ++ rest) ≡ Ok (p, rest)
-unfolding parts_at
-parts_again v p rest fits =
+pub fields_again : (v : Version) (p : Parts) (rest : List ℕ) → FieldsFit p → fields_at v (fields_bytes v p ++ rest) ≡ Ok (p, rest)
+unfolding fields_at
+fields_again v p rest fits =
     let types_most : length p.types ≤ 4294967296 = omega (arith, fits.type_count) in
     let functions_most : length p.functions ≤ 4294967296 = omega (arith, fits.function_count) in
-    let end = number p.main ++ (proofs_bytes v ++ rest) in
+    let end = number p.main ++ rest in
     let functions = counted (function_bytes v) p.functions ++ end in
     let paths = counted path_bytes p.paths ++ functions in
     let globals = counted global_bytes p.globals ++ paths in
-    let regrouped : parts_bytes v p ++ rest ≡ counted type_bytes p.types ++ globals = simp append_assoc in
-    ap (parts_at v) regrouped
+    let regrouped : fields_bytes v p ++ rest ≡ counted type_bytes p.types ++ globals = simp append_assoc in
+    ap (fields_at v) regrouped
     ∙ rw (
       types_law.again p.types globals (fits.type_count, fits.types),
       (counted_law (global_at p.types) global_bytes (GlobalFits p.types) (global_law p.types fits.type_count)).again p.globals paths (fits.global_count, fits.globals),
       (counted_law (path_at p.types) path_bytes (PathFits p.types) (path_law p.types fits.type_count)).again p.paths functions (fits.path_count, fits.paths),
       (counted_law (function_at v (length p.types)) (function_bytes v) (FunctionFits (length p.types)) (function_law v (length p.types) types_most)).again p.functions end (fits.function_count, fits.functions),
-      (within_law 0 (length p.functions) functions_most).again p.main (proofs_bytes v ++ rest) (omega arith, fits.main),
-      proofs_again v rest,
+      (within_law 0 (length p.functions) functions_most).again p.main rest (omega arith, fits.main),
     ) refl
+
+pub parts_again : (v : Version) (p : Parts) (rest : List ℕ) → FieldsFit p → parts_at v (parts_bytes v p ++ rest) ≡ Ok (p, rest)
+unfolding parts_at
+parts_again v p rest fits =
+    ap (parts_at v) (append_assoc (fields_bytes v p) (proofs_bytes v) rest) ∙ rw (fields_again v p (proofs_bytes v ++ rest) fits, proofs_again v rest) refl
 
 abbrev made : List (List Cell) → List Global → List Path → List Function → (main : ℕ) → Parts
 made types globals paths functions main = record { types = types; globals = globals; paths = paths; functions = functions; main = main }
 
 -- what stands after the functions, the paths, the globals and the types
 abbrev main_on : Version → List (List Cell) → List Global → List Path → List Function × List ℕ → Read Parts
-main_on v types globals paths functions =
-    number_within 0 (length functions.0) functions.1 >>= λ main. proofs_at v main.1 >>= λ rest. Ok (made types globals paths functions.0 main.0, rest)
+main_on v types globals paths functions = number_within 0 (length functions.0) functions.1 >>= λ main. Ok (made types globals paths functions.0 main.0, main.1)
 
 abbrev functions_on : Version → List (List Cell) → List Global → List Path × List ℕ → Read Parts
 functions_on v types globals paths = counted_at (function_at v (length types)) paths.1 >>= λ functions. main_on v types globals paths.0 functions
@@ -193,29 +196,8 @@ record FunctionsFit (types : List (List Cell)) (functions : List Function) : Typ
   pub count : IsNumber (length functions)
   pub each : Every (FunctionFits (length types)) functions
 
-abbrev IsTaken : Version → (bytes : List ℕ) → Parts × List ℕ → Type 0
-IsTaken v bytes x = Takes bytes (parts_bytes v x.0) x.1 × FieldsFit x.0
-
-end_taken : (v : Version) (types : List (List Cell)) (globals : List Global) (paths : List Path) (functions : List Function) (main : ℕ) (bytes r4 r5 r6 : List ℕ) (x : Parts × List ℕ)
-    → TypesFit types → GlobalsFit types globals → PathsFit types paths → FunctionsFit types functions → main < length functions
-    → Takes bytes (counted type_bytes types ++ counted global_bytes globals ++ counted path_bytes paths ++ counted (function_bytes v) functions) r4 → Takes r4 (number main) r5 → Takes r5 (proofs_bytes v) r6
-    → ◌≡◌ {A = Read Parts} (Ok (made types globals paths functions main, r6)) (Ok x) → IsTaken v bytes x
-end_taken v types globals paths functions main bytes r4 r5 r6 x ts gs ps fs m t4 t5 t6 e =
-    let end : Takes r4 (end_bytes v main) r6 = Takes-then r4 (number main) r5 (proofs_bytes v) r6 t5 t6 in
-    let whole : Takes bytes (parts_bytes v (made types globals paths functions main)) r6
-    = Takes-then bytes (counted type_bytes types ++ counted global_bytes globals ++ counted path_bytes paths ++ counted (function_bytes v) functions) r4 (end_bytes v main) r6 t4 end in
-    let fits : FieldsFit (made types globals paths functions main) = record {
-      type_count = ts.count;
-      types = ts.each;
-      global_count = gs.count;
-      globals = gs.each;
-      path_count = ps.count;
-      paths = ps.each;
-      function_count = fs.count;
-      functions = fs.each;
-      main = m;
-    } in
-    subst (IsTaken v bytes) (ok_is (made types globals paths functions main, r6) x e) (whole, fits)
+abbrev pub IsTaken : Version → (bytes : List ℕ) → Parts × List ℕ → Type 0
+IsTaken v bytes x = Takes bytes (fields_bytes v x.0) x.1 × FieldsFit x.0
 
 main_taken : (v : Version) (types : List (List Cell)) (globals : List Global) (paths : List Path) (functions : List Function) (bytes r4 : List ℕ) (x : Parts × List ℕ)
     → TypesFit types → GlobalsFit types globals → PathsFit types paths → FunctionsFit types functions
@@ -224,10 +206,21 @@ main_taken : (v : Version) (types : List (List Cell)) (globals : List Global) (p
 main_taken v types globals paths functions bytes r4 x ts gs ps fs t4 e =
     let most : length functions ≤ 4294967296 = omega (arith, fs.count) in
     let f = takes_then (number_within 0 (length functions)) number (λ m. (0 ≤ m) × (m < length functions)) (within_law 0 (length functions) most)
-    (λ main. proofs_at v main.1 >>= λ rest. Ok (made types globals paths functions main.0, rest)) r4 x t4.rest_fits e in
-    let g = bind_ok (proofs_at v f.0.1) (λ rest. Ok (made types globals paths functions f.0.0, rest)) x f.3 in
-    let h = proofs_take v f.0.1 g.0 f.1.rest_fits g.1 in
-    end_taken v types globals paths functions f.0.0 bytes r4 f.0.1 g.0 x ts gs ps fs f.2.1 t4 f.1 h g.2
+    (λ main. Ok (made types globals paths functions main.0, main.1)) r4 x t4.rest_fits e in
+    let whole : Takes bytes (fields_bytes v (made types globals paths functions f.0.0)) f.0.1
+    = Takes-then bytes (counted type_bytes types ++ counted global_bytes globals ++ counted path_bytes paths ++ counted (function_bytes v) functions) r4 (number f.0.0) f.0.1 t4 f.1 in
+    let fits : FieldsFit (made types globals paths functions f.0.0) = record {
+      type_count = ts.count;
+      types = ts.each;
+      global_count = gs.count;
+      globals = gs.each;
+      path_count = ps.count;
+      paths = ps.each;
+      function_count = fs.count;
+      functions = fs.each;
+      main = f.2.1;
+    } in
+    subst (IsTaken v bytes) (ok_is (made types globals paths functions f.0.0, f.0.1) x f.3) (whole, fits)
 
 functions_taken : (v : Version) (types : List (List Cell)) (globals : List Global) (paths : List Path) (bytes r3 : List ℕ) (x : Parts × List ℕ) → TypesFit types → GlobalsFit types globals → PathsFit types paths
     → Takes bytes (counted type_bytes types ++ counted global_bytes globals ++ counted path_bytes paths) r3 → functions_on v types globals (paths, r3) ≡ Ok x → IsTaken v bytes x
@@ -251,11 +244,21 @@ globals_taken v types bytes r1 x ts t1 e =
     (paths_on v types) r1 x t1.rest_fits e in
     paths_taken v types b.0.0 bytes b.0.1 x ts (record { count = b.2.0; each = b.2.1 }) (Takes-then bytes (counted type_bytes types) r1 (counted global_bytes b.0.0) b.0.1 t1 b.1) b.3
 
-parts_take : (v : Version) (bytes : List ℕ) (x : Parts × List ℕ) → IsBytes bytes → parts_at v bytes ≡ Ok x → IsTaken v bytes x
-unfolding parts_at
-parts_take v bytes x fits e =
+pub fields_take : (v : Version) (bytes : List ℕ) (x : Parts × List ℕ) → IsBytes bytes → fields_at v bytes ≡ Ok x → IsTaken v bytes x
+unfolding fields_at
+fields_take v bytes x fits e =
     let a = takes_then types_at (counted type_bytes) (λ ts. IsNumber (length ts) × Every (TypeFits (length ts)) ts) types_law (globals_on v) bytes x fits e in
     globals_taken v a.0.0 bytes a.0.1 x (record { count = a.2.0; each = a.2.1 }) a.1 a.3
+
+parts_take : (v : Version) (bytes : List ℕ) (x : Parts × List ℕ) → IsBytes bytes → parts_at v bytes ≡ Ok x → Takes bytes (parts_bytes v x.0) x.1 × FieldsFit x.0
+unfolding parts_at
+parts_take v bytes x fits e =
+    let a = bind_ok (fields_at v bytes) (λ parts. proofs_at v parts.1 >>= λ rest. Ok (parts.0, rest)) x e in
+    let t = fields_take v bytes a.0 fits a.1 in
+    let b = bind_ok (proofs_at v a.0.1) (λ rest. Ok (a.0.0, rest)) x a.2 in
+    let made : Parts × List ℕ = (a.0.0, b.0) in
+    subst (λ (y : Parts × List ℕ). Takes bytes (parts_bytes v y.0) y.1 × FieldsFit y.0) (ok_is made x b.2)
+    (Takes-then bytes (fields_bytes v a.0.0) a.0.1 (proofs_bytes v) b.0 t.0 (proofs_take v a.0.1 b.0 t.0.rest_fits b.1), t.1)
 
 letter_takes : (letter : ℕ) (bytes rest : List ℕ) → IsBytes bytes → letter_at letter bytes ≡ Ok rest → Takes bytes (letter ∷ []) rest
 letter_takes letter [] rest fits e = absurd cc
@@ -274,7 +277,7 @@ version_takes (b ∷ bytes) x fits e =
           subst (λ (y : Version × List ℕ). Takes (b ∷ bytes) (version_number y.0 ∷ []) y.1) (ok_is (Two, bytes) x p.1) (record { parts = ap (λ (c : ℕ). c ∷ bytes) (eqb-true b 2 p.0); rest_fits = λ i. fits (suc i) })
     ]
 
-start_takes : (bytes : List ℕ) (x : Version × List ℕ) → IsBytes bytes → start_at bytes ≡ Ok x → Takes bytes (start_bytes x.0) x.1
+pub start_takes : (bytes : List ℕ) (x : Version × List ℕ) → IsBytes bytes → start_at bytes ≡ Ok x → Takes bytes (start_bytes x.0) x.1
 unfolding start_at
 start_takes bytes x fits e =
     let a = bind_ok (letter_at 82 bytes) (λ a. letter_at 67 a >>= λ b. letter_at 73 b >>= λ c. letter_at 77 c >>= λ d. version_at d) x e in

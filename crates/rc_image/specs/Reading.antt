@@ -129,15 +129,21 @@ unfoldable pub proofs_at : Version → List ℕ → Result (List ℕ) Fault
 proofs_at One bytes = Ok bytes
 proofs_at Two bytes = number_within 0 1 bytes >>= λ n. Ok n.1
 
-unfoldable pub parts_at : Version → List ℕ → Read Parts
-parts_at v bytes = do
+-- the parts, up to `main`
+unfoldable pub fields_at : Version → List ℕ → Read Parts
+fields_at v bytes = do
   types ← types_at bytes
   globals ← counted_at (global_at types.0) types.1
   paths ← counted_at (path_at types.0) globals.1
   functions ← counted_at (function_at v (length types.0)) paths.1
   main ← number_within 0 (length functions.0) functions.1
-  rest ← proofs_at v main.1
-  Ok (record { types = types.0; globals = globals.0; paths = paths.0; functions = functions.0; main = main.0 }, rest)
+  Ok (record { types = types.0; globals = globals.0; paths = paths.0; functions = functions.0; main = main.0 }, main.1)
+
+unfoldable pub parts_at : Version → List ℕ → Read Parts
+parts_at v bytes = do
+  parts ← fields_at v bytes
+  rest ← proofs_at v parts.1
+  Ok (parts.0, rest)
 
 -- a letter of the magic
 abbrev pub letter_at : (letter : ℕ) → List ℕ → Result (List ℕ) Fault
@@ -170,7 +176,7 @@ answered total stop.Short = image.Short
 answered total stop.Extra = image.Extra
 answered total (stop.Field left) = image.Field (total - left)
 
-abbrev pub Refuses : (total : ℕ) → ImageFault → Result Parts Fault → Type 0
+abbrev pub Refuses : {A : Type 0} → (total : ℕ) → ImageFault → Result A Fault → Type 0
 Refuses total image.Memory read = Unit {0}
 Refuses total image.Magic read = read ≡ Err wrong_magic
 Refuses total image.Version read = read ≡ Err wrong_version
@@ -178,6 +184,6 @@ Refuses total image.Short read = read ≡ Err short
 Refuses total image.Extra read = read ≡ Err extra
 Refuses total (image.Field offset) read = (left : ℕ) × (read ≡ Err (field left)) × (offset ≡ total - left)
 
-abbrev pub Answers : (total : ℕ) → Result Parts ImageFault → Result Parts Fault → Type 0
-Answers total (Ok parts) read = read ≡ Ok parts
+abbrev pub Answers : {A : Type 0} → (total : ℕ) → Result A ImageFault → Result A Fault → Type 0
+Answers total (Ok x) read = read ≡ Ok x
 Answers total (Err e) read = Refuses total e read

@@ -53,12 +53,12 @@ abbrev pub proofs_bytes : Version → List ℕ
 proofs_bytes One = []
 proofs_bytes Two = number 0
 
-abbrev pub end_bytes : Version → (main : ℕ) → List ℕ
-end_bytes version main = number main ++ proofs_bytes version
+-- the parts, up to `main`
+abbrev pub fields_bytes : Version → Parts → List ℕ
+fields_bytes version p = counted type_bytes p.types ++ counted global_bytes p.globals ++ counted path_bytes p.paths ++ counted (function_bytes version) p.functions ++ number p.main
 
 abbrev pub parts_bytes : Version → Parts → List ℕ
-parts_bytes version p =
-    counted type_bytes p.types ++ counted global_bytes p.globals ++ counted path_bytes p.paths ++ counted (function_bytes version) p.functions ++ end_bytes version p.main
+parts_bytes version p = fields_bytes version p ++ proofs_bytes version
 
 abbrev pub spelling : Version → Parts → List ℕ
 spelling version p = start_bytes version ++ parts_bytes version p

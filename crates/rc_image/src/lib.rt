@@ -15,5 +15,6 @@ mod writing;
 
 pub use fault::ImageFault;
 pub use laws::no_image_begins_another;
-pub use reading::read;
-pub use writing::{write, write_version};
+pub use reading::{fault_of, read, read_fields, read_start};
+pub use version::Version;
+pub use writing::{write, write_fields, write_start, write_version};

@@ -5,7 +5,7 @@ ghost use Rattle.rc_code.specs.Image.{FieldsFit};
 ghost use Rattle.rc_image.specs.declared.version.Version.{Version};
 ghost use Rattle.rc_image.specs.Spelling.{spelling};
 ghost use Rattle.rc_fields.specs.Reading.{Gives};
-ghost use Rattle.rc_image.specs.Reading.{Answers, letter_at, version_at, start_at, proofs_at, parts_at, parts_of, answered};
+ghost use Rattle.rc_image.specs.Reading.{Answers, letter_at, version_at, start_at, proofs_at, fields_at, parts_at, parts_of, answered};
 
 use crate::fault::ImageFault;
 use crate::functions::read_functions;
@@ -42,9 +42,13 @@ fn read_version(bytes: &[u8]) -> Result<(Version, &[u8]), Stop>
     }
 }
 
-/// Reads the magic and the version.
+/// Reads the magic and the version, and gives the bytes after them.
+///
+/// # Errors
+///
+/// `Magic`, `Version`, and `Short` where the bytes end before.
 #[tactic(auto, unfolding(crate::specs::Reading::start_at))]
-fn read_start(bytes: &[u8]) -> Result<(Version, &[u8]), Stop>
+pub fn read_start(bytes: &[u8]) -> Result<(Version, &[u8]), Stop>
     ensures { Gives (λ x. (x.0, x.1.now)) result (start_at bytes.now) }
 {
     let rest = read_letter(82, bytes)?;
@@ -68,17 +72,21 @@ fn read_proofs(version: Version, bytes: &[u8]) -> Result<&[u8], Stop>
     }
 }
 
-/// Reads the parts of an image.
-#[tactic(auto, unfolding(crate::specs::Reading::parts_at))]
-fn read_parts(alloc: Global, version: Version, bytes: &[u8]) -> Result<(Parts, &[u8]), Stop>
-    ensures { Gives (λ x. (x.0, x.1.now)) result (parts_at version bytes.now) }
+/// Reads the parts of an image, up to the number of its `main`, and gives the bytes after it.
+///
+/// # Errors
+///
+/// `Short` where the bytes end inside, `Field` with the first field that breaks a rule, and `Memory`
+/// where there is none.
+#[tactic(auto, unfolding(crate::specs::Reading::fields_at))]
+pub fn read_fields(alloc: Global, version: Version, bytes: &[u8]) -> Result<(Parts, &[u8]), Stop>
+    ensures { Gives (λ x. (x.0, x.1.now)) result (fields_at version bytes.now) }
 {
     let (types, rest) = read_types(alloc, bytes)?;
     let (globals, rest) = read_globals(alloc, &types, rest)?;
     let (paths, rest) = read_paths(alloc, &types, rest)?;
     let (functions, rest) = read_functions(alloc, version, types.len(), rest)?;
     let (main, rest) = read_within(0, functions.len() as u64, rest)?;
-    let rest = read_proofs(version, rest)?;
     let parts = Parts {
         types: Items::new(types),
         globals: Items::new(globals),
@@ -86,6 +94,16 @@ fn read_parts(alloc: Global, version: Version, bytes: &[u8]) -> Result<(Parts, &
         functions: Items::new(functions),
         main,
     };
+    Ok((parts, rest))
+}
+
+/// Reads the parts of an image, without proofs.
+#[tactic(auto, unfolding(crate::specs::Reading::parts_at))]
+fn read_parts(alloc: Global, version: Version, bytes: &[u8]) -> Result<(Parts, &[u8]), Stop>
+    ensures { Gives (λ x. (x.0, x.1.now)) result (parts_at version bytes.now) }
+{
+    let (parts, rest) = read_fields(alloc, version, bytes)?;
+    let rest = read_proofs(version, rest)?;
     Ok((parts, rest))
 }
 
@@ -103,7 +121,7 @@ fn read_all(alloc: Global, bytes: &[u8]) -> Result<Parts, Stop>
 }
 
 /// Why bytes are no image, of which there are so many.
-fn fault_of(stop: Stop, total: usize) -> ImageFault
+pub fn fault_of(stop: Stop, total: usize) -> ImageFault
     ensures { result ≡ answered total stop }
 {
     match stop {

@@ -1,7 +1,7 @@
 // Writing an image.
 ghost use Rattle.std.specs.Prelude.{◌≡◌, ◌⊎◌, ◌++◌, IfOk, OnOk};
 ghost use Rattle.rc_image.specs.declared.version.Version.TheVariants.{Two};
-ghost use Rattle.rc_image.specs.Spelling.{spelling, start_bytes, end_bytes, parts_bytes, version_numbered};
+ghost use Rattle.rc_image.specs.Spelling.{spelling, start_bytes, fields_bytes, proofs_bytes, version_numbered};
 
 use crate::functions::write_functions;
 use crate::version::Version;
@@ -11,7 +11,11 @@ use rc_fields::{write_globals, write_number, write_paths, write_types};
 use std::alloc::{AllocError, Global};
 
 /// Writes the magic and the version.
-fn write_start(out: &mut Vec<u8>, version: Version) -> Result<(), AllocError>
+///
+/// # Errors
+///
+/// Where there is no memory. What `out` then holds is not said.
+pub fn write_start(out: &mut Vec<u8>, version: Version) -> Result<(), AllocError>
     ensures { OnOk result (out.new.items ≡ out.old.items ++ start_bytes version) }
 {
     out.extend_from_slice(b"RCIM")?;
@@ -22,30 +26,34 @@ fn write_start(out: &mut Vec<u8>, version: Version) -> Result<(), AllocError>
     Ok(())
 }
 
-/// Writes what stands after the functions.
-fn write_end(out: &mut Vec<u8>, version: Version, main: u32) -> Result<(), AllocError>
-    ensures { OnOk result (out.new.items ≡ out.old.items ++ end_bytes version main) }
-{
-    write_number(out, u64::from(main))?;
-    match version {
-        Version::One => Ok(()),
-        Version::Two => write_number(out, 0),
-    }
-}
-
-fn write_parts(
+/// Writes the parts of an image, up to the number of its `main`.
+///
+/// # Errors
+///
+/// Where there is no memory. What `out` then holds is not said.
+pub fn write_fields(
     alloc: Global,
     out: &mut Vec<u8>,
     version: Version,
     parts: &Parts,
 ) -> Result<(), AllocError>
-    ensures { OnOk result (out.new.items ≡ out.old.items ++ parts_bytes version parts.now) }
+    ensures { OnOk result (out.new.items ≡ out.old.items ++ fields_bytes version parts.now) }
 {
     write_types(out, parts.types.as_slice())?;
     write_globals(out, parts.globals.as_slice())?;
     write_paths(out, parts.paths.as_slice())?;
     write_functions(alloc, out, version, parts.functions.as_slice())?;
-    write_end(out, version, parts.main)
+    write_number(out, u64::from(parts.main))
+}
+
+/// Writes how many proofs there are, which is none.
+fn write_proofs(out: &mut Vec<u8>, version: Version) -> Result<(), AllocError>
+    ensures { OnOk result (out.new.items ≡ out.old.items ++ proofs_bytes version) }
+{
+    match version {
+        Version::One => Ok(()),
+        Version::Two => write_number(out, 0),
+    }
 }
 
 fn write_all(alloc: Global, image: &Image, version: Version) -> Result<Vec<u8>, AllocError>
@@ -53,7 +61,8 @@ fn write_all(alloc: Global, image: &Image, version: Version) -> Result<Vec<u8>, 
 {
     let mut out = Vec::new(alloc);
     write_start(&mut out, version)?;
-    write_parts(alloc, &mut out, version, image.parts())?;
+    write_fields(alloc, &mut out, version, image.parts())?;
+    write_proofs(&mut out, version)?;
     Ok(out)
 }
 

@@ -6,7 +6,7 @@ use Rattle.rc_code.specs.Table.{numbered}
 use Rattle.rc_image.specs.declared.version.Version.{Version}
 use Rattle.rc_image.specs.declared.version.Version.TheVariants.{One, Two}
 use Rattle.rc_fields.specs.Reading.{Read, wrong_magic, wrong_version, number_at, global_at, path_at, storage_at}
-use Rattle.rc_image.specs.Reading.{direction_of, direction_at, bit_of, bit_at, pins_at, operands_at, instruction_of, instruction_at, is_same, run_breaks, run_at, runs_at, shared_at, lines_at, head_at, body_at, function_at, proofs_at, parts_at, letter_at, version_at, start_at}
+use Rattle.rc_image.specs.Reading.{direction_of, direction_at, bit_of, bit_at, pins_at, operands_at, instruction_of, instruction_at, is_same, run_breaks, run_at, runs_at, shared_at, lines_at, head_at, body_at, function_at, proofs_at, fields_at, parts_at, letter_at, version_at, start_at}
 use Rattle.rc_refusals.proofs.Steady.{Grows, Longer, Steady, grown, guard, guard_else, ok, steps, then, test, number_steady, within_steady, many_steady, counted_steady, picked}
 use Rattle.rc_refusals.proofs.Fields.{global_steady, kind_steady, path_steady, result_steady, storage_steady, types_steady}
 
@@ -105,15 +105,18 @@ module _ (more : List ℕ) where
   proofs_steady One bytes = (record { is = refl })
   proofs_steady Two bytes = steps (grown more) behind (length more) _ _ _ _ (within_steady more 0 1 bytes) (λ n. (record { is = refl }))
 
-  pub parts_steady : (v : Version) → Steady more (parts_at v)
-  unfolding parts_at
-  parts_steady v bytes =
+  pub fields_steady : (v : Version) → Steady more (fields_at v)
+  unfolding fields_at
+  fields_steady v bytes =
       then more _ _ _ _ (types_steady more bytes) (λ types.
       then more _ _ _ _ (counted_steady more (global_at types.0) (global_steady more types.0) types.1) (λ globals.
       then more _ _ _ _ (counted_steady more (path_at types.0) (path_steady more types.0) globals.1) (λ paths.
       then more _ _ _ _ (counted_steady more (function_at v (length types.0)) (function_steady v (length types.0)) paths.1) (λ functions.
-      then more _ _ _ _ (within_steady more 0 (length functions.0) functions.1) (λ main.
-      steps behind (grown more) (length more) _ _ _ _ (proofs_steady v main.1) (λ rest. (record { is = refl })))))))
+      then more _ _ _ _ (within_steady more 0 (length functions.0) functions.1) (λ main. (record { is = refl }))))))
+
+  pub parts_steady : (v : Version) → Steady more (parts_at v)
+  unfolding parts_at
+  parts_steady v bytes = then more _ _ _ _ (fields_steady v bytes) (λ parts. steps behind (grown more) (length more) _ _ _ _ (proofs_steady v parts.1) (λ rest. (record { is = refl })))
 
   letter_one : (t : Bool) (rest : List ℕ) → Longer {A = List ℕ} behind (length more) (cond t (Ok rest) (Err wrong_magic)) (cond t (Ok (rest ++ more)) (Err wrong_magic))
   letter_one true rest = record { is = refl }

@@ -1,12 +1,17 @@
 // Laws of the refusals of images.
 ghost use Rattle.rc_refusals.specs.Kinds.{OneKindIsOfAll};
-ghost use Rattle.rc_refusals.specs.Refusals.{RefusalsSpeak};
+ghost use Rattle.rc_refusals.specs.Refusals.{RefusalsSpeak, CarriedRefusalsSpeak};
 
 /// The bytes of an image without their end, however few are left or missing, are too short. With bytes
 /// behind them they are too long. Every other refusal is decided by the bytes up to it: it is the same,
 /// with the same offset, whatever comes behind.
 pub fn refusals_speak_of_spellings()
     ensures { RefusalsSpeak }
+{}
+
+/// The same of the bytes of an image that may carry proofs, and of its reader.
+pub fn refusals_speak_of_carried_images()
+    ensures { CarriedRefusalsSpeak }
 {}
 
 /// The cells that a path reaches are tested to have one kind exactly where each choice of indices, below

@@ -8,4 +8,6 @@
 
 mod laws;
 
-pub use laws::{one_kind_is_of_all_indices, refusals_speak_of_spellings};
+pub use laws::{
+    one_kind_is_of_all_indices, refusals_speak_of_carried_images, refusals_speak_of_spellings,
+};

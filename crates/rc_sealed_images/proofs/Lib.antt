@@ -1,0 +1,4 @@
+pub mod Unused
+pub mod Claimed
+pub mod Wholes
+pub mod Loops
