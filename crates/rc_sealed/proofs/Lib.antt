@@ -1,0 +1,15 @@
+pub mod Safe
+pub mod Values
+pub mod Carry
+pub mod Crossing
+pub mod Operands
+pub mod Instructions
+pub mod Acts
+pub mod Others
+pub mod Passing
+pub mod Frames
+pub mod Cleared
+pub mod Whole
+pub mod Greater
+pub mod Claimed
+pub mod Worked

@@ -1,0 +1,9 @@
+pub mod ImageVariables
+pub mod Carrying
+pub mod Proved
+pub mod Pinned
+pub mod AllProved
+pub mod Faults
+pub mod Law
+pub mod Claimed
+pub mod Examples
