@@ -1,0 +1,4 @@
+pub mod Left
+pub mod Closing
+pub mod Asked
+pub mod Passing
