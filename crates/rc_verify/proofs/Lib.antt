@@ -1,0 +1,4 @@
+pub mod Entering
+pub mod Going
+pub mod Telling
+pub mod Claiming
