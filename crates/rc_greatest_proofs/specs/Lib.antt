@@ -1,0 +1,3 @@
+pub mod Admitted
+pub mod Marks
+pub mod Greater
