@@ -131,6 +131,31 @@ const PARENTS: [Step; 7] = [
     Step::Fits(1, 2, Note::Plain, Some(true)),
 ];
 
+/// Seven regions with two objects each.
+const DEEPER: Limits = Limits {
+    turns: 0,
+    regions: 7,
+    blocks: 2,
+};
+
+/// A region comes in the place of one that was less deep, and those below it have three ancestors and more.
+const ANCESTORS: [Step; 14] = [
+    Step::Child(0, Some(Ok(1))),
+    Step::Child(0, Some(Ok(2))),
+    Step::Delete(1, Some(Ok(()))),
+    Step::Child(2, Some(Ok(3))),
+    Step::Child(3, Some(Ok(4))),
+    Step::Child(4, Some(Ok(5))),
+    Step::Child(5, Some(Ok(6))),
+    Step::Child(0, Some(Ok(7))),
+    Step::Fits(6, 2, Note::ParentPtr, Some(true)),
+    Step::Fits(6, 3, Note::ParentPtr, Some(true)),
+    Step::Fits(5, 2, Note::ParentPtr, Some(true)),
+    Step::Fits(2, 6, Note::ParentPtr, Some(false)),
+    Step::Fits(6, 7, Note::ParentPtr, Some(false)),
+    Step::Fits(7, 3, Note::ParentPtr, Some(false)),
+];
+
 /// A reference from another region or a pin refuses a deletion, one from inside doesn't; and it goes
 /// with its region.
 const REFERENCES: [Step; 9] = [
@@ -161,6 +186,15 @@ fn the_plain_heap_knows_parents(rt: HostRuntime) -> Result<(), Fail> {
 }
 
 #[test]
+fn the_plain_heap_knows_ancestors(rt: HostRuntime) -> Result<(), Fail> {
+    assert_eq!(rt;
+        first_wrong_of_plain(rt.alloc(), Some(&DEEPER), &ANCESTORS)?,
+        None
+    );
+    Ok(())
+}
+
+#[test]
 fn the_plain_heap_makes_a_global(rt: HostRuntime) -> Result<(), Fail> {
     assert!(rt; plain_makes_a_global(rt.alloc())?);
     Ok(())
@@ -185,6 +219,15 @@ fn the_heap_that_counts_refuses_all(rt: HostRuntime) -> Result<(), Fail> {
 fn the_heap_that_counts_knows_parents(rt: HostRuntime) -> Result<(), Fail> {
     assert_eq!(rt;
         first_wrong_of_counting(rt.alloc(), Some(&LIMITS), &PARENTS)?,
+        None
+    );
+    Ok(())
+}
+
+#[test]
+fn the_heap_that_counts_knows_ancestors(rt: HostRuntime) -> Result<(), Fail> {
+    assert_eq!(rt;
+        first_wrong_of_counting(rt.alloc(), Some(&DEEPER), &ANCESTORS)?,
         None
     );
     Ok(())

@@ -7,6 +7,8 @@ mod bit_sets;
 #[cfg(test)]
 mod cells;
 #[cfg(test)]
+mod closed;
+#[cfg(test)]
 mod facts;
 #[cfg(test)]
 mod generated;

@@ -65,6 +65,39 @@ fn a_spare_page_is_used_again_and_cleared(rt: HostRuntime) -> Result<(), Fail> {
     Ok(())
 }
 
+/// A list of so many cells is filled, grows by one and is filled again, is given back and grows anew.
+fn edge_is_crossed<L: Ledger>(alloc: Global, len: u64, blank: Blank) -> Result<bool, Fail>
+    requires name { blank.name ≡ L.name }
+    requires parts { blank.parts ≡ L.parts }
+    requires some { 0 < L.parts }
+{
+    let mut steps = Steps::<L>::start(blank);
+    let mut bank = Bank::new(alloc, 2)?;
+    let mut pages = Pages::<L>::new(alloc);
+    pages.push_zeros(len, &mut bank)?;
+    count_up(&mut pages, 1);
+    let filled = counts_up(&pages, len, 1, &mut steps);
+    pages.push_zeros(1, &mut bank)?;
+    let more = pages.len();
+    let grown = ends_in_zeros(&pages, more, len, &mut steps);
+    count_up(&mut pages, 9);
+    let refilled = counts_up(&pages, more, 9, &mut steps);
+    pages.give_back(&mut bank);
+    pages.push_zeros(more, &mut bank)?;
+    Ok(filled && grown && refilled && ends_in_zeros(&pages, more, 0, &mut steps))
+}
+
+/// Up to the last cell inside a list, to the first in a page, and around the end of a page.
+const EDGES: [u64; 10] = [0, 1, 2, 3, 4, 5, 258, 259, 260, 261];
+
+#[test]
+fn cells_inside_and_in_pages_are_one_list(rt: HostRuntime) -> Result<(), Fail> {
+    for len in &EDGES {
+        assert!(rt; edge_is_crossed::<Brand>(rt.alloc(), *len, Blank::new(1))?);
+    }
+    Ok(())
+}
+
 /// Four pages are given back to a bank of two places, and as many cells are made again.
 fn full_bank_frees_the_others<L: Ledger>(alloc: Global, blank: Blank) -> Result<bool, Fail>
     requires name { blank.name ≡ L.name }

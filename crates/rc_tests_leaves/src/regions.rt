@@ -153,3 +153,28 @@ fn siblings_are_removed_in_all_orders(rt: HostRuntime) -> Result<(), Fail> {
     assert!(rt; siblings_come_and_go(rt.alloc())?);
     Ok(())
 }
+
+/// A slot that was a child of the root is used again at depth 2, and has a chain below it.
+fn slot_goes_deeper(alloc: Global) -> Result<bool, Fail> {
+    let mut tree = Tree::new(alloc)?;
+    let first = tree.add(0)?;
+    let second = tree.add(0)?;
+    if second == first || !removes_leaf(&mut tree, first) {
+        return Ok(false);
+    }
+    let third = tree.add(second)?;
+    let fourth = tree.add(third)?;
+    let fifth = tree.add(fourth)?;
+    Ok(
+        third == first
+            && is_above(&tree, third, fifth)
+            && is_above(&tree, fourth, fifth)
+            && !is_above(&tree, fifth, third),
+    )
+}
+
+#[test]
+fn a_slot_is_used_again_deeper(rt: HostRuntime) -> Result<(), Fail> {
+    assert!(rt; slot_goes_deeper(rt.alloc())?);
+    Ok(())
+}

@@ -13,7 +13,7 @@ struct Row {
     output: &'static [u8],
 }
 
-const ROWS: [Row; 11] = [
+const ROWS: [Row; 14] = [
     // two regions that name each other go together and not alone, and no number is used again
     Row {
         regions: 10,
@@ -87,6 +87,28 @@ const ROWS: [Row; 11] = [
         blocks: 10,
         text: b"new 0\npin 1\npin 1\nunpin 1\ndrop 1\nunpin 1\nunpin 1\ndrop 1\n",
         output: b"region 1\nok\nok\nok\nreference\nok\nbad\nok\n",
+    },
+    // cells before and behind the fourth of a region, of its first object and of its second, each of which
+    // names another region alone
+    Row {
+        regions: 10,
+        blocks: 10,
+        text: b"new 0\nnew 0\ncell 1 3\ncell 1 2\nlink 1 0 2 2\nlink 1 1 0 2\nlink 1 1 1 2\nlink 1 0 2 -\nlink 1 1 0 -\ndrop 2\nlink 1 1 0 2\nlink 1 1 1 -\ndrop 2\nlink 1 0 2 2\nlink 1 1 0 -\ndrop 2\nlink 1 0 2 -\ndrop 2\n",
+        output: b"region 1\nregion 2\nobject 0\nobject 1\nok\nok\nok\nok\nok\nreference\nok\nok\nreference\nok\nok\nreference\nok\nok\n",
+    },
+    // the same at the end of a region's first page, and of cells that one object has on both sides
+    Row {
+        regions: 10,
+        blocks: 10,
+        text: b"new 0\nnew 0\ncell 1 260\ncell 1 2\nlink 1 0 259 2\ndrop 2\nlink 1 0 259 -\nlink 1 1 0 2\ndrop 2\nlink 1 1 0 -\nlink 1 0 3 2\ndrop 2\nlink 1 0 3 -\nlink 1 0 4 2\ndrop 2\nlink 1 0 4 1\ndrop 2\ndrop 1\n",
+        output: b"region 1\nregion 2\nobject 0\nobject 1\nok\nreference\nok\nok\nreference\nok\nok\nreference\nok\nok\nreference\nok\nok\nok\n",
+    },
+    // a region that comes in a deleted one's place has none of its cells
+    Row {
+        regions: 10,
+        blocks: 10,
+        text: b"new 0\nnew 0\ncell 1 6\nlink 1 0 0 2\nlink 1 0 3 2\nlink 1 0 5 2\ndrop 2\ndrop 1\nnew 0\ncell 3 1\ncell 3 5\ndrop 2\ndrop 3\n",
+        output: b"region 1\nregion 2\nobject 0\nok\nok\nok\nreference\nok\nregion 3\nobject 0\nobject 1\nok\nok\n",
     },
 ];
 
