@@ -2,7 +2,8 @@
 
 use rc_clashes::{Clash, Earlier};
 use rc_compile::tree;
-use rc_syntax::tree::{Base, Item, Name, Spot, TypeName};
+use rc_expression_copies::{add, boxed, expression, expression_option, spot};
+use rc_syntax::tree::{Base, Expr, Item, Name, Spot, Stmt, TypeName};
 use rc_tree_copies::{
     copy_item, copy_items, copy_name, copy_type, same_items, same_name, same_type,
 };
@@ -105,6 +106,50 @@ fn is_head_copied(alloc: Global, by: u32) -> Result<bool, Fail> {
     Ok(is_type_copied(alloc, type_name, by)? && is_name_copied(name, by)?)
 }
 
+/// Where `NULL` stands, if it is that.
+fn place_of_null(e: &Expr) -> Option<u32> {
+    match e {
+        Expr::Null(at) => Some(at.place),
+        _ => None,
+    }
+}
+
+/// Whether the copies of the function's value are `NULL` too, so many words later.
+fn is_null_copied(alloc: Global, value: &Option<Expr>, by: u32) -> Result<bool, Fail> {
+    let Some(e) = value else {
+        return Ok(false);
+    };
+    let one = expression(e, alloc, by)?;
+    let Some(other) = expression_option(value, alloc, by)? else {
+        return Ok(false);
+    };
+    let place = by.checked_add(18);
+    Ok(place_of_null(&*one) == place && place_of_null(&*other) == place)
+}
+
+/// Whether the value that the function gives is copied.
+fn is_value_copied(alloc: Global, by: u32) -> Result<bool, Fail> {
+    let tree = tree(alloc, OWN)?;
+    let Some(Item::Function(_, _, _, _, _, Some(body))) = tree.items.get(1) else {
+        return Ok(false);
+    };
+    let Some(Stmt::Return(_, value)) = body.first() else {
+        return Ok(false);
+    };
+    is_null_copied(alloc, value, by)
+}
+
+/// Whether a spot so many words later is put behind others, from memory of its own.
+fn is_spot_added(alloc: Global, by: u32) -> Result<bool, Fail> {
+    let at = spot(Spot { place: 3, line: 2 }, by)?;
+    let mut spots = Vec::new(alloc);
+    add(&mut spots, boxed(alloc, at)?)?;
+    let Some(last) = spots.first() else {
+        return Ok(false);
+    };
+    Ok(Some(last.place) == by.checked_add(3) && last.line == 2)
+}
+
 #[test]
 fn copies_say_the_same(rt: HostRuntime) -> Result<(), Fail> {
     let double = Some(Clash::Double(3));
@@ -119,5 +164,7 @@ fn copies_say_the_same(rt: HostRuntime) -> Result<(), Fail> {
 fn parts_are_copied(rt: HostRuntime) -> Result<(), Fail> {
     assert!(rt; is_one_copied(rt.alloc(), 7)?);
     assert!(rt; is_head_copied(rt.alloc(), 7)?);
+    assert!(rt; is_value_copied(rt.alloc(), 7)?);
+    assert!(rt; is_spot_added(rt.alloc(), 7)?);
     Ok(())
 }

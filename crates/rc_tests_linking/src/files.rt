@@ -95,6 +95,14 @@ fn functions_of(alloc: Global, text: &[u8]) -> Option<(usize, u32)> {
     Some((names.len(), built_in))
 }
 
+/// How many items the unit of a text has, if it has one.
+fn items_of(alloc: Global, text: &[u8]) -> Option<usize> {
+    match unit_of(alloc, text) {
+        Some(Ok(unit)) => Some(unit.tree().items.len()),
+        _ => None,
+    }
+}
+
 /// The units of texts that have some.
 fn units_of(alloc: Global, texts: &[&[u8]]) -> Option<Vec<Unit>> {
     let mut units = Vec::new(alloc);
@@ -163,6 +171,15 @@ fn functions_are_found(rt: HostRuntime) -> Result<(), Fail> {
     ];
     for (text, found) in rows {
         assert!(rt; functions_of(rt.alloc(), text) == Some(found));
+    }
+    Ok(())
+}
+
+#[test]
+fn units_have_no_stubs(rt: HostRuntime) -> Result<(), Fail> {
+    let rows: [(&[u8], usize); 3] = [(A, 2), (B, 1), (S, 3)];
+    for (text, items) in rows {
+        assert!(rt; items_of(rt.alloc(), text) == Some(items));
     }
     Ok(())
 }
