@@ -5,4 +5,6 @@ pub mod Rules
 pub mod Codecs
 pub mod Fields
 pub mod Wholes
-mod Narrow
+pub mod Places
+mod Indices
+mod Alike

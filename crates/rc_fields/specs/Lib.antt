@@ -1,4 +1,4 @@
 pub mod Spelling
 pub mod Reading
-pub mod Wide
+pub mod Walks
 pub mod Bounds

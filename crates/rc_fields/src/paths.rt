@@ -1,14 +1,17 @@
 // Paths.
 ghost use Rattle.std.specs.Prelude.{◌≡◌, ◌++◌, nat_lt, true, length, drop, IfOk, OnOk};
-ghost use Rattle.rc_code.specs.Image.{is_apart, is_nested};
-ghost use Rattle.rc_code.specs.Reached.{span, is_reached, is_alike, are_alike, has_one_kind};
+ghost use Rattle.std.specs.List.{AllByRecursion as Every};
+ghost use Rattle.rc_code.specs.Image.{IndexFits, cells_at, is_apart, is_nested};
+ghost use Rattle.rc_code.specs.Reached.{span, has_one_kind};
 ghost use Rattle.rc_fields.specs.Spelling.{number, counted, shift_number, index_bytes, path_bytes};
-ghost use Rattle.rc_fields.specs.Wide.{is_wide, wide_of};
+ghost use Rattle.rc_fields.specs.Walks.{AreFit, AreRight};
 ghost use Rattle.rc_fields.specs.Reading.{Gives, many, counted_at, keeps_rules, shift_at, index_at, path_at};
 
+use crate::chains::Chains;
 use crate::globals::cells_of;
 use crate::numbers::{read_kind, read_number, read_within, write_kind, write_number};
 use crate::stop::Stop;
+use crate::walks::{are_alike, cells_from, places, ways_of};
 use rc_code::{Cell, Index, Items, Path};
 use rc_core::ty::Signedness;
 use std::alloc::{AllocError, Global};
@@ -55,119 +58,54 @@ fn is_inside(indices: &[Index], cells: usize) -> bool
     room > 0
 }
 
-/// Whether indices in their ranges lead so many cells further.
-fn is_reached(distance: usize, indices: &[Index]) -> bool
-    ensures { result ≡ is_reached distance indices.now }
+/// Whether the cells that are reached are of one kind, where strides are nested and all of them are
+/// inside the type.
+fn reaches_one_kind(
+    alloc: Global,
+    chains: &mut Chains,
+    types: &[Items<Cell>],
+    type_number: u32,
+    offset: u32,
+    indices: &[Index],
+) -> Result<bool, AllocError>
+    requires fit { AreFit indices.now (drop offset (cells_at types.now type_number)) }
+    requires right { AreRight types.now chains.old.tables.items }
+    ensures one { IfOk result (λ is_one. is_one ≡ has_one_kind indices.now (drop offset (cells_at types.now type_number))) }
+    ensures right { IfOk result (λ is_one. AreRight types.now chains.new.tables.items) }
 {
-    let mut left = distance;
-    let mut rest = indices;
-    while let [index, after @ ..] = rest {
-        let stride = index.stride as usize;
-        if stride == 0 {
-            return false;
-        }
-        if left / stride >= index.length as usize {
-            return false;
-        }
-        left %= stride;
-        rest = after;
-    }
-    left == 0
+    let from = cells_from(cells_of(types, type_number), offset);
+    let [first, ..] = from else {
+        return Ok(false);
+    };
+    let ways = ways_of(alloc, indices)?;
+    let longest = ways.longest;
+    chains.prepare(alloc, types, type_number, longest.stride, places(&ways))?;
+    let known = chains.find(type_number, longest.stride);
+    Ok(are_alike(&ways.others, from, *first, longest, known))
 }
 
-/// Whether the cell so far from the first is as the first is, or isn't reached.
-fn is_alike(first: Cell, indices: &[Index], distance: usize, cell: Cell) -> bool
-    ensures { result ≡ is_alike first indices.now distance cell }
+/// Whether a path of a type keeps the rules on strides and on the cells that it reaches.
+fn keeps_rules(
+    alloc: Global,
+    chains: &mut Chains,
+    types: &[Items<Cell>],
+    type_number: u32,
+    offset: u32,
+    indices: &[Index],
+) -> Result<bool, AllocError>
+    requires fit { Every IndexFits indices.now }
+    requires right { AreRight types.now chains.old.tables.items }
+    ensures keeps { IfOk result (λ keeps. keeps ≡ keeps_rules (drop offset (cells_at types.now type_number)) indices.now) }
+    ensures right { IfOk result (λ keeps. AreRight types.now chains.new.tables.items) }
 {
-    if cell.is_as(first) {
-        return true;
-    }
-    !is_reached(distance, indices)
-}
-
-/// Whether the cells that are reached are as the first is.
-fn are_alike(first: Cell, indices: &[Index], cells: &[Cell]) -> bool
-    ensures { result ≡ are_alike first indices.now 0 cells.now }
-{
-    let mut distance = 0;
-    let mut rest = cells;
-    while let [cell, after @ ..] = rest {
-        if !is_alike(first, indices, distance, *cell) {
-            return false;
-        }
-        distance += 1;
-        rest = after;
-    }
-    true
-}
-
-/// Whether the cells that are reached are of one kind, the first of which is the first that is
-/// reached.
-fn has_one_kind(indices: &[Index], cells: &[Cell]) -> bool
-    ensures { result ≡ has_one_kind indices.now cells.now }
-{
-    match cells {
-        [] => false,
-        [first, ..] => are_alike(*first, indices, cells),
-    }
-}
-
-/// The cells from an offset on, none where there are no more.
-fn cells_from(cells: &[Cell], offset: u32) -> &[Cell]
-    ensures { result.now ≡ drop offset cells.now }
-{
-    match cells.get(offset as usize..) {
-        Some(from) => from,
-        None => &[],
-    }
-}
-
-/// Whether an index can be other than 0.
-fn is_wide(index: Index) -> bool
-    ensures { result ≡ is_wide index }
-{
-    if index.length != 1 {
-        return true;
-    }
-    index.stride == 0
-}
-
-/// The indices that can be other than 0. Where strides are nested and what is reached is inside a
-/// type, there are few of them, however many indices there are.
-fn wide_indices(alloc: Global, indices: &[Index]) -> Result<Vec<Index>, AllocError>
-    ensures { IfOk result (λ wide. wide.items ≡ wide_of indices.now) }
-{
-    let mut wide = Vec::new(alloc);
-    for index in indices {
-        if is_wide(*index) {
-            wide.push(*index)?;
-        }
-    }
-    Ok(wide)
-}
-
-/// Whether the cells that are reached are of one kind, where strides are nested. Each cell is asked
-/// about the indices that can be other than 0 alone.
-fn reaches_one_kind(alloc: Global, from: &[Cell], indices: &[Index]) -> Result<bool, AllocError>
-    requires { is_nested indices.now ≡ true }
-    ensures { IfOk result (λ is_one. is_one ≡ has_one_kind indices.now from.now) }
-{
-    let wide = wide_indices(alloc, indices)?;
-    Ok(has_one_kind(wide.as_slice(), from))
-}
-
-/// Whether a path keeps the rules on strides and on the cells that it reaches, of the cells from its
-/// offset on.
-fn keeps_rules(alloc: Global, from: &[Cell], indices: &[Index]) -> Result<bool, AllocError>
-    ensures { IfOk result (λ keeps. keeps ≡ keeps_rules from.now indices.now) }
-{
+    let from = cells_from(cells_of(types, type_number), offset);
     if !is_nested(indices) {
         return Ok(false);
     }
     if !is_inside(indices, from.len()) {
         return Ok(false);
     }
-    reaches_one_kind(alloc, from, indices)
+    reaches_one_kind(alloc, chains, types, type_number, offset, indices)
 }
 
 /// Reads the kind of a path's shift, 0 for none.
@@ -229,17 +167,19 @@ fn read_indices(alloc: Global, bytes: &[u8]) -> Result<(Vec<Index>, &[u8]), Stop
 #[tactic(auto, unfolding(crate::specs::Reading::path_at))]
 fn read_path<'b>(
     alloc: Global,
+    chains: &mut Chains,
     types: &[Items<Cell>],
     bytes: &'b [u8],
 ) -> Result<(Path, &'b [u8]), Stop>
-    ensures { Gives (λ x. (x.0, x.1.now)) result (path_at types.now bytes.now) }
+    requires { AreRight types.now chains.old.tables.items }
+    ensures gives { Gives (λ x. (x.0, x.1.now)) result (path_at types.now bytes.now) }
+    ensures right { IfOk result (λ x. AreRight types.now chains.new.tables.items) }
 {
     let (type_number, rest) = read_within(0, types.len() as u64, bytes)?;
     let (shift, rest) = read_shift(rest)?;
     let (offset, rest) = read_number(rest)?;
     let (indices, rest) = read_indices(alloc, rest)?;
-    let from = cells_from(cells_of(types, type_number), offset);
-    if !keeps_rules(alloc, from, &indices)? {
+    if !keeps_rules(alloc, chains, types, type_number, offset, &indices)? {
         return Err(Stop::Field(bytes.len()));
     }
     let indices = Items::new(indices);
@@ -255,16 +195,18 @@ fn read_path<'b>(
 /// Reads so many paths.
 fn read_path_list<'b>(
     alloc: Global,
+    chains: &mut Chains,
     types: &[Items<Cell>],
     count: u32,
     bytes: &'b [u8],
 ) -> Result<(Vec<Path>, &'b [u8]), Stop>
+    requires { AreRight types.now chains.old.tables.items }
     ensures { Gives (λ x. (x.0.items, x.1.now)) result (many (path_at types.now) count bytes.now) }
 {
     let mut items = Vec::new(alloc);
     let mut rest = bytes;
     for _ in 0..count {
-        let (item, after) = read_path(alloc, types, rest)?;
+        let (item, after) = read_path(alloc, chains, types, rest)?;
         items.push(item)?;
         rest = after;
     }
@@ -286,7 +228,8 @@ pub fn read_paths<'b>(
     ensures { Gives (λ x. (x.0.items, x.1.now)) result (counted_at (path_at types.now) bytes.now) }
 {
     let (count, rest) = read_number(bytes)?;
-    read_path_list(alloc, types, count, rest)
+    let mut chains = Chains::new(alloc, types)?;
+    read_path_list(alloc, &mut chains, types, count, rest)
 }
 
 fn write_shift(out: &mut Vec<u8>, shift: Option<Signedness>) -> Result<(), AllocError>
