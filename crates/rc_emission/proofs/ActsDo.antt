@@ -207,11 +207,11 @@ module _ {W : Type 0} (ops : Ops W) (turning : Turning ops) (deleting : ℕ → 
       ap (λ c. go_on c stack locals w) (at_two ops deleting calls again line (gets slot deleting types h tys) code rest) ∙ gets_do line tys h t stack locals (at line code ++ rest) w k
 
   abbrev pub ActDoes : Act → List Ty → Type 0
-  ActDoes act tys = (live : ℕ → Bool) (rest : List Line) (next : Way → W → Run W Value) → Ends rest next → (t : Temporaries) (locals : List Value) (w : W) → Fine w → Mirrors env locals →
-      go_on (act_lines slot deleting types act tys live ++ rest) (stack_of tys 0 t) locals w ≡ bind (act_run ops deleting types act calls live env t w) next
+  ActDoes act tys = (last : ℕ) (live : ℕ → Bool) (rest : List Line) (next : Way → W → Run W Value) → Ends rest next → (t : Temporaries) (locals : List Value) (w : W) → Fine w → Mirrors env locals →
+      go_on (act_lines slot deleting types last act tys live ++ rest) (stack_of tys 0 t) locals w ≡ bind (act_run ops deleting types act calls live env t w) next
 
   update_does : (line : ℕ) (a : Access) (change : Change) (ty : Ty) → AllKept Has types 0 (pushed (place_types a ++ ty ∷ []) []) → ActDoes (From.update line a change ty) (pushed (place_types a ++ ty ∷ []) [])
-  update_does line a change ty all live rest next ends t locals w f m =
+  update_does line a change ty all last live rest next ends t locals w f m =
       let xs = place_types a ++ ty ∷ [] in
       let tys = pushed xs [] in
       let locals1 = spilled_all tys t locals in
@@ -290,7 +290,7 @@ module _ {W : Type 0} (ops : Ops W) (turning : Turning ops) (deleting : ℕ → 
       ∙ sym (bind_bind (ops.load line source w) (λ v w1. bind (put_run v w1) (λ _ w2. go_run v w2)) (λ u1 w2. next (Next env u1) w2))
 
   move_does : (line : ℕ) (cells : Layout) (left right : Access) → AllKept Has types 0 (pushed (place_types left ++ place_types right) []) → ActDoes (From.move line cells left right) (pushed (place_types left ++ place_types right) [])
-  move_does line cells left right all live rest next ends t locals w f m =
+  move_does line cells left right all last live rest next ends t locals w f m =
       let xs = place_types left ++ place_types right in
       let locals1 = spilled_all (pushed xs []) t locals in
       let pw = place_width left in
@@ -301,7 +301,7 @@ module _ {W : Type 0} (ops : Ops W) (turning : Turning ops) (deleting : ℕ → 
       ∙ sym (bind_bind (cells_moved ops deleting types line (width left + width right) cells (target_at right t (width left)) (target_at left t 0) t w) (λ t1 w1. Go (Next env t1) w1) next)
 
   store_acts : (line : ℕ) (a : Access) → ActDoes (From.store line a) (pushed (place_types a ++ value_type a.cell ∷ []) [])
-  store_acts line a live rest next ends t locals w f m =
+  store_acts line a last live rest next ends t locals w f m =
       let c = value_type a.cell in
       let v = temporary c t (width a) in
       let pw = place_width a in
@@ -317,7 +317,7 @@ module _ {W : Type 0} (ops : Ops W) (turning : Turning ops) (deleting : ℕ → 
       pushed_last (u ∷ vs) v stack = pushed_last vs v (u ∷ stack)
 
   perform_does : (line g : ℕ) (parameters : List Ty) → ActDoes (From.perform line g parameters) (pushed (map value_type parameters) [])
-  perform_does line g parameters live rest next ends t locals w f m =
+  perform_does line g parameters last live rest next ends t locals w f m =
       let pins = call_pins (deleting g) (pins_from types 0 live) in
       let tys = map value_type parameters in
       let cont : List Value → List Value → Run W Value = λ vs st. bind (given ops deleting line (To.call g parameters pins) calls locals vs w) (λ _. go_on rest st locals) in
@@ -328,27 +328,27 @@ module _ {W : Type 0} (ops : Ops W) (turning : Turning ops) (deleting : ℕ → 
       ∙ then_fine (operation_value ops deleting types line (From.call g parameters) calls live env t 0 w) (λ _ w1. go_on rest [] locals w1) (λ _ w1. next (Next env t) w1) (operation_within ops turning deleting types calls calls_fine line (From.call g parameters) live env t 0 w p f.0) (operation_within ops turning deleting types calls calls_fine line (From.call g parameters) live env t 0 w q f.1) (λ _ w1 f1. ends.goes env t locals w1 f1 m)
       ∙ sym (bind_bind (operation_value ops deleting types line (From.call g parameters) calls live env t 0 w) (λ _ w1. Go (Next env t) w1) next)
 
-  pops_do : (tys : List Ty) (t : Temporaries) (locals : List Value) (rest : List Line) (w : W) → go_on (pops slot deleting types tys ++ rest) (stack_of tys 0 t) locals w ≡ go_on rest [] locals w
-  pops_do [] t locals rest w = refl
-  pops_do (ty ∷ tys) t locals rest w = pops_do tys t locals rest w
+  pops_do : (last : ℕ) (tys : List Ty) (t : Temporaries) (locals : List Value) (rest : List Line) (w : W) → go_on (pops slot deleting types last tys ++ rest) (stack_of tys 0 t) locals w ≡ go_on rest [] locals w
+  pops_do last [] t locals rest w = refl
+  pops_do last (ty ∷ tys) t locals rest w = pops_do last tys t locals rest w
 
   assign_does : (line x : ℕ) (ty : Ty) → ActDoes (From.assign line x ty) (value_type ty ∷ [])
-  assign_does line x ty live rest next ends t locals w f m =
+  assign_does line x ty last live rest next ends t locals w f m =
       ap (λ k. go_on rest [] (with_local locals x (kept ty (at_kind k t 0))) w) (kind_value ty)
       ∙ ends.goes (with_local env x (kept ty (temporary ty t 0))) t (with_local locals x (kept ty (temporary ty t 0))) w f (mirrors_assign (length types) n env locals x (kept ty (temporary ty t 0)) room m)
 
   delete_does : (line : ℕ) → ActDoes (From.delete line) (region ∷ [])
-  delete_does line live rest next ends t locals w f m =
+  delete_does line last live rest next ends t locals w f m =
       ap (λ vs. bind (ops.delete line vs (t.regions 0) w) (λ _ w1. go_on rest [] locals w1)) (pinned_same types live locals env m.same)
       ∙ then_fine (ops.delete line (pinned (pins_from types 0 live) env) (t.regions 0) w) (λ _ w1. go_on rest [] locals w1) (λ _ w1. next (Next env t) w1) (turning.delete line _ _ w p f.0) (turning.delete line _ _ w q f.1) (λ _ w1 f1. ends.goes env t locals w1 f1 m)
       ∙ sym (bind_bind (ops.delete line (pinned (pins_from types 0 live) env) (t.regions 0) w) (λ _ w1. Go (Next env t) w1) next)
 
   leave_does : (line : ℕ) (result : Option Ty) → ActDoes (From.leave line result) (pushed (act_types (From.leave line result)) [])
-  leave_does line None live rest next ends t locals w f m = ends.returns Null w f
-  leave_does line (Some ty) live rest next ends t locals w f m = ends.returns (temporary ty t 0) w f
+  leave_does line None last live rest next ends t locals w f m = ends.returns Null w f
+  leave_does line (Some ty) last live rest next ends t locals w f m = ends.returns (temporary ty t 0) w f
 
   drop_does : (tys : List Ty) → ActDoes From.drop tys
-  drop_does tys live rest next ends t locals w f m = pops_do tys t locals rest w ∙ ends.goes env t locals w f m
+  drop_does tys last live rest next ends t locals w f m = pops_do last tys t locals rest w ∙ ends.goes env t locals w f m
 
   pub act_does : (act : Act) (tys : List Ty) → ActFits act tys → ActKeeps Has types act tys → ActDoes act tys
   act_does From.drop tys e sp = drop_does tys

@@ -14,7 +14,7 @@ use Rattle.rc_rlang.specs.RegionLive.{before_act, before_code, before_codes, loo
 use Rattle.rc_emission.specs.StackCode.{Instruction, Line, Onward, walk, run_code}
 use Rattle.rc_emission.specs.OperationCode.{line_of, at}
 use Rattle.rc_rlang.specs.RegionFits.{steps_types, test_types}
-use Rattle.rc_emission.specs.StatementCode.{Place, zero_code, exit_test, exit_lines, exit_size, steps_lines, act_lines, code_size, codes_size, code_lines, codes_lines}
+use Rattle.rc_emission.specs.StatementCode.{Place, zero_code, exit_test, exit_lines, exit_size, last_line, steps_lines, act_lines, code_size, codes_size, code_lines, codes_lines}
 use Rattle.rc_emission.specs.Served.{StepsServed, CodeServed, CodesServed}
 use Rattle.rc_translation.proofs.Sames.{bind_bind}
 use Rattle.rc_emission.proofs.Singles.{walk_past, zero_does}
@@ -89,7 +89,7 @@ module _ {W : Type 0} (ops : Ops W) (deleting : ℕ → Bool) (calls : Calls W) 
 module _ (slot : ℕ → Ty → ℕ) (deleting : ℕ → Bool) (types : List Ty) where
   mutual
     pub size_is : (c : Code) (k : Ways) (p : Place) → length (code_lines slot deleting types c k p) ≡ code_size slot deleting types c k
-    size_is (simple steps act) k p = length-append (steps_lines slot deleting types steps [] [] (before_act act k.next)) (act_lines slot deleting types act (steps_types steps []) k.next)
+    size_is (simple steps act) k p = length-append (steps_lines slot deleting types steps [] [] (before_act act k.next)) (act_lines slot deleting types (last_line steps) act (steps_types steps []) k.next)
     size_is (clear line x ty) k p = refl
     size_is (block codes) k p = sizes_are codes k p
     size_is (branch steps test a b) k p =
@@ -215,9 +215,9 @@ module _ {W : Type 0} (ops : Ops W) (turning : Turning ops) (deleting : ℕ → 
   simple_does : (b : ℕ) (steps : Steps) (act : Act) (k : Ways) (p : Place) (rest : List Line) (next : Way → W → Run W Value) → CodeServed Has types (simple steps act) → Agrees b rest p next → Does b (code_lines slot deleting types (simple steps act) k p ++ rest) (λ env t w. code_run ops deleting types (simple steps act) calls k env t w) next
   simple_does b steps act k p rest next fits ag m env t locals w hb hm mi =
       let tys = steps_types steps [] in
-      ap (λ c. from m c 0 [] locals w) (append_assoc (steps_lines slot deleting types steps [] [] (before_act act k.next)) (act_lines slot deleting types act tys k.next) rest)
-      ∙ steps_first b m steps fits.0 (before_act act k.next) (act_lines slot deleting types act tys k.next ++ rest) (λ t1 w1. act_run ops deleting types act calls k.next env t1 w1) next env t locals w hb hm mi (λ t1 locals1 w1 hb1 hm1 mi1.
-      act_does ops turning deleting types slot calls calls_fine (run_code ops deleting code calls m) env n Has slot_behind slot_there slots_apart room b m act tys fits.1 fits.2 k.next rest next
+      ap (λ c. from m c 0 [] locals w) (append_assoc (steps_lines slot deleting types steps [] [] (before_act act k.next)) (act_lines slot deleting types (last_line steps) act tys k.next) rest)
+      ∙ steps_first b m steps fits.0 (before_act act k.next) (act_lines slot deleting types (last_line steps) act tys k.next ++ rest) (λ t1 w1. act_run ops deleting types act calls k.next env t1 w1) next env t locals w hb hm mi (λ t1 locals1 w1 hb1 hm1 mi1.
+      act_does ops turning deleting types slot calls calls_fine (run_code ops deleting code calls m) env n Has slot_behind slot_there slots_apart room b m act tys fits.1 fits.2 (last_line steps) k.next rest next
       (record { goes = λ env2 t2 locals2 w2 f2 mi2. ag m (Next env2 t2) locals2 w2 f2.0 f2.1 mi2; returns = λ v w2 f2. ag m (Returned v) locals1 w2 f2.0 f2.1 tt }) t1 locals1 w1 (hb1, hm1) mi1)
 
   -- a step back: the turn, and the code at the head

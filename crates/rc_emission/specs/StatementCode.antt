@@ -67,6 +67,16 @@ cell_type char_cell = char
 cell_type region_cell = region
 cell_type (pointer_cell note target) = pointer note target
 
+-- the line of a step, and that of the last of steps, 0 where there is none
+abbrev pub line_of_step : Step → ℕ
+line_of_step (set line h ty op) = line
+line_of_step (fork line h test result a b) = line
+
+abbrev pub last_line : Steps → ℕ
+last_line none = 0
+last_line (more s none) = line_of_step s
+last_line (more s (more next rest)) = last_line (more next rest)
+
 -- `deleting` tells which functions delete; `types` are the locals of the source
 module _ (slot : ℕ → Ty → ℕ) (deleting : ℕ → Bool) (types : List Ty) where
   abbrev pub pins_at : (live : ℕ → Bool) → List ℕ
@@ -117,26 +127,26 @@ module _ (slot : ℕ → Ty → ℕ) (deleting : ℕ → Bool) (types : List Ty)
       ++ (To.load (record right { cell = cell_type kind }) ∷ To.store (record left { cell = cell_type kind }) ∷ cells_code kinds (further left) (further right)))
 
   -- what is let go
-  abbrev pub pops : List Ty → List Line
-  pops [] = []
-  pops (ty ∷ tys) = line_of 0 To.pop ∷ pops tys
+  abbrev pub pops : (line : ℕ) → List Ty → List Line
+  pops line [] = []
+  pops line (ty ∷ tys) = line_of line To.pop ∷ pops line tys
 
-  -- what is done with the operands; `tys` are their types
-  abbrev pub act_lines : Act → (tys : List Ty) → (live : ℕ → Bool) → List Line
-  act_lines From.drop tys live = pops tys
-  act_lines (From.perform line f parameters) tys live = line_of line (To.perform f parameters (call_pins (deleting f) (pins_at live))) ∷ []
-  act_lines (From.assign line x ty) tys live = line_of line (To.set x ty) ∷ []
-  act_lines (From.store line a) tys live = line_of line (To.store a) ∷ []
-  act_lines (From.update line a change ty) tys live =
+  -- what is done with the operands; `tys` are their types, `last` is the line of the last step that made them
+  abbrev pub act_lines : (last : ℕ) → Act → (tys : List Ty) → (live : ℕ → Bool) → List Line
+  act_lines last From.drop tys live = pops last tys
+  act_lines last (From.perform line f parameters) tys live = line_of line (To.perform f parameters (call_pins (deleting f) (pins_at live))) ∷ []
+  act_lines last (From.assign line x ty) tys live = line_of line (To.set x ty) ∷ []
+  act_lines last (From.store line a) tys live = line_of line (To.store a) ∷ []
+  act_lines last (From.update line a change ty) tys live =
       at line (spills slot 0 tys ++ (gets 0 (place_types a) ++ (gets 0 (place_types a) ++ (To.load a ∷ (change_code change a.cell ty (To.get (slot (width a) ty)) ++ To.store a ∷ [])))))
-  act_lines (From.move line cells left right) tys live = at line (spills slot 0 tys ++ cells_code cells left right)
-  act_lines (From.delete line) tys live = line_of line (To.delete (pins_at live)) ∷ []
-  act_lines (From.leave line result) tys live = line_of line (To.leave tys) ∷ []
+  act_lines last (From.move line cells left right) tys live = at line (spills slot 0 tys ++ cells_code cells left right)
+  act_lines last (From.delete line) tys live = line_of line (To.delete (pins_at live)) ∷ []
+  act_lines last (From.leave line result) tys live = line_of line (To.leave tys) ∷ []
 
   -- how many instructions a piece of code has
   abbrev mutual
     pub code_size : Code → Ways → ℕ
-    code_size (simple steps act) k = length (steps_lines steps [] [] (before_act act k.next)) + length (act_lines act (steps_types steps []) k.next)
+    code_size (simple steps act) k = length (steps_lines steps [] [] (before_act act k.next)) + length (act_lines (last_line steps) act (steps_types steps []) k.next)
     code_size (clear line x ty) k = 2
     code_size (block codes) k = codes_size codes k
     code_size (branch steps test a b) k =
@@ -156,7 +166,7 @@ module _ (slot : ℕ → Ty → ℕ) (deleting : ℕ → Bool) (types : List Ty)
 
   abbrev mutual
     pub code_lines : Code → Ways → Place → List Line
-    code_lines (simple steps act) k p = steps_lines steps [] [] (before_act act k.next) ++ act_lines act (steps_types steps []) k.next
+    code_lines (simple steps act) k p = steps_lines steps [] [] (before_act act k.next) ++ act_lines (last_line steps) act (steps_types steps []) k.next
     code_lines (clear line x ty) k p = line_of line (zero_code ty) ∷ line_of line (To.set x ty) ∷ []
     code_lines (block codes) k p = codes_lines codes k p
     code_lines (branch steps test a b) k p =

@@ -19,7 +19,7 @@ use Rattle.rc_rlang.specs.Sites as Sites
 use Rattle.rc_emission.specs.StackCode.{Instruction, Line}
 use Rattle.rc_emission.specs.StackCode as To
 use Rattle.rc_emission.specs.OperationCode.{line_of, at, spills}
-use Rattle.rc_emission.specs.StatementCode.{Place, zero_code, exit_test, exit_lines, cell_type, further, gets, steps_lines, change_code, cells_code, pops, act_lines, code_lines, codes_lines}
+use Rattle.rc_emission.specs.StatementCode.{Place, zero_code, exit_test, exit_lines, cell_type, further, gets, steps_lines, change_code, cells_code, pops, last_line, act_lines, code_lines, codes_lines}
 use Rattle.rc_along.specs.MarkedRuns.{before_store}
 use Rattle.rc_labels.specs.Labels.{Label, Numbering, mark_at, plain, line_in}
 use Rattle.rc_labels.specs.Labelled.{copy_marks, steps_labelled, test_labelled, act_labelled, code_labelled, codes_labelled}
@@ -62,7 +62,7 @@ module _ (slot : ℕ → Ty → ℕ) (deleting : ℕ → Bool) (types : List Ty)
   steps_quiet : (s : Steps) (live : ℕ → Bool) → written (steps_lines slot deleting types s [] [] live) ≡ []
   steps_quiet s live =
       let head = steps_lines slot deleting types s [] [] live in
-      let behind = pops slot deleting types (steps_types s []) in
+      let behind = pops slot deleting types (last_line s) (steps_types s []) in
       (both_none (written head) (written behind) (sym (written_append head behind) ∙ (code_written slot deleting types (simple s drop) (ways live) start).is)).0
 
   exit_quiet : (test : Option Test) (over : ℕ) → written (exit_lines test over) ≡ []
@@ -178,16 +178,16 @@ module _ (n : Numbering) where
         (cells_marks line label kinds (further left) (further right) base (suc j) (suc (suc here)) (omega (arith, el)) (λ k. (let e : base + (suc j + k) ≡ base + (j + suc k) = omega arith in ap (mark_at (n.label label)) e) ∙ em (suc k)))
         ∙ sym (map-append (λ (s : Site). marked s.point) (store_sites (note_of kind) line (suc here)) (cells_sites kinds line (suc (suc here))))
 
-    pops_marks : (tys : List Ty) → marks_told n (pops slot deleting types tys) ≡ []
-    pops_marks [] = refl
-    pops_marks (ty ∷ tys) = pops_marks tys
+    pops_marks : (last : ℕ) (tys : List Ty) → marks_told n (pops slot deleting types last tys) ≡ []
+    pops_marks last [] = refl
+    pops_marks last (ty ∷ tys) = pops_marks last tys
 
-    act_marks : (act : Act) (here : ℕ) (tys : List Ty) (live : ℕ → Bool) → marks_told n (act_lines slot deleting types (act_labelled n marked act here) tys live) ≡ points (act_sites act here)
-    act_marks drop here tys live = pops_marks tys
-    act_marks (perform line f parameters) here tys live = refl
-    act_marks (assign line x ty) here tys live = refl
-    act_marks (store line a) here tys live = stored a line _ here (single line a.offset (marked here))
-    act_marks (update line a change ty) here tys live =
+    act_marks : (last : ℕ) (act : Act) (here : ℕ) (tys : List Ty) (live : ℕ → Bool) → marks_told n (act_lines slot deleting types last (act_labelled n marked act here) tys live) ≡ points (act_sites act here)
+    act_marks last drop here tys live = pops_marks last tys
+    act_marks last (perform line f parameters) here tys live = refl
+    act_marks last (assign line x ty) here tys live = refl
+    act_marks last (store line a) here tys live = stored a line _ here (single line a.offset (marked here))
+    act_marks last (update line a change ty) here tys live =
         let label = n.number (record { line = line; base = a.offset; marks = marked (here + before_store change) ∷ [] }) in
         let fetched = gets slot deleting types 0 (place_types a) in
         let change' = change_code slot deleting types change a.cell ty (To.get (slot (width a) ty)) in
@@ -197,12 +197,12 @@ module _ (n : Numbering) where
         ∙ skip label change' (To.store a ∷ []) (change_quiet slot deleting types a change ty)
         ∙ stored a line label (here + before_store change) (single line a.offset (marked (here + before_store change)))
         ∙ ap (λ k. points (store_sites (note_in a.cell) line (here + k))) (same_before change)
-    act_marks (move line cells left right) here tys live =
+    act_marks last (move line cells left right) here tys live =
         let l : Label = record { line = line; base = left.offset; marks = copy_marks cells marked here } in
         skip (n.number l) (spills slot 0 tys) _ (spills_quiet slot deleting types 0 tys)
         ∙ cells_marks line (n.number l) cells left right left.offset 0 here (omega arith) (λ k. ap (λ (x : Label). mark_at x (left.offset + (0 + k))) (n.read l) ∙ (let e : left.offset + (0 + k) - left.offset ≡ k = omega arith in ap (λ i. get_or (copy_marks cells marked here) i false) e))
-    act_marks (delete line) here tys live = refl
-    act_marks (leave line result) here tys live = refl
+    act_marks last (delete line) here tys live = refl
+    act_marks last (leave line result) here tys live = refl
 
     -- as a record, so that arguments are found
     pub record Marks (lines : List Line) (bits : List Bool) : Type 0 where
@@ -234,7 +234,7 @@ module _ (n : Numbering) where
       code_marks (simple steps act) here k p =
           let at_act = here + steps_points steps in
           past (steps_lines slot deleting types (steps_labelled n steps) [] [] (before_act (act_labelled n marked act at_act) k.next)) _ _ (steps_marks steps (before_act (act_labelled n marked act at_act) k.next))
-          (record { is = act_marks act at_act (steps_types (steps_labelled n steps) []) k.next })
+          (record { is = act_marks (last_line (steps_labelled n steps)) act at_act (steps_types (steps_labelled n steps) []) k.next })
       code_marks (clear line x ty) here k p =
           record { is = silent (line_of (plain n line) (zero_code ty) ∷ line_of (plain n line) (To.set x ty) ∷ []) (at line (zero_code ty ∷ To.set x ty ∷ [])) (told_at n (plain n line) line (line_back n line) (zero_code ty ∷ To.set x ty ∷ [])) (clear_quiet slot deleting types line x ty) }
       code_marks (block codes) here k p = codes_marks codes here k p

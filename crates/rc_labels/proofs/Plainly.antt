@@ -26,7 +26,7 @@ use Rattle.rc_annotations.proofs.Nodes.{steps_count, test_count, code_count}
 use Rattle.rc_emission.specs.StackCode.{Instruction, Line}
 use Rattle.rc_emission.specs.StackCode as To
 use Rattle.rc_emission.specs.OperationCode.{line_of, at, compared, count_code, convert_code, test_code, spills, reloads}
-use Rattle.rc_emission.specs.StatementCode.{Place, exit_test, exit_lines, cell_type, further, set_code, gets, steps_lines, step_lines, change_code, cells_code, pops, act_lines, code_lines, codes_lines, end_lines}
+use Rattle.rc_emission.specs.StatementCode.{Place, exit_test, exit_lines, cell_type, further, set_code, gets, steps_lines, step_lines, change_code, cells_code, pops, last_line, act_lines, code_lines, codes_lines, end_lines}
 use Rattle.rc_along.specs.Along.{Stand}
 use Rattle.rc_along.specs.MarkedRuns.{before_store}
 use Rattle.rc_along.proofs.Standing.{stand_left, stand_right}
@@ -173,9 +173,9 @@ module _ (n : Numbering) where
       steps_plainly none saved tys live = tt
       steps_plainly (more s rest) saved tys live = plainly_both (step_lines slot deleting types (step_labelled n s) saved tys _) _ (step_plainly s saved tys _) (steps_plainly rest saved _ live)
 
-    pops_plainly : (tys : List Ty) → Plainly (pops slot deleting types tys)
-    pops_plainly [] = tt
-    pops_plainly (ty ∷ tys) = (no_store_one 0 To.pop refl, pops_plainly tys)
+    pops_plainly : (last : ℕ) (tys : List Ty) → Plainly (pops slot deleting types last tys)
+    pops_plainly last [] = tt
+    pops_plainly last (ty ∷ tys) = (no_store_one last To.pop refl, pops_plainly last tys)
 
     exit_plainly : (test : Option Test) (over : ℕ) → Plainly (exit_lines (option_map (test_labelled n) test) over)
     exit_plainly None over = tt
@@ -242,12 +242,12 @@ module _ (n : Numbering) where
           unasked_kind true note v h e = ap (λ m. asked_of (stored v h m)) e
           unasked_kind false note v h e = refl
 
-      act_plainly : (act : Act) (here next : ℕ) (tys : List Ty) (live : ℕ → Bool) → Stand all here (act_nodes f act here next) → Plainly (act_lines slot deleting types (act_labelled n marked act here) tys live)
-      act_plainly drop here next tys live st = pops_plainly tys
-      act_plainly (perform line g parameters) here next tys live st = (unmarked_one (plain n line) (plain_unmarked line) _, tt)
-      act_plainly (assign line x ty) here next tys live st = (unmarked_one (plain n line) (plain_unmarked line) _, tt)
-      act_plainly (store line a) here next tys live st = (stores _ a (λ p. single n line a.offset (marked here) ∙ unasked here _ st.0 (plain_store a.cell (width a) 0 p)), tt)
-      act_plainly (update line a change ty) here next tys live st =
+      act_plainly : (last : ℕ) (act : Act) (here next : ℕ) (tys : List Ty) (live : ℕ → Bool) → Stand all here (act_nodes f act here next) → Plainly (act_lines slot deleting types last (act_labelled n marked act here) tys live)
+      act_plainly last drop here next tys live st = pops_plainly last tys
+      act_plainly last (perform line g parameters) here next tys live st = (unmarked_one (plain n line) (plain_unmarked line) _, tt)
+      act_plainly last (assign line x ty) here next tys live st = (unmarked_one (plain n line) (plain_unmarked line) _, tt)
+      act_plainly last (store line a) here next tys live st = (stores _ a (λ p. single n line a.offset (marked here) ∙ unasked here _ st.0 (plain_store a.cell (width a) 0 p)), tt)
+      act_plainly last (update line a change ty) here next tys live st =
           let label = n.number (record { line = line; base = a.offset; marks = marked (here + before_store change) ∷ [] }) in
           let fetched = gets slot deleting types 0 (place_types a) in
           let quiet = gets_no_store slot deleting types 0 (place_types a) in
@@ -257,21 +257,21 @@ module _ (n : Numbering) where
             past label (change_code slot deleting types change a.cell ty (To.get (slot (width a) ty))) (To.store a ∷ []) (change_no_store slot deleting types change a.cell ty (width a))
                 (stores label a (λ p. single n line a.offset (marked (here + before_store change)) ∙ update_plainly a change here next st p), tt),
           )))
-      act_plainly (move line cells left right) here next tys live st =
+      act_plainly last (move line cells left right) here next tys live st =
           let l : Label = record { line = line; base = left.offset; marks = copy_marks cells marked here } in
           past (n.number l) (spills slot 0 tys) _ (spills_no_store slot deleting types 0 tys)
           (cells_plainly (n.number l) cells left right left.offset 0 here (width left + width right) (width left) (omega arith)
           (λ k. ap (λ (x : Label). mark_at x (left.offset + (0 + k))) (n.read l) ∙ (let e : left.offset + (0 + k) - left.offset ≡ k = omega arith in ap (λ i. get_or (copy_marks cells marked here) i false) e))
           (λ i e q. stands (cell_effects f (width left + width right) (width left) cells) here next i e st q))
-      act_plainly (delete line) here next tys live st = (unmarked_one (plain n line) (plain_unmarked line) _, tt)
-      act_plainly (leave line result) here next tys live st = (unmarked_one (plain n line) (plain_unmarked line) _, tt)
+      act_plainly last (delete line) here next tys live st = (unmarked_one (plain n line) (plain_unmarked line) _, tt)
+      act_plainly last (leave line result) here next tys live st = (unmarked_one (plain n line) (plain_unmarked line) _, tt)
 
       mutual
         pub code_plainly : (c : Code) (here : ℕ) (ends : Ends) (k : Ways) (p : Place) → Stand all here (code_nodes f c here ends) → Plainly (code_lines slot deleting types (code_labelled n marked c here) k p)
         code_plainly (simple steps act) here ends k p st =
             let at_act = here + steps_points steps in
             plainly_both (steps_lines slot deleting types (steps_labelled n steps) [] [] _) _ (steps_plainly steps [] [] _)
-            (act_plainly act at_act ends.next _ k.next (stand_right all here at_act (steps_nodes f steps here _) _ (ap (λ m. here + m) (sym (steps_count f steps here _))) st))
+            (act_plainly (last_line (steps_labelled n steps)) act at_act ends.next _ k.next (stand_right all here at_act (steps_nodes f steps here _) _ (ap (λ m. here + m) (sym (steps_count f steps here _))) st))
         code_plainly (clear line x ty) here ends k p st = (unmarked_one (plain n line) (plain_unmarked line) _, (unmarked_one (plain n line) (plain_unmarked line) _, tt))
         code_plainly (block codes) here ends k p st = codes_plainly codes here ends k p st
         code_plainly (branch steps test a b) here ends k p st =

@@ -12,7 +12,7 @@ use Rattle.rc_rlang.specs.RegionFits.{step_types, steps_types}
 use Rattle.rc_emission.specs.StackCode.{Instruction, Line}
 use Rattle.rc_emission.specs.StackCode as To
 use Rattle.rc_emission.specs.OperationCode.{line_of, at, test_code, wide, spills, reloads}
-use Rattle.rc_emission.specs.StatementCode.{Place, exit_test, exit_lines, exit_size, set_code, steps_lines, step_lines, pops, act_lines, code_size, codes_size, code_lines, codes_lines, end_lines}
+use Rattle.rc_emission.specs.StatementCode.{Place, exit_test, exit_lines, exit_size, set_code, steps_lines, step_lines, pops, last_line, act_lines, code_size, codes_size, code_lines, codes_lines, end_lines}
 use Rattle.rc_emission.proofs.CodesDo.{size_is, sizes_are}
 use Rattle.rc_labels.specs.Labels.{Label, Numbering, plain, line_in}
 use Rattle.rc_labels.specs.Labelled.{step_labelled, steps_labelled, test_labelled, act_labelled, code_labelled, codes_labelled}
@@ -91,19 +91,25 @@ module _ (n : Numbering) where
     head_told s live' live e = ap (λ g. map (told n) (steps_lines slot deleting types (steps_labelled n s) [] [] g)) e ∙ steps_told s [] [] live
 
     module _ (zero_line : line_in n 0 ≡ 0) (marked : (point : ℕ) → Bool) where
-      pops_told : (tys : List Ty) → Told (pops slot deleting types tys) (pops slot deleting types tys)
-      pops_told [] = refl
-      pops_told (ty ∷ tys) = put 0 0 zero_line To.pop To.pop refl _ _ (pops_told tys)
+      last_told : (s : Steps) → line_in n (last_line (steps_labelled n s)) ≡ last_line s
+      last_told none = zero_line
+      last_told (more (set line h ty op) none) = line_back n line
+      last_told (more (fork line h test result a b) none) = line_back n line
+      last_told (more s (more next rest)) = last_told (more next rest)
 
-      pub act_told : (act : Act) (here : ℕ) (tys : List Ty) (live : ℕ → Bool) → Told (act_lines slot deleting types (act_labelled n marked act here) tys live) (act_lines slot deleting types act tys live)
-      act_told drop here tys live = pops_told tys
-      act_told (perform line f parameters) here tys live = put (plain n line) line (line_back n line) _ _ refl [] [] refl
-      act_told (assign line x ty) here tys live = put (plain n line) line (line_back n line) _ _ refl [] [] refl
-      act_told (store line a) here tys live = put (n.number _) line (read_line _) _ _ refl [] [] refl
-      act_told (update line a change ty) here tys live = told_at (n.number _) line (read_line _) _
-      act_told (move line cells left right) here tys live = told_at (n.number _) line (read_line _) _
-      act_told (delete line) here tys live = put (plain n line) line (line_back n line) _ _ refl [] [] refl
-      act_told (leave line result) here tys live = put (plain n line) line (line_back n line) _ _ refl [] [] refl
+      pops_told : (label line : ℕ) → line_in n label ≡ line → (tys : List Ty) → Told (pops slot deleting types label tys) (pops slot deleting types line tys)
+      pops_told label line e [] = refl
+      pops_told label line e (ty ∷ tys) = put label line e To.pop To.pop refl _ _ (pops_told label line e tys)
+
+      pub act_told : (label last : ℕ) → line_in n label ≡ last → (act : Act) (here : ℕ) (tys : List Ty) (live : ℕ → Bool) → Told (act_lines slot deleting types label (act_labelled n marked act here) tys live) (act_lines slot deleting types last act tys live)
+      act_told label last e drop here tys live = pops_told label last e tys
+      act_told label last e (perform line f parameters) here tys live = put (plain n line) line (line_back n line) _ _ refl [] [] refl
+      act_told label last e (assign line x ty) here tys live = put (plain n line) line (line_back n line) _ _ refl [] [] refl
+      act_told label last e (store line a) here tys live = put (n.number _) line (read_line _) _ _ refl [] [] refl
+      act_told label last e (update line a change ty) here tys live = told_at (n.number _) line (read_line _) _
+      act_told label last e (move line cells left right) here tys live = told_at (n.number _) line (read_line _) _
+      act_told label last e (delete line) here tys live = put (plain n line) line (line_back n line) _ _ refl [] [] refl
+      act_told label last e (leave line result) here tys live = put (plain n line) line (line_back n line) _ _ refl [] [] refl
 
       size_by : (c' c : Code) (k : Ways) → ((p : Place) → Told (code_lines slot deleting types c' k p) (code_lines slot deleting types c k p)) → code_size slot deleting types c' k ≡ code_size slot deleting types c k
       size_by c' c k e =
@@ -158,7 +164,7 @@ module _ (n : Numbering) where
         code_told (simple steps act) here k p =
             let at_act = here + steps_points steps in
             join (steps_lines slot deleting types (steps_labelled n steps) [] [] (before_act (act_labelled n marked act at_act) k.next)) _ _ _ (head_told steps _ _ (act_lives n marked act at_act k.next))
-            (ap (λ tys. map (told n) (act_lines slot deleting types (act_labelled n marked act at_act) tys k.next)) (steps_types_same n steps []) ∙ act_told act at_act (steps_types steps []) k.next)
+            (ap (λ tys. map (told n) (act_lines slot deleting types (last_line (steps_labelled n steps)) (act_labelled n marked act at_act) tys k.next)) (steps_types_same n steps []) ∙ act_told (last_line (steps_labelled n steps)) (last_line steps) (last_told steps) act at_act (steps_types steps []) k.next)
         code_told (clear line x ty) here k p = put (plain n line) line (line_back n line) _ _ refl (line_of (plain n line) (To.set x ty) ∷ []) _ (put (plain n line) line (line_back n line) _ _ refl [] [] refl)
         code_told (block codes) here k p = codes_told codes here k p
         code_told (branch steps test a b) here k p =

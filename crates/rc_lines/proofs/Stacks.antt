@@ -70,20 +70,20 @@ place_width a = ap suc (of a.shift)
     of (Some s) = ap suc (indices a.indices) ∙ (let e : suc (length a.indices) ≡ 1 + length a.indices = omega arith in e)
 
 -- so many operands are let go
-abbrev pub some_pops : ℕ → List Line
-some_pops zero = []
-some_pops (suc n) = line_of 0 pop ∷ some_pops n
+abbrev pub some_pops : (line : ℕ) → ℕ → List Line
+some_pops line zero = []
+some_pops line (suc n) = line_of line pop ∷ some_pops line n
 
-pub one_pop : (n : ℕ) → some_pops (n + 1) ≡ some_pops n ++ line_of 0 pop ∷ []
-one_pop n = let e : n + 1 ≡ suc n = omega arith in ap some_pops e ∙ again n
+pub one_pop : (line n : ℕ) → some_pops line (n + 1) ≡ some_pops line n ++ line_of line pop ∷ []
+one_pop line n = let e : n + 1 ≡ suc n = omega arith in ap (some_pops line) e ∙ again n
   where
-    again : (k : ℕ) → some_pops (suc k) ≡ some_pops k ++ line_of 0 pop ∷ []
+    again : (k : ℕ) → some_pops line (suc k) ≡ some_pops line k ++ line_of line pop ∷ []
     again zero = refl
-    again (suc k) = ap (λ ls. line_of 0 pop ∷ ls) (again k)
+    again (suc k) = ap (λ ls. line_of line pop ∷ ls) (again k)
 
-pub all_pops : (slot : ℕ → Ty → ℕ) (deleting : ℕ → Bool) (types tys : List Ty) → bare_code 0 (pops slot deleting types tys) ≡ some_pops (length tys)
-all_pops slot deleting types [] = refl
-all_pops slot deleting types (ty ∷ tys) = ap (λ ls. line_of 0 pop ∷ ls) (all_pops slot deleting types tys)
+pub all_pops : (slot : ℕ → Ty → ℕ) (deleting : ℕ → Bool) (types : List Ty) (line : ℕ) (tys : List Ty) → bare_code 0 (pops slot deleting types line tys) ≡ some_pops line (length tys)
+all_pops slot deleting types line [] = refl
+all_pops slot deleting types line (ty ∷ tys) = ap (λ ls. line_of line pop ∷ ls) (all_pops slot deleting types line tys)
 
 -- a stack's types, the lowest first
 pushed_twice : (xs above ys : List Ty) → pushed (pushed xs above) ys ≡ pushed above (xs ++ ys)

@@ -30,12 +30,13 @@ use rc_rlang::code::Act;
 fn let_go(
     out: &mut Vec<Line<'_>>,
     body: &Body<'_, '_>,
+    line: u32,
     operands: &[Operand<'_>],
 ) -> Result<(), NoMemory>
-    ensures { OnOk result (lines_of out.new.items ≡ lines_of out.old.items ++ bare_code 0 (pops (slot_in body.now) (deleting_in body.now) (types_in body.now) (types_on operands.now))) }
+    ensures { OnOk result (lines_of out.new.items ≡ lines_of out.old.items ++ bare_code 0 (pops (slot_in body.now) (deleting_in body.now) (types_in body.now) line (types_on operands.now))) }
 {
     for _ in operands {
-        push(out, 0, Instruction::Pop)?;
+        push(out, line, Instruction::Pop)?;
     }
     Ok(())
 }
@@ -111,7 +112,7 @@ fn update<'a>(
     operands: &[Operand<'a>],
 ) -> Result<(), NoMemory>
     requires fits { ActFits (From.update line (access_of place.now) way (ty_of operand.now)) (types_on operands.now) }
-    ensures { (live : _) → OnOk result (lines_of out.new.items ≡ lines_of out.old.items ++ bare_code 0 (act_lines (slot_in body.now) (deleting_in body.now) (types_in body.now) (From.update line (access_of place.now) way (ty_of operand.now)) (types_on operands.now) live)) }
+    ensures { (last : _) (live : _) → OnOk result (lines_of out.new.items ≡ lines_of out.old.items ++ bare_code 0 (act_lines (slot_in body.now) (deleting_in body.now) (types_in body.now) last (From.update line (access_of place.now) way (ty_of operand.now)) (types_on operands.now) live)) }
 {
     let count = width(place);
     if operands.len() < count {
@@ -177,21 +178,23 @@ fn copy_cells<'a>(
     Ok(())
 }
 
-/// What is done with the operands that stand, which are those of an act that has the point.
+/// What is done with the operands that stand, which are those of an act that has the point. The last step
+/// that made them has the line `last`.
 pub fn act_on<'a>(
     out: &mut Vec<Line<'a>>,
     body: &Body<'a, '_>,
     act: &'a Act,
     operands: &[Operand<'a>],
+    last: u32,
     point: u32,
 ) -> Result<(), NoMemory>
     requires laid { AreLaidOut (structs_in body.now) body.now.layouts.now }
     requires fits { ActFits (act_in body.now act.now) (types_on operands.now) }
     requires listed { ActListed body.now act.now point }
-    ensures { (live : _) → Listed body.now.live.now (act_lists (deleting_in body.now) (types_in body.now) (act_in body.now act.now) point live) → OnOk result (lines_of out.new.items ≡ lines_of out.old.items ++ bare_code 0 (act_lines (slot_in body.now) (deleting_in body.now) (types_in body.now) (act_in body.now act.now) (types_on operands.now) live)) }
+    ensures { (live : _) → Listed body.now.live.now (act_lists (deleting_in body.now) (types_in body.now) (act_in body.now act.now) point live) → OnOk result (lines_of out.new.items ≡ lines_of out.old.items ++ bare_code 0 (act_lines (slot_in body.now) (deleting_in body.now) (types_in body.now) last (act_in body.now act.now) (types_on operands.now) live)) }
 {
     match act {
-        Act::Drop => let_go(out, body, operands),
+        Act::Drop => let_go(out, body, last, operands),
         Act::Perform { line, function, .. } => push(
             out,
             *line,

@@ -21,7 +21,7 @@ use Rattle.rc_rlang.specs.RegionRuns.{deletes}
 use Rattle.rc_emission.specs.StackCode.{Instruction, Line}
 use Rattle.rc_emission.specs.StackCode as To
 use Rattle.rc_emission.specs.OperationCode.{line_of, at, zero_test, test_code, wanted_code, compared, count_code, convert_code, spills, reloads}
-use Rattle.rc_emission.specs.StatementCode.{Place, zero_code, cell_type, further, exit_test, exit_lines, set_code, gets, steps_lines, step_lines, change_code, cells_code, pops, act_lines, code_lines, codes_lines, end_lines}
+use Rattle.rc_emission.specs.StatementCode.{Place, zero_code, cell_type, further, exit_test, exit_lines, set_code, gets, steps_lines, step_lines, change_code, cells_code, pops, last_line, act_lines, code_lines, codes_lines, end_lines}
 use Rattle.rc_emission.specs.KeptOperands.{slots_of}
 use Rattle.rc_numbering.specs.Names.{stack_of}
 use Rattle.rc_marks.specs.Stores.{Store, note_on, annotated, cells_stores, act_stores, code_stores, codes_stores, written_one, written, WritesItsStores}
@@ -196,24 +196,24 @@ module _ (slot : ℕ → Ty → ℕ) (deleting : ℕ → Bool) (types : List Ty)
       ∙ ap (λ n. annotated n line ++ written (at line (cells_code slot deleting types kinds (further left) (further right)))) (note_again kind)
       ∙ ap (λ xs. annotated (note_of kind) line ++ xs) (cells_written line kinds (further left) (further right))
 
-  pops_written : (tys : List Ty) → written (pops slot deleting types tys) ≡ []
-  pops_written [] = refl
-  pops_written (t ∷ tys) = pops_written tys
+  pops_written : (last : ℕ) (tys : List Ty) → written (pops slot deleting types last tys) ≡ []
+  pops_written last [] = refl
+  pops_written last (t ∷ tys) = pops_written last tys
 
-  act_written : (act : Act) (tys : List Ty) (live : ℕ → Bool) → written (act_lines slot deleting types act tys live) ≡ act_stores act
-  act_written From.drop tys live = pops_written tys
-  act_written (From.perform line g parameters) tys live = refl
-  act_written (From.assign line x ty) tys live = refl
-  act_written (From.store line a) tys live = append_none (annotated (note_on a.cell) line)
-  act_written (From.update line a change ty) tys live =
+  act_written : (last : ℕ) (act : Act) (tys : List Ty) (live : ℕ → Bool) → written (act_lines slot deleting types last act tys live) ≡ act_stores act
+  act_written last From.drop tys live = pops_written last tys
+  act_written last (From.perform line g parameters) tys live = refl
+  act_written last (From.assign line x ty) tys live = refl
+  act_written last (From.store line a) tys live = append_none (annotated (note_on a.cell) line)
+  act_written last (From.update line a change ty) tys live =
       skip line (spills slot 0 tys) _ (no_spills 0 tys)
       ∙ skip line (gets slot deleting types 0 (place_types a)) _ (no_gets 0 (place_types a))
       ∙ skip line (gets slot deleting types 0 (place_types a)) _ (no_gets 0 (place_types a))
       ∙ skip line (change_code slot deleting types change a.cell ty (To.get (slot (width a) ty))) (To.store a ∷ []) (no_change change a.cell ty (width a))
       ∙ append_none (annotated (note_on a.cell) line)
-  act_written (From.move line kinds left right) tys live = skip line (spills slot 0 tys) _ (no_spills 0 tys) ∙ cells_written line kinds left right
-  act_written (From.delete line) tys live = refl
-  act_written (From.leave line result) tys live = refl
+  act_written last (From.move line kinds left right) tys live = skip line (spills slot 0 tys) _ (no_spills 0 tys) ∙ cells_written line kinds left right
+  act_written last (From.delete line) tys live = refl
+  act_written last (From.leave line result) tys live = refl
 
   exit_written : (test : Option Test) (over : ℕ) → written (exit_lines test over) ≡ []
   exit_written None over = refl
@@ -242,7 +242,7 @@ module _ (slot : ℕ → Ty → ℕ) (deleting : ℕ → Bool) (types : List Ty)
 
   mutual
     pub code_written : (c : Code) (k : Ways) (p : Place) → Writes (code_lines slot deleting types c k p) (code_stores c)
-    code_written (From.simple steps act) k p = past (steps_lines slot deleting types steps [] [] (before_act act k.next)) (act_lines slot deleting types act (steps_types steps []) k.next) (act_stores act) (no_steps steps [] [] (before_act act k.next)) (record { is = act_written act (steps_types steps []) k.next })
+    code_written (From.simple steps act) k p = past (steps_lines slot deleting types steps [] [] (before_act act k.next)) (act_lines slot deleting types (last_line steps) act (steps_types steps []) k.next) (act_stores act) (no_steps steps [] [] (before_act act k.next)) (record { is = act_written (last_line steps) act (steps_types steps []) k.next })
     code_written (From.clear line x ty) k p = record { is = ap (λ xs. xs ++ []) (no_zero_value ty line) }
     code_written (From.block codes) k p = codes_written codes k p
     code_written (From.branch steps test a b) k p =

@@ -21,7 +21,7 @@ use Rattle.rc_rlang.specs.RegionLive.{before_steps, before_act, before_code, bef
 use Rattle.rc_emission.specs.StackCode.{Instruction, Line}
 use Rattle.rc_emission.specs.StackCode as To
 use Rattle.rc_emission.specs.OperationCode.{wide, at, zero_test, test_code, wanted_code, compared, count_code, convert_code, spills, reloads}
-use Rattle.rc_emission.specs.StatementCode.{Place, zero_code, call_pins, further, exit_test, exit_lines, set_code, gets, steps_lines, step_lines, change_code, cells_code, pops, act_lines, code_lines, codes_lines, end_lines, body_lines}
+use Rattle.rc_emission.specs.StatementCode.{Place, zero_code, call_pins, further, exit_test, exit_lines, set_code, gets, steps_lines, step_lines, change_code, cells_code, pops, last_line, act_lines, code_lines, codes_lines, end_lines, body_lines}
 use Rattle.rc_emission.specs.KeptOperands.{same_kept, once, kept_code, Kept, slots_of}
 use Rattle.rc_emission.specs.Served.{AllKept, OperationKeeps, StepServed, StepsServed, ActKeeps, CodeServed, CodesServed}
 use Rattle.rc_emission.specs.Means.{IsThere, Serves}
@@ -213,9 +213,9 @@ module _ (r : Rlang) (f : Routine) (slot : ℕ → Ty → ℕ) (deleting : ℕ �
       (each_append (gets slot deleting types (width left) (place_types right)) _ (gets_said (width left) (place_types right))
       (fit.1, (fit.0, cells_said kinds (further left) (further right) fit.2)))
 
-  pops_said : (tys : List Ty) → All (pops slot deleting types tys)
-  pops_said [] = tt
-  pops_said (ty ∷ tys) = (tt, pops_said tys)
+  pops_said : (last : ℕ) (tys : List Ty) → All (pops slot deleting types last tys)
+  pops_said last [] = tt
+  pops_said last (ty ∷ tys) = (tt, pops_said last tys)
 
   returned_is : (line : ℕ) (result : Option Ty) (tys : List Ty) → tys ≡ pushed (act_types (From.leave line result)) [] → kinds tys ≡ kinds (result_types result)
   returned_is line None tys e = ap kinds e
@@ -224,20 +224,20 @@ module _ (r : Rlang) (f : Routine) (slot : ℕ → Ty → ℕ) (deleting : ℕ �
   local_said : (x : ℕ) (ty : Ty) → x < length f.locals → is_char (get_or f.locals x int) ≡ is_char ty → is_char (get_or (all_locals f) x int) ≡ is_char ty
   local_said x ty lt e = ap is_char (local_is x lt) ∙ e
 
-  act_said : (act : Act) (tys : List Ty) (live : ℕ → Bool) → ActFits act tys → ActKeeps Has types act tys → ActSets types act → ActSayable r f act → All (act_lines slot deleting types act tys live)
-  act_said From.drop tys live fits k s said = pops_said tys
-  act_said (From.perform line g parameters) tys live fits k s said = ((said.0, pins_right (deleting g) _, said.1), tt)
-  act_said (From.assign line x ty) tys live fits k s said = (local_said x ty s said, tt)
-  act_said (From.store line a) tys live fits k s said = (said, tt)
-  act_said (From.update line a change ty) tys live fits k s said =
+  act_said : (last : ℕ) (act : Act) (tys : List Ty) (live : ℕ → Bool) → ActFits act tys → ActKeeps Has types act tys → ActSets types act → ActSayable r f act → All (act_lines slot deleting types last act tys live)
+  act_said last From.drop tys live fits k s said = pops_said last tys
+  act_said last (From.perform line g parameters) tys live fits k s said = ((said.0, pins_right (deleting g) _, said.1), tt)
+  act_said last (From.assign line x ty) tys live fits k s said = (local_said x ty s said, tt)
+  act_said last (From.store line a) tys live fits k s said = (said, tt)
+  act_said last (From.update line a change ty) tys live fits k s said =
       at_said line _ (each_append (spills slot 0 tys) _ (spills_said 0 tys k)
       (each_append (gets slot deleting types 0 (place_types a)) _ (gets_said 0 (place_types a))
       (each_append (gets slot deleting types 0 (place_types a)) _ (gets_said 0 (place_types a))
       (said.0, each_append (change_code slot deleting types change a.cell ty (To.get (slot (width a) ty))) (To.store a ∷ []) (change_said change a.cell ty (width a) said.0.cell_defined said.2) (said.0, tt)))))
-  act_said (From.move line cells left right) tys live fits k s said =
+  act_said last (From.move line cells left right) tys live fits k s said =
       at_said line _ (each_append (spills slot 0 tys) (cells_code slot deleting types cells left right) (spills_said 0 tys k) (cells_said cells left right said))
-  act_said (From.delete line) tys live fits k s said = (tt, tt)
-  act_said (From.leave line result) tys live fits k s said = (returned_is line result tys fits ∙ said, tt)
+  act_said last (From.delete line) tys live fits k s said = (tt, tt)
+  act_said last (From.leave line result) tys live fits k s said = (returned_is line result tys fits ∙ said, tt)
 
   exit_said : (test : Option Test) (over : ℕ) → TestSayable r f test → All (exit_lines test over)
   exit_said None over d = tt
@@ -249,7 +249,7 @@ module _ (r : Rlang) (f : Routine) (slot : ℕ → Ty → ℕ) (deleting : ℕ �
 
   mutual
     pub code_said : (c : Code) → CodeServed Has types c → CodeSets types c → CodeSayable r f c → CodeKinded (all_locals f) global_ty result_ty c → (k : Ways) (p : Place) → All (code_lines slot deleting types c k p)
-    code_said (From.simple steps act) g s said kinded k p = all_append (steps_lines slot deleting types steps [] [] (before_act act k.next)) _ (steps_said steps [] [] (before_act act k.next) g.0 said.0 kinded.0) (act_said act (steps_types steps []) k.next g.1 g.2 s said.1)
+    code_said (From.simple steps act) g s said kinded k p = all_append (steps_lines slot deleting types steps [] [] (before_act act k.next)) _ (steps_said steps [] [] (before_act act k.next) g.0 said.0 kinded.0) (act_said (last_line steps) act (steps_types steps []) k.next g.1 g.2 s said.1)
     code_said (From.clear line x ty) g s said kinded k p = (zero_value_said ty said.1, (local_said x ty s said.0, tt))
     code_said (From.block codes) g s said kinded k p = codes_said codes g s said kinded k p
     code_said (From.branch steps test a b) g s said kinded k p =

@@ -1,9 +1,9 @@
 -- The functions of a program, one after another.
-use Rattle.std.proofs.Common.{◌≡◌, ◌<◌, ◌≤◌, ℕ, suc, ◌+◌, List, [], ◌∷◌, ◌++◌, length, map, take, drop, get_or, refl, sym, ap, ◌∙◌, subst, arith}
+use Rattle.std.proofs.Common.{◌≡◌, ◌<◌, ℕ, suc, ◌+◌, List, [], ◌∷◌, ◌++◌, length, map, take, drop, get_or, sym, ap, ◌∙◌, subst, arith}
 use Rattle.std.specs.Prelude.{Some, slice_get, option_map, Bool}
 use Rattle.std.specs.List.{AllByRecursion as Every}
 use Rattle.std.proofs.Math.Seq.{drop-cons, take-suc}
-use Rattle.std.proofs.lemmas.List.{map-append, take_all}
+use Rattle.std.proofs.lemmas.List.{map-append}
 use Rattle.std.proofs.lemmas.Option.{slice_get-map, slice_get-get_or}
 use Rattle.rc_safety.proofs.Lists.{every_split, every_more}
 use Rattle.rc_core.specs.Types.{Ty}
@@ -19,7 +19,7 @@ use Rattle.rc_rlang.specs.RegionPoints.{routine_points}
 use Rattle.rc_rlang.specs.RegionRuns.{deletes}
 use Rattle.rc_rlang.specs.Shapes.{rlang_of}
 use Rattle.rc_emission.specs.StackCode.{Line, StackFunction}
-use Rattle.rc_emission.specs.KeptOperands.{Kept, kept_code, slots_of, same_kept, place_in, once}
+use Rattle.rc_emission.specs.KeptOperands.{kept_code, slots_of, same_kept, place_in, once}
 use Rattle.rc_emission.specs.StatementCode.{body_lines, code_lines, stack_function, end_lines}
 use Rattle.rc_scope.specs.Names.{number_of}
 use Rattle.rc_lines.specs.Keys.{kept_key}

@@ -8,3 +8,4 @@ pub mod Holding
 pub mod Making
 pub mod Walks
 pub mod InFront
+pub mod LastLine

@@ -1,12 +1,11 @@
 -- What is done of the operands so far.
-use Rattle.std.proofs.Common.{◌≡◌, ◌<◌, ◌+◌, ℕ, suc, List, [], ◌∷◌, ◌++◌, length, map, take, drop, reverse, get_or, refl, sym, ap, ◌∙◌, subst, arith, append_assoc}
+use Rattle.std.proofs.Common.{◌≡◌, ◌<◌, ℕ, suc, List, [], ◌∷◌, ◌++◌, length, map, take, drop, reverse, get_or, refl, sym, ap, ◌∙◌, subst, append_assoc}
 use Rattle.std.specs.Prelude.{nat_lt, false}
 use Rattle.std.specs.List.{AllByRecursion as Every}
 use Rattle.std.proofs.Math.Seq.{drop-cons, take-suc}
 use Rattle.std.proofs.lemmas.List.{map-append, length-map, reverse-append}
 use Rattle.std.specs.List.{take-map}
 use Rattle.std.proofs.Math.ListN.{get_or-map}
-use Rattle.rc_safety.proofs.Lists.{every_append}
 use Rattle.rc_core.specs.Types.{Ty}
 use Rattle.rc_core.specs.declared.ty.Ty.{Ty as CodeTy}
 use Rattle.rc_core.specs.Shapes.{ty_of}

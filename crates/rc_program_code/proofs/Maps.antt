@@ -1,6 +1,6 @@
 -- In a map each list is found by its point.
-use Rattle.std.proofs.Common.{◌≡◌, ◌<◌, ◌≤◌, ℕ, suc, Bool, true, false, List, [], ◌∷◌, map, refl, sym, ap, ◌∙◌, arith, rules}
-use Rattle.std.specs.Prelude.{nat_eq, Some}
+use Rattle.std.proofs.Common.{◌≡◌, ◌<◌, ◌≤◌, ℕ, suc, true, false, List, [], ◌∷◌, map, ap, ◌∙◌, arith, rules}
+use Rattle.std.specs.Prelude.{nat_eq}
 use Rattle.std.specs.List.{AllByRecursion as Every}
 use Rattle.rc_safety.proofs.Lists.{every_more}
 use Rattle.rc_rlang.specs.LiveLists.{Held}

@@ -1,9 +1,8 @@
 -- Code names the locals of those operands alone that it keeps: where two ways of choosing locals agree on these, the code is the same.
-use Rattle.std.proofs.Common.{◌≡◌, ℕ, zero, suc, ◌+◌, Bool, ◌||◌, ◌&&◌, List, [], ◌∷◌, ◌++◌, length, refl, sym, ap, ◌∙◌, subst, arith, length-append}
+use Rattle.std.proofs.Common.{◌≡◌, ℕ, suc, ◌+◌, Bool, ◌||◌, ◌&&◌, List, [], ◌∷◌, ◌++◌, length, refl, sym, ap, ◌∙◌, subst, arith, length-append}
 use Rattle.std.specs.Prelude.{Option, Some, None, is_some}
 use Rattle.std.specs.List.{AllByRecursion as Every}
 use Rattle.rc_safety.proofs.Lists.{every_split}
-use Rattle.rc_core.specs.declared.ty.Signedness.{Signedness}
 use Rattle.rc_core.specs.declared.operators.Direction.TheVariants.{Forward}
 use Rattle.rc_core.specs.declared.stmt.Change.{Change}
 use Rattle.rc_core.specs.declared.stmt.Change.TheVariants.{Compute, Step as Stepping}
@@ -17,9 +16,9 @@ use Rattle.rc_rlang.specs.RegionKinds.{signed_of}
 use Rattle.rc_rlang.specs.RegionLive.{before_steps, before_act, before_code, before_codes, loop_head, repeat_tail}
 use Rattle.rc_emission.specs.StackCode.{Instruction, Line}
 use Rattle.rc_emission.specs.StackCode as To
-use Rattle.rc_emission.specs.OperationCode.{line_of, at, test_code, wide, spills, reloads, exchange}
+use Rattle.rc_emission.specs.OperationCode.{line_of, at, test_code, wide, spills, reloads}
 use Rattle.rc_emission.specs.KeptOperands.{Kept, kept_at, kept_operands, kept_operation, kept_step, kept_steps, kept_act, kept_code, kept_codes}
-use Rattle.rc_emission.specs.StatementCode.{Place, exit_lines, exit_size, set_code, gets, steps_lines, step_lines, change_code, cells_code, cell_type, further, act_lines, code_size, codes_size, code_lines, codes_lines, end_lines}
+use Rattle.rc_emission.specs.StatementCode.{Place, exit_lines, exit_size, set_code, gets, steps_lines, step_lines, change_code, cells_code, cell_type, further, last_line, act_lines, code_size, codes_size, code_lines, codes_lines, end_lines}
 use Rattle.rc_emission.proofs.CodesDo.{size_is, sizes_are}
 use Rattle.rc_lines.proofs.Stacks.{place_width}
 
@@ -146,16 +145,16 @@ module _ (s1 s2 : ℕ → Ty → ℕ) (deleting : ℕ → Bool) (types : List Ty
       ∙ ap (λ is. gets s2 deleting types 0 (place_types left) ++ (is ++ (ld ∷ st ∷ cells_code s1 deleting types kinds (further left) (further right)))) (gets_same (width left) (place_types right) b)
       ∙ ap (λ is. gets s2 deleting types 0 (place_types left) ++ (gets s2 deleting types (width left) (place_types right) ++ (ld ∷ st ∷ is))) (cells_same kinds (further left) (further right) a b)
 
-  act_same : (act : Act) (tys : List Ty) (live : ℕ → Bool) → ActFits act tys → Every Same (kept_act act tys) → act_lines s1 deleting types act tys live ≡ act_lines s2 deleting types act tys live
-  act_same From.drop tys live f a = pops_same tys
+  act_same : (last : ℕ) (act : Act) (tys : List Ty) (live : ℕ → Bool) → ActFits act tys → Every Same (kept_act act tys) → act_lines s1 deleting types last act tys live ≡ act_lines s2 deleting types last act tys live
+  act_same last From.drop tys live f a = pops_same tys
     where
-      pops_same : (tys : List Ty) → act_lines s1 deleting types From.drop tys live ≡ act_lines s2 deleting types From.drop tys live
+      pops_same : (tys : List Ty) → act_lines s1 deleting types last From.drop tys live ≡ act_lines s2 deleting types last From.drop tys live
       pops_same [] = refl
-      pops_same (ty ∷ tys) = ap (λ ls. line_of 0 To.pop ∷ ls) (pops_same tys)
-  act_same (From.perform line g parameters) tys live f a = refl
-  act_same (From.assign line x ty) tys live f a = refl
-  act_same (From.store line place) tys live f a = refl
-  act_same (From.update line place change ty) tys live f a =
+      pops_same (ty ∷ tys) = ap (λ ls. line_of last To.pop ∷ ls) (pops_same tys)
+  act_same last (From.perform line g parameters) tys live f a = refl
+  act_same last (From.assign line x ty) tys live f a = refl
+  act_same last (From.store line place) tys live f a = refl
+  act_same last (From.update line place change ty) tys live f a =
       let all = from_split 0 (place_types place) (ty ∷ []) (from_below tys (place_types place ++ ty ∷ []) f a) in
       let w : 0 + length (place_types place) ≡ width place = let p = place_width place in omega (arith, p) in
       let own : s1 (width place) ty ≡ s2 (width place) ty = subst (λ n. s1 n ty ≡ s2 n ty) w all.1.0 in
@@ -169,13 +168,13 @@ module _ (s1 s2 : ℕ → Ty → ℕ) (deleting : ℕ → Bool) (types : List Ty
       changed : (change : Change) → change_code s1 deleting types change place.cell ty (To.get (s2 (width place) ty)) ≡ change_code s2 deleting types change place.cell ty (To.get (s2 (width place) ty))
       changed (Compute from o s) = refl
       changed (Stepping direction) = refl
-  act_same (From.move line cells left right) tys live f a =
+  act_same last (From.move line cells left right) tys live f a =
       let all = from_split 0 (place_types left) (place_types right) (from_below tys (place_types left ++ place_types right) f a) in
       let w : 0 + length (place_types left) ≡ width left = let p = place_width left in omega (arith, p) in
       ap (λ is. at line (is ++ cells_code s1 deleting types cells left right)) (spills_same 0 tys a)
       ∙ ap (λ is. at line (spills s2 0 tys ++ is)) (cells_same cells left right all.0 (subst (λ n. AllFrom n (place_types right)) w all.1))
-  act_same (From.delete line) tys live f a = refl
-  act_same (From.leave line result) tys live f a = refl
+  act_same last (From.delete line) tys live f a = refl
+  act_same last (From.leave line result) tys live f a = refl
 
   abbrev of1 : Code → Ways → Place → List Line
   of1 c k p = code_lines s1 deleting types c k p
@@ -202,8 +201,8 @@ module _ (s1 s2 : ℕ → Ty → ℕ) (deleting : ℕ → Bool) (types : List Ty
     pub code_same : (c : Code) (k : Ways) (p : Place) → CodeFits c → Every Same (kept_code c) → of1 c k p ≡ of2 c k p
     code_same (simple steps act) k p f a =
         let r = split (kept_steps steps 0 []) (kept_act act (steps_types steps [])) a in
-        ap (λ ls. ls ++ act_lines s1 deleting types act (steps_types steps []) k.next) (steps_same steps [] [] (before_act act k.next) f.0 r.0)
-        ∙ ap (λ ls. steps2 steps [] [] (before_act act k.next) ++ ls) (act_same act (steps_types steps []) k.next f.1 r.1)
+        ap (λ ls. ls ++ act_lines s1 deleting types (last_line steps) act (steps_types steps []) k.next) (steps_same steps [] [] (before_act act k.next) f.0 r.0)
+        ∙ ap (λ ls. steps2 steps [] [] (before_act act k.next) ++ ls) (act_same (last_line steps) act (steps_types steps []) k.next f.1 r.1)
     code_same (clear line x ty) k p f a = refl
     code_same (block codes) k p f a = codes_same codes k p f a
     code_same (branch steps test yes' no') k p f a =

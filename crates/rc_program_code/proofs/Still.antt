@@ -210,26 +210,26 @@ module _ (total : ℕ) where
         joins (gets slot deleting types 0 (place_types left)) (g ++ (ld ∷ st ∷ rest)) (still_gets 0 (place_types left))
         (joins g (ld ∷ st ∷ rest) (still_gets (width left) (place_types right)) (follows ld (st ∷ rest) refl (follows st rest refl (still_cells kinds (further left) (further right)))))
 
-    still_pops : (tys : List Ty) → StillLines (pops slot deleting types tys)
-    still_pops [] = refl
-    still_pops (ty ∷ tys) = follows_line (line_of 0 To.pop) (pops slot deleting types tys) refl (still_pops tys)
+    still_pops : (last : ℕ) (tys : List Ty) → StillLines (pops slot deleting types last tys)
+    still_pops last [] = refl
+    still_pops last (ty ∷ tys) = follows_line (line_of last To.pop) (pops slot deleting types last tys) refl (still_pops last tys)
 
-    pub act_still : (act : Act) (tys : List Ty) (live : ℕ → Bool) → StillLines (act_lines slot deleting types act tys live)
-    act_still From.drop tys live = still_pops tys
-    act_still (From.perform line f parameters) tys live = refl
-    act_still (From.assign line x ty) tys live = refl
-    act_still (From.store line a) tys live = refl
-    act_still (From.update line a change ty) tys live =
+    pub act_still : (last : ℕ) (act : Act) (tys : List Ty) (live : ℕ → Bool) → StillLines (act_lines slot deleting types last act tys live)
+    act_still last From.drop tys live = still_pops last tys
+    act_still last (From.perform line f parameters) tys live = refl
+    act_still last (From.assign line x ty) tys live = refl
+    act_still last (From.store line a) tys live = refl
+    act_still last (From.update line a change ty) tys live =
         let place = gets slot deleting types 0 (place_types a) in
         let changed = change_code slot deleting types change a.cell ty (To.get (slot (width a) ty)) in
-        let last = To.load a ∷ (changed ++ To.store a ∷ []) in
-        let s1 : Still last = follows (To.load a) (changed ++ To.store a ∷ []) refl (joins changed (To.store a ∷ []) (still_change change a.cell ty (slot (width a) ty)) refl) in
-        let s2 : Still (place ++ last) = joins place last (still_gets 0 (place_types a)) s1 in
-        let s3 : Still (place ++ (place ++ last)) = joins place (place ++ last) (still_gets 0 (place_types a)) s2 in
-        at_still line (spills slot 0 tys ++ (place ++ (place ++ last))) (joins (spills slot 0 tys) (place ++ (place ++ last)) (still_spills 0 tys) s3)
-    act_still (From.move line cells left right) tys live = at_still line (spills slot 0 tys ++ cells_code slot deleting types cells left right) (joins (spills slot 0 tys) (cells_code slot deleting types cells left right) (still_spills 0 tys) (still_cells cells left right))
-    act_still (From.delete line) tys live = refl
-    act_still (From.leave line result) tys live = refl
+        let after = To.load a ∷ (changed ++ To.store a ∷ []) in
+        let s1 : Still after = follows (To.load a) (changed ++ To.store a ∷ []) refl (joins changed (To.store a ∷ []) (still_change change a.cell ty (slot (width a) ty)) refl) in
+        let s2 : Still (place ++ after) = joins place after (still_gets 0 (place_types a)) s1 in
+        let s3 : Still (place ++ (place ++ after)) = joins place (place ++ after) (still_gets 0 (place_types a)) s2 in
+        at_still line (spills slot 0 tys ++ (place ++ (place ++ after))) (joins (spills slot 0 tys) (place ++ (place ++ after)) (still_spills 0 tys) s3)
+    act_still last (From.move line cells left right) tys live = at_still line (spills slot 0 tys ++ cells_code slot deleting types cells left right) (joins (spills slot 0 tys) (cells_code slot deleting types cells left right) (still_spills 0 tys) (still_cells cells left right))
+    act_still last (From.delete line) tys live = refl
+    act_still last (From.leave line result) tys live = refl
 
     pub end_still : (result : Option Ty) (line : ℕ) → StillLines (end_lines slot deleting types result line)
     end_still None line = refl

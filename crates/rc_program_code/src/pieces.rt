@@ -2,10 +2,10 @@
 ghost use Rattle.std.specs.Prelude.{◌≡◌, ◌+◌, ◌∷◌, ◌++◌, [], length, ℕ, Bool, option_map, Some, OnOk, IfOk};
 ghost use Rattle.rc_core.specs.Live.{Ways};
 ghost use Rattle.rc_core.specs.Shapes.{ty_of};
-ghost use Rattle.rc_emission.specs.StatementCode.{Place, steps_lines, exit_lines, code_lines};
+ghost use Rattle.rc_emission.specs.StatementCode.{Place, line_of_step, last_line, steps_lines, exit_lines, code_lines};
 ghost use Rattle.rc_rlang.specs.RegionCode as From;
 ghost use Rattle.rc_rlang.specs.RegionPoints.{steps_points, act_points, code_points};
-ghost use Rattle.rc_rlang.specs.Shapes.{test_of};
+ghost use Rattle.rc_rlang.specs.Shapes.{step_of, steps_of, test_of};
 ghost use Rattle.rc_lines.specs.Bare.{bare_code};
 ghost use Rattle.rc_lines.specs.Over.{deleting_in, types_in, slot_in, steps_in, act_in};
 ghost use Rattle.rc_program_code.specs.Onward.{onward};
@@ -18,6 +18,25 @@ use rc_lines::{Body, Instruction, Line, act_on, exit_test, push, steps, zero};
 use rc_rlang::code::{Act, Test};
 use rc_rlang::steps::Step;
 use rc_rlang::{act_points, steps_points};
+
+/// The line of a step.
+fn line_of(step: &Step) -> u32
+    ensures { (structs : _) → result ≡ line_of_step (step_of structs step.now) }
+{
+    match step {
+        Step::Set { line, .. } | Step::Fork { line, .. } => *line,
+    }
+}
+
+/// The line of the last step, 0 where there is none.
+fn last_line(all: &[Step]) -> u32
+    ensures { (structs : _) → result ≡ last_line (steps_of structs all.now) }
+{
+    match all.last() {
+        Some(step) => line_of(step),
+        None => 0,
+    }
+}
 
 /// Steps, and what is done with their value, before a point. It answers the point at which they begin.
 pub(crate) fn simple<'a>(
@@ -40,6 +59,7 @@ pub(crate) fn simple<'a>(
         body,
         act,
         behind.operands.as_slice(),
+        last_line(all),
         behind.point,
     )?;
     put_piece(out, piece)?;

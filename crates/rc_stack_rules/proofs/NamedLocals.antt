@@ -25,7 +25,7 @@ use Rattle.rc_translation.proofs.StatementFitting.{statement_fits}
 use Rattle.rc_emission.specs.StackCode.{Instruction, Line}
 use Rattle.rc_emission.specs.StackCode as To
 use Rattle.rc_emission.specs.OperationCode.{line_of, at, zero_test, test_code, wanted_code, compared, count_code, convert_code, spills, reloads}
-use Rattle.rc_emission.specs.StatementCode.{Place, zero_code, call_pins, further, exit_test, exit_lines, set_code, gets, steps_lines, step_lines, change_code, cells_code, pops, act_lines, code_lines, codes_lines, end_lines}
+use Rattle.rc_emission.specs.StatementCode.{Place, zero_code, call_pins, further, exit_test, exit_lines, set_code, gets, steps_lines, step_lines, change_code, cells_code, pops, last_line, act_lines, code_lines, codes_lines, end_lines}
 use Rattle.rc_emission.specs.KeptOperands.{same_kept, slots_of}
 use Rattle.rc_emission.specs.Served.{OperationServed, AllKept, OperationKeeps, StepServed, StepsServed, ActKeeps, CodeServed, CodesServed}
 use Rattle.rc_emission.specs.Means.{IsThere, Serves}
@@ -217,28 +217,28 @@ module _ (types : List Ty) (count : ℕ) (room : length types ≤ count) (slot :
       (each_append (gets slot deleting types (width left) (place_types right)) _ (gets_named (width left) (place_types right) kr)
       (tt, (tt, cells_named kinds (further left) (further right) kl kr)))
 
-  pops_named : (tys : List Ty) → All (pops slot deleting types tys)
-  pops_named [] = tt
-  pops_named (ty ∷ tys) = (tt, pops_named tys)
+  pops_named : (last : ℕ) (tys : List Ty) → All (pops slot deleting types last tys)
+  pops_named last [] = tt
+  pops_named last (ty ∷ tys) = (tt, pops_named last tys)
 
-  act_named : (act : Act) (tys : List Ty) (live : ℕ → Bool) → ActFits act tys → ActKeeps Has types act tys → ActSets types act → All (act_lines slot deleting types act tys live)
-  act_named From.drop tys live f k s = pops_named tys
-  act_named (From.perform line g parameters) tys live f k s = (pins_named (deleting g) live, tt)
-  act_named (From.assign line x ty) tys live f k s = ((omega (arith, room, s)), tt)
-  act_named (From.store line a) tys live f k s = (tt, tt)
-  act_named (From.update line a change ty) tys live f k s =
+  act_named : (last : ℕ) (act : Act) (tys : List Ty) (live : ℕ → Bool) → ActFits act tys → ActKeeps Has types act tys → ActSets types act → All (act_lines slot deleting types last act tys live)
+  act_named last From.drop tys live f k s = pops_named last tys
+  act_named last (From.perform line g parameters) tys live f k s = (pins_named (deleting g) live, tt)
+  act_named last (From.assign line x ty) tys live f k s = ((omega (arith, room, s)), tt)
+  act_named last (From.store line a) tys live f k s = (tt, tt)
+  act_named last (From.update line a change ty) tys live f k s =
       let pw = place_width a in
       let hs = haves_append (place_types a) (ty ∷ []) 0 (width a) (omega (arith, pw)) (haves (place_types a ++ ty ∷ []) [] (subst (λ z. AllKept Has types 0 z) f k)).0 in
       at_named line _ (each_append (spills slot 0 tys) _ (spills_named 0 tys k)
       (each_append (gets slot deleting types 0 (place_types a)) _ (gets_named 0 (place_types a) hs.0)
       (each_append (gets slot deleting types 0 (place_types a)) _ (gets_named 0 (place_types a) hs.0)
       (tt, each_append (change_code slot deleting types change a.cell ty (To.get (slot (width a) ty))) (To.store a ∷ []) (change_named change a.cell ty (width a) (there (width a) ty hs.1.0)) (tt, tt)))))
-  act_named (From.move line cells left right) tys live f k s =
+  act_named last (From.move line cells left right) tys live f k s =
       let pw = place_width left in
       let hs = haves_append (place_types left) (place_types right) 0 (width left) (omega (arith, pw)) (haves (place_types left ++ place_types right) [] (subst (λ z. AllKept Has types 0 z) f k)).0 in
       at_named line _ (each_append (spills slot 0 tys) (cells_code slot deleting types cells left right) (spills_named 0 tys k) (cells_named cells left right hs.0 hs.1))
-  act_named (From.delete line) tys live f k s = (pins_fit types live, tt)
-  act_named (From.leave line result) tys live f k s = (tt, tt)
+  act_named last (From.delete line) tys live f k s = (pins_fit types live, tt)
+  act_named last (From.leave line result) tys live f k s = (tt, tt)
 
   exit_named : (test : Option Test) (over : ℕ) → All (exit_lines test over)
   exit_named None over = tt
@@ -250,7 +250,7 @@ module _ (types : List Ty) (count : ℕ) (room : length types ≤ count) (slot :
 
   mutual
     pub code_named : (c : Code) → CodeServed Has types c → CodeSets types c → (k : Ways) (p : Place) → All (code_lines slot deleting types c k p)
-    code_named (From.simple steps act) f s k p = all_append (steps_lines slot deleting types steps [] [] (before_act act k.next)) _ (steps_named steps [] [] (before_act act k.next) f.0) (act_named act (steps_types steps []) k.next f.1 f.2 s)
+    code_named (From.simple steps act) f s k p = all_append (steps_lines slot deleting types steps [] [] (before_act act k.next)) _ (steps_named steps [] [] (before_act act k.next) f.0) (act_named (last_line steps) act (steps_types steps []) k.next f.1 f.2 s)
     code_named (From.clear line x ty) f s k p = zero_value_named ty line x (omega (arith, room, s))
     code_named (From.block codes) f s k p = codes_named codes f s k p
     code_named (From.branch steps test a b) f s k p =

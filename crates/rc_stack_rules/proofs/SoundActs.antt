@@ -91,9 +91,9 @@ module _ (locals : List Ty) (global_ty result_ty : ℕ → Ty) (mark : ℕ → T
       regroup [] b c = refl
       regroup (i ∷ a) b c = ap (λ x. i ∷ x) (regroup a b c)
 
-  update_sound : (line : ℕ) (a : Access) (change : Change) (ty : Ty) (live : ℕ → Bool) (ok : ℕ → Type 0) (place : ℕ) → AllKept Has types 0 (pushed (place_types a ++ ty ∷ []) []) → ChangeKinded locals global_ty result_ty change a.cell ty →
-      G ok place (act_lines slot deleting types (From.update line a change ty) (pushed (place_types a ++ ty ∷ []) []) live) (kinds (pushed (place_types a ++ ty ∷ []) [])) []
-  update_sound line a change ty live ok place all l =
+  update_sound : (last line : ℕ) (a : Access) (change : Change) (ty : Ty) (live : ℕ → Bool) (ok : ℕ → Type 0) (place : ℕ) → AllKept Has types 0 (pushed (place_types a ++ ty ∷ []) []) → ChangeKinded locals global_ty result_ty change a.cell ty →
+      G ok place (act_lines slot deleting types last (From.update line a change ty) (pushed (place_types a ++ ty ∷ []) []) live) (kinds (pushed (place_types a ++ ty ∷ []) [])) []
+  update_sound last line a change ty live ok place all l =
       let tys = pushed (place_types a ++ ty ∷ []) [] in
       let pt = kinds (place_types a) in
       let pw = place_width a in
@@ -122,9 +122,9 @@ module _ (locals : List Ty) (global_ty result_ty : ℕ → Ty) (mark : ℕ → T
       (λ p1. then_sound line (gets slot deleting types (width left) (place_types right)) (To.load from ∷ To.store to ∷ more) ok p1 (pushed pl []) (pushed (kinds (place_types right)) (pushed pl [])) [] (λ ok1. gets_sound line (width left) (place_types right) ok1 p1 (pushed pl []) hr)
       (λ p2. load_sound line from (To.store to ∷ more) ok p2 (pushed pl []) [] (store_sound line to (at line more) ok (suc p2) [] [] (cells_sound line cells (further left) (further right) ok (suc (suc p2)) hl hr))))
 
-  move_sound : (line : ℕ) (cells : Layout) (left right : Access) (live : ℕ → Bool) (ok : ℕ → Type 0) (place : ℕ) → AllKept Has types 0 (pushed (place_types left ++ place_types right) []) →
-      G ok place (act_lines slot deleting types (From.move line cells left right) (pushed (place_types left ++ place_types right) []) live) (kinds (pushed (place_types left ++ place_types right) [])) []
-  move_sound line cells left right live ok place all =
+  move_sound : (last line : ℕ) (cells : Layout) (left right : Access) (live : ℕ → Bool) (ok : ℕ → Type 0) (place : ℕ) → AllKept Has types 0 (pushed (place_types left ++ place_types right) []) →
+      G ok place (act_lines slot deleting types last (From.move line cells left right) (pushed (place_types left ++ place_types right) []) live) (kinds (pushed (place_types left ++ place_types right) [])) []
+  move_sound last line cells left right live ok place all =
       let tys = pushed (place_types left ++ place_types right) [] in
       let pw = place_width left in
       let hs = haves_append (place_types left) (place_types right) 0 (width left) (omega (arith, pw)) (haves (place_types left ++ place_types right) [] all).0 in
@@ -132,31 +132,31 @@ module _ (locals : List Ty) (global_ty result_ty : ℕ → Ty) (mark : ℕ → T
       (λ ok1. spills_sound locals global_ty result_ty mark types slot deleting Has slot_kind (set_loads locals global_ty result_ty mark types slot deleting Has slot_kind) line 0 tys ok1 place all)
       (λ p1. cells_sound line cells left right ok p1 hs.0 hs.1)
 
-  pops_sound : (tys : List Ty) (ok : ℕ → Type 0) (place : ℕ) → G ok place (pops slot deleting types tys) (kinds tys) []
-  pops_sound [] ok place = refl
-  pops_sound (ty ∷ tys) ok place = ((kind_ty ty ∷ [], kinds tys, refl, refl), tt, pops_sound tys ok (suc place))
+  pops_sound : (last : ℕ) (tys : List Ty) (ok : ℕ → Type 0) (place : ℕ) → G ok place (pops slot deleting types last tys) (kinds tys) []
+  pops_sound last [] ok place = refl
+  pops_sound last (ty ∷ tys) ok place = ((kind_ty ty ∷ [], kinds tys, refl, refl), tt, pops_sound last tys ok (suc place))
 
-  perform_sound : (line g : ℕ) (parameters : List Ty) (live : ℕ → Bool) (ok : ℕ → Type 0) (place : ℕ) → G ok place (act_lines slot deleting types (From.perform line g parameters) (pushed (map value_type parameters) []) live) (kinds (pushed (map value_type parameters) [])) []
-  perform_sound line g parameters live ok place =
+  perform_sound : (last line g : ℕ) (parameters : List Ty) (live : ℕ → Bool) (ok : ℕ → Type 0) (place : ℕ) → G ok place (act_lines slot deleting types last (From.perform line g parameters) (pushed (map value_type parameters) []) live) (kinds (pushed (map value_type parameters) [])) []
+  perform_sound last line g parameters live ok place =
       let e : kinds (pushed (map value_type parameters) []) ≡ pushed (kinds parameters) [] = kinds_pushed (map value_type parameters) [] ∙ ap (λ ks. pushed ks []) (kinds_value parameters) in
       (([], e), tt, drop_all (kinds parameters) (kinds (pushed (map value_type parameters) [])) [] e)
 
-  store_act_sound : (line : ℕ) (a : Access) (live : ℕ → Bool) (ok : ℕ → Type 0) (place : ℕ) → G ok place (act_lines slot deleting types (From.store line a) (pushed (place_types a ++ value_type a.cell ∷ []) []) live) (kinds (pushed (place_types a ++ value_type a.cell ∷ []) [])) []
-  store_act_sound line a live ok place =
+  store_act_sound : (last line : ℕ) (a : Access) (live : ℕ → Bool) (ok : ℕ → Type 0) (place : ℕ) → G ok place (act_lines slot deleting types last (From.store line a) (pushed (place_types a ++ value_type a.cell ∷ []) []) live) (kinds (pushed (place_types a ++ value_type a.cell ∷ []) [])) []
+  store_act_sound last line a live ok place =
       let e : kinds (pushed (place_types a ++ value_type a.cell ∷ []) []) ≡ kind_ty a.cell ∷ pushed (kinds (place_types a)) [] =
       kinds_pushed (place_types a ++ value_type a.cell ∷ []) [] ∙ ap (λ ks. pushed ks []) (kinds_append (place_types a) (value_type a.cell ∷ [])) ∙ pushed_append (kinds (place_types a)) (kind_ty (value_type a.cell) ∷ []) [] ∙ ap (λ k. k ∷ pushed (kinds (place_types a)) []) (kind_value a.cell) in
       subst (λ x. G ok place (line_of line (To.store a) ∷ []) x []) (sym e) (store_sound line a [] ok place [] [] refl)
 
-  leave_sound : (line : ℕ) (result : Option Ty) (live : ℕ → Bool) (ok : ℕ → Type 0) (place : ℕ) → G ok place (act_lines slot deleting types (From.leave line result) (pushed (act_types (From.leave line result)) []) live) (kinds (pushed (act_types (From.leave line result)) [])) []
-  leave_sound line None live ok place = (([], refl), refl, refl)
-  leave_sound line (Some ty) live ok place = (([], refl), refl, refl)
+  leave_sound : (last line : ℕ) (result : Option Ty) (live : ℕ → Bool) (ok : ℕ → Type 0) (place : ℕ) → G ok place (act_lines slot deleting types last (From.leave line result) (pushed (act_types (From.leave line result)) []) live) (kinds (pushed (act_types (From.leave line result)) [])) []
+  leave_sound last line None live ok place = (([], refl), refl, refl)
+  leave_sound last line (Some ty) live ok place = (([], refl), refl, refl)
 
-  pub act_loads : (act : Act) (tys : List Ty) (live : ℕ → Bool) (ok : ℕ → Type 0) (place : ℕ) → ActFits act tys → ActKeeps Has types act tys → ActKinded locals global_ty result_ty act → G ok place (act_lines slot deleting types act tys live) (kinds tys) []
-  act_loads From.drop tys live ok place e sp l = pops_sound tys ok place
-  act_loads (From.perform line g parameters) tys live ok place e sp l = subst (λ z. G ok place (act_lines slot deleting types (From.perform line g parameters) z live) (kinds z) []) (sym e) (perform_sound line g parameters live ok place)
-  act_loads (From.assign line x ty) tys live ok place e sp l = subst (λ z. G ok place (act_lines slot deleting types (From.assign line x ty) z live) (kinds z) []) (sym e) (([], ap (λ k. k ∷ []) (kind_value ty ∙ sym l)), tt, refl)
-  act_loads (From.store line a) tys live ok place e sp l = subst (λ z. G ok place (act_lines slot deleting types (From.store line a) z live) (kinds z) []) (sym e) (store_act_sound line a live ok place)
-  act_loads (From.update line a change ty) tys live ok place e sp l = subst (λ z. G ok place (act_lines slot deleting types (From.update line a change ty) z live) (kinds z) []) (sym e) (update_sound line a change ty live ok place (subst (λ z. AllKept Has types 0 z) e sp) l)
-  act_loads (From.move line cells left right) tys live ok place e sp l = subst (λ z. G ok place (act_lines slot deleting types (From.move line cells left right) z live) (kinds z) []) (sym e) (move_sound line cells left right live ok place (subst (λ z. AllKept Has types 0 z) e sp))
-  act_loads (From.delete line) tys live ok place e sp l = subst (λ z. G ok place (act_lines slot deleting types (From.delete line) z live) (kinds z) []) (sym e) (([], refl), tt, refl)
-  act_loads (From.leave line result) tys live ok place e sp l = subst (λ z. G ok place (act_lines slot deleting types (From.leave line result) z live) (kinds z) []) (sym e) (leave_sound line result live ok place)
+  pub act_loads : (last : ℕ) (act : Act) (tys : List Ty) (live : ℕ → Bool) (ok : ℕ → Type 0) (place : ℕ) → ActFits act tys → ActKeeps Has types act tys → ActKinded locals global_ty result_ty act → G ok place (act_lines slot deleting types last act tys live) (kinds tys) []
+  act_loads last From.drop tys live ok place e sp l = pops_sound last tys ok place
+  act_loads last (From.perform line g parameters) tys live ok place e sp l = subst (λ z. G ok place (act_lines slot deleting types last (From.perform line g parameters) z live) (kinds z) []) (sym e) (perform_sound last line g parameters live ok place)
+  act_loads last (From.assign line x ty) tys live ok place e sp l = subst (λ z. G ok place (act_lines slot deleting types last (From.assign line x ty) z live) (kinds z) []) (sym e) (([], ap (λ k. k ∷ []) (kind_value ty ∙ sym l)), tt, refl)
+  act_loads last (From.store line a) tys live ok place e sp l = subst (λ z. G ok place (act_lines slot deleting types last (From.store line a) z live) (kinds z) []) (sym e) (store_act_sound last line a live ok place)
+  act_loads last (From.update line a change ty) tys live ok place e sp l = subst (λ z. G ok place (act_lines slot deleting types last (From.update line a change ty) z live) (kinds z) []) (sym e) (update_sound last line a change ty live ok place (subst (λ z. AllKept Has types 0 z) e sp) l)
+  act_loads last (From.move line cells left right) tys live ok place e sp l = subst (λ z. G ok place (act_lines slot deleting types last (From.move line cells left right) z live) (kinds z) []) (sym e) (move_sound last line cells left right live ok place (subst (λ z. AllKept Has types 0 z) e sp))
+  act_loads last (From.delete line) tys live ok place e sp l = subst (λ z. G ok place (act_lines slot deleting types last (From.delete line) z live) (kinds z) []) (sym e) (([], refl), tt, refl)
+  act_loads last (From.leave line result) tys live ok place e sp l = subst (λ z. G ok place (act_lines slot deleting types last (From.leave line result) z live) (kinds z) []) (sym e) (leave_sound last line result live ok place)

@@ -6,7 +6,7 @@ use Rattle.rc_emission.specs.StackCode.{Instruction, Line}
 use Rattle.rc_rlang.specs.RegionFits.{operands, pushed, dropped, step_types, steps_types, ActFits, test_types}
 use Rattle.rc_emission.specs.OperationCode.{line_of, at, zero_test, test_code, wide, spills, reloads}
 use Rattle.rc_rlang.specs.RegionLive.{before_steps, before_act, before_code, before_codes, loop_head, repeat_tail}
-use Rattle.rc_emission.specs.StatementCode.{Place, zero_code, exit_size, act_lines, code_size, codes_size, code_lines, codes_lines, exit_test, exit_lines, set_code, steps_lines, step_lines}
+use Rattle.rc_emission.specs.StatementCode.{Place, zero_code, exit_size, last_line, act_lines, code_size, codes_size, code_lines, codes_lines, exit_test, exit_lines, set_code, steps_lines, step_lines}
 use Rattle.rc_emission.specs.Served.{ActKeeps, CodeServed, CodesServed, AllKept, OperationKeeps, OperationServed, StepServed, StepsServed}
 use Rattle.rc_emission.proofs.CodesDo.{size_is, sizes_are, exit_long}
 use Rattle.rc_stack_rules.specs.LoaderRules.{kinds, local_kind, Way, onward, forward, backward, away, way_of, after, Lands, Leads, Sound}
@@ -197,7 +197,7 @@ module _ (locals : List Ty) (global_ty result_ty : ℕ → Ty) (mark : ℕ → T
         by false = zero_sound test.line test.ty (λ m. L ok (line_of test.line (To.jump_zero over) ∷ []) (int ∷ []) m) place
 
     -- acts are a premise here: from their operands they leave an empty stack
-    module _ (act_sound : (act : Act) (tys : List Ty) (live : ℕ → Bool) (ok : ℕ → Type 0) (place : ℕ) → ActFits act tys → ActKeeps Has types act tys → ActKinded locals global_ty result_ty act → S ok place (act_lines slot deleting types act tys live) (kinds tys) []) where
+    module _ (act_sound : (last : ℕ) (act : Act) (tys : List Ty) (live : ℕ → Bool) (ok : ℕ → Type 0) (place : ℕ) → ActFits act tys → ActKeeps Has types act tys → ActKinded locals global_ty result_ty act → S ok place (act_lines slot deleting types last act tys live) (kinds tys) []) where
       -- what is empty in a piece is marked
       abbrev pub Marked : ℕ → List Line → Type 0
       Marked place code = (n : ℕ) → L (λ m. ⊥) code [] n → mark (place + n)
@@ -249,8 +249,8 @@ module _ (locals : List Ty) (global_ty result_ty : ℕ → Ty) (mark : ℕ → T
         code_final (simple steps act) fits loads k p =
             let head = steps_lines slot deleting types steps [] [] (before_act act k.next) in
             let tys = steps_types steps [] in
-            let tail = act_lines slot deleting types act tys k.next in
-            final_append head tail [] ∙ ap (final tail) (sound_final (λ m. Unit {0}) 0 head [] (kinds tys) (steps_sound steps [] [] fits.0 loads.0 (before_act act k.next) (λ m. Unit {0}) 0)) ∙ sound_final (λ m. Unit {0}) 0 tail (kinds tys) [] (act_sound act tys k.next (λ m. Unit {0}) 0 fits.1 fits.2 loads.1)
+            let tail = act_lines slot deleting types (last_line steps) act tys k.next in
+            final_append head tail [] ∙ ap (final tail) (sound_final (λ m. Unit {0}) 0 head [] (kinds tys) (steps_sound steps [] [] fits.0 loads.0 (before_act act k.next) (λ m. Unit {0}) 0)) ∙ sound_final (λ m. Unit {0}) 0 tail (kinds tys) [] (act_sound (last_line steps) act tys k.next (λ m. Unit {0}) 0 fits.1 fits.2 loads.1)
         code_final (clear line x ty) fits loads k p = sound_final (λ m. Unit {0}) 0 (line_of line (zero_code ty) ∷ line_of line (To.set x ty) ∷ []) [] [] (zero_sound line ty (λ m. Unit {0}) 0 x loads)
         code_final (block codes) fits loads k p = codes_final codes fits loads k p
         code_final (branch steps test a b) fits loads k p =
@@ -305,8 +305,8 @@ module _ (locals : List Ty) (global_ty result_ty : ℕ → Ty) (mark : ℕ → T
         code_sound (simple steps act) fits loads k p ok z o i mk =
             let head = steps_lines slot deleting types steps [] [] (before_act act k.next) in
             let tys = steps_types steps [] in
-            let tail = act_lines slot deleting types act tys k.next in
-            sound_append ok p.at (p.at + length head) head tail [] (kinds tys) [] refl (steps_sound steps [] [] fits.0 loads.0 (before_act act k.next) (λ m. L ok tail (kinds tys) m) p.at) (act_sound act tys k.next ok (p.at + length head) fits.1 fits.2 loads.1)
+            let tail = act_lines slot deleting types (last_line steps) act tys k.next in
+            sound_append ok p.at (p.at + length head) head tail [] (kinds tys) [] refl (steps_sound steps [] [] fits.0 loads.0 (before_act act k.next) (λ m. L ok tail (kinds tys) m) p.at) (act_sound (last_line steps) act tys k.next ok (p.at + length head) fits.1 fits.2 loads.1)
         code_sound (clear line x ty) fits loads k p ok z o i mk = zero_sound line ty ok p.at x loads
         code_sound (block codes) fits loads k p ok z o i mk = codes_sound codes fits loads k p ok z o i mk
         code_sound (branch steps test a b) fits loads k p ok z o i mk =

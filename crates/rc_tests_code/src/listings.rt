@@ -9,7 +9,7 @@ use std::test::Fail;
 const ROWS: [(&[u8], &str); 7] = [
     (
         b"int main(void) { putchar(72); return 0; }",
-        "0 0 1 INT 72\n0 1 1 PUT\n0 2 0 POP\n0 3 1 INT 0\n0 4 1 RET\n0 5 1 INT 0\n0 6 1 RET\n",
+        "0 0 1 INT 72\n0 1 1 PUT\n0 2 1 POP\n0 3 1 INT 0\n0 4 1 RET\n0 5 1 INT 0\n0 6 1 RET\n",
     ),
     (
         b"struct s { int a; }; int main(void) { struct s *p = ralloc(newregion(), struct s); p->a = 3; while (p->a) p->a = 0; return p->a; }",

@@ -17,7 +17,7 @@ use Rattle.rc_lines.proofs.acts.act_on.Goals as goal
 pub returns-in-Update : goal.returns-in-Update
 returns-in-Update c live l =
     let b = c.args.body.now in
-    subst (λ x. OnOk c.update.result (lines_of c.update.new.out.items ≡ lines_of c.args.out.now.items ++ bare_code 0 (act_lines (slot_in b) (deleting_in b) (types_in b) (act_in b x) (types_on c.args.operands.now) live))) (sym c.in-Update.is) (c.update.ensures live)
+    subst (λ x. OnOk c.update.result (lines_of c.update.new.out.items ≡ lines_of c.args.out.now.items ++ bare_code 0 (act_lines (slot_in b) (deleting_in b) (types_in b) c.args.last (act_in b x) (types_on c.args.operands.now) live))) (sym c.in-Update.is) (c.update.ensures c.args.last live)
 
 pub returns-in_ok-keep-in-Move : goal.returns-in_ok-keep-in-Move
 returns-in_ok-keep-in-Move c live l =
@@ -37,7 +37,7 @@ returns-in_ok-keep-in-Move c live l =
     let l1 = lines_of c.keep.new.out.items in
     let l2 = lines_of c.copy_cells.new.out.items in
     let both = spills slot 0 tys ++ cells_code slot (deleting_in b) (types_in b) kinds left right in
-    subst (λ x. OnOk c.copy_cells.result (l2 ≡ o ++ bare_code 0 (act_lines slot (deleting_in b) (types_in b) (act_in b x) tys live))) (sym c.in-Move.is)
+    subst (λ x. OnOk c.copy_cells.result (l2 ≡ o ++ bare_code 0 (act_lines slot (deleting_in b) (types_in b) c.args.last (act_in b x) tys live))) (sym c.in-Move.is)
     (in_ok c.copy_cells.result _ _
     (λ e. added line (spills slot 0 tys) (cells_code slot (deleting_in b) (types_in b) kinds left right) o l1 l2 c.in_ok-keep-in-Move.ensures e ∙ ap (λ ls. o ++ ls) (at_bare line both))
     (c.copy_cells.ensures kinds (sym many ∙ sym n) pl pr))

@@ -16,9 +16,9 @@ returns c =
     let f = c.loop-test.false in
     let m = c.loop.auto.index-end in
     let e : c.loop.index ≡ length (types_on c.args.operands.now) = omega (arith, l, f, m) in
-    c.loop.invariant ∙ ap (λ n. o ++ some_pops n) e ∙ ap (λ ls. o ++ ls) (sym (all_pops (slot_in b) (deleting_in b) (types_in b) (types_on c.args.operands.now)))
+    c.loop.invariant ∙ ap (λ n. o ++ some_pops c.args.line n) e ∙ ap (λ ls. o ++ ls) (sym (all_pops (slot_in b) (deleting_in b) (types_in b) c.args.line (types_on c.args.operands.now)))
 
 pub loop-preserved : goal.loop-preserved
 loop-preserved c =
     let o = lines_of c.args.out.now.items in
-    c.in_ok-push.ensures ∙ ap (λ ls. ls ++ line_of 0 pop ∷ []) c.loop.invariant ∙ append_assoc o (some_pops c.loop.index) (line_of 0 pop ∷ []) ∙ ap (λ ls. o ++ ls) (sym (one_pop c.loop.index))
+    c.in_ok-push.ensures ∙ ap (λ ls. ls ++ line_of c.args.line pop ∷ []) c.loop.invariant ∙ append_assoc o (some_pops c.args.line c.loop.index) (line_of c.args.line pop ∷ []) ∙ ap (λ ls. o ++ ls) (sym (one_pop c.args.line c.loop.index))

@@ -14,7 +14,7 @@ use Rattle.rc_lines.proofs.Stacks.{place_below}
 use Rattle.rc_lines.proofs.acts.update.Goals as goal
 
 pub returns : goal.returns
-returns c live =
+returns c last live =
     let b = c.args.body.now in
     let slot = slot_in b in
     let line = c.args.line in

@@ -1,5 +1,5 @@
 use Rattle.std.proofs.Common.{◌≡◌, true, [], ◌∷◌, sym, ap, ◌∙◌, subst, arith}
-use Rattle.std.specs.Prelude.{Some, None, is_some}
+use Rattle.std.specs.Prelude.{None, is_some}
 use Rattle.std.proofs.lemmas.List.{map-append}
 use Rattle.rc_scope.specs.Names.{place_of, with_name}
 use Rattle.rc_lines.specs.Gathered.{kept_of, all_kept}

@@ -1,4 +1,4 @@
-use Rattle.std.proofs.Common.{◌≡◌, ◌+◌, suc, [], ◌∷◌, length, take, sym, ap, ◌∙◌, subst, arith}
+use Rattle.std.proofs.Common.{◌≡◌, ◌+◌, suc, [], ◌∷◌, take, sym, ap, ◌∙◌, subst, arith}
 use Rattle.rc_scope.specs.Names.{with_name}
 use Rattle.rc_safety.proofs.Lists.{every_append}
 use Rattle.rc_lines.specs.Gathered.{kept_of, all_kept}

@@ -1,5 +1,5 @@
 use Rattle.std.proofs.Common.{[], ◌++◌, refl, sym, ap, ◌∙◌, arith, subst}
-use Rattle.rc_emission.specs.StatementCode.{steps_lines, act_lines}
+use Rattle.rc_emission.specs.StatementCode.{last_line, steps_lines, act_lines}
 use Rattle.rc_rlang.specs.LiveLists.{act_lists}
 use Rattle.rc_rlang.specs.RegionFits.{steps_types}
 use Rattle.rc_rlang.specs.RegionLive.{before_act}
@@ -47,11 +47,12 @@ returns-clause-lines c total k p held =
     let h = c.in_ok-here.ensures in
     let both = simple_listed b s act k c.args.end c.in_ok-here.here (omega (arith, f, g, m, h)) held in
     let first = steps_lines slot (deleting_in b) (types_in b) s [] [] (before_act act k.next) in
-    let second = act_lines slot (deleting_in b) (types_in b) act (steps_types s []) k.next in
+    let second = act_lines slot (deleting_in b) (types_in b) (last_line s) act (steps_types s []) k.next in
     let e1 = c.in_ok-behind.ensures.lines [] (before_act act k.next) refl both.0 ∙ ap (λ xs. lines_of xs ++ bare_code 0 first) c.new-piece.ensures.items in
     let tys = ap types_on c.as_slice.ensures.value ∙ c.in_ok-behind.ensures.types in
     let e2 = c.in_ok-act_on.ensures k.next (subst (λ n. Listed b.live.now (act_lists (deleting_in b) (types_in b) act n k.next)) (sym c.in_ok-behind.ensures.point) both.1)
-    ∙ ap (λ ts. lines_of c.steps.new.out.items ++ bare_code 0 (act_lines slot (deleting_in b) (types_in b) act ts k.next)) tys in
+    ∙ ap (λ ts. lines_of c.steps.new.out.items ++ bare_code 0 (act_lines slot (deleting_in b) (types_in b) c.last_line.result act ts k.next)) tys
+    ∙ ap (λ n. lines_of c.steps.new.out.items ++ bare_code 0 (act_lines slot (deleting_in b) (types_in b) n act (steps_types s []) k.next)) (c.last_line.ensures (structs_in b)) in
     let made = e2 ∙ ap (λ ls. ls ++ bare_code 0 second) e1 ∙ sym (bare_append first second) in
-    let still = joins_lines total first second (steps_still total slot (deleting_in b) (types_in b) s [] [] (before_act act k.next)) (act_still total slot (deleting_in b) (types_in b) act (steps_types s []) k.next) in
+    let still = joins_lines total first second (steps_still total slot (deleting_in b) (types_in b) s [] [] (before_act act k.next)) (act_still total slot (deleting_in b) (types_in b) (last_line s) act (steps_types s []) k.next) in
     c.in_ok-put_piece.ensures ∙ ap (λ ls. ls ++ onward c.args.out.now.items) (made ∙ sym still)

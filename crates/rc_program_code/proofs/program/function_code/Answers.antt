@@ -1,11 +1,9 @@
-use Rattle.std.proofs.Common.{◌≡◌, ◌++◌, length, map, sym, ap, ◌∙◌, arith, rules}
+use Rattle.std.proofs.Common.{◌≡◌, ◌++◌, length, map, ap, ◌∙◌, arith, rules}
 use Rattle.std.proofs.lemmas.List.{length-map}
 use Rattle.rc_core.specs.Shapes.{ty_of}
-use Rattle.rc_emission.specs.KeptOperands.{slots_of}
-use Rattle.rc_emission.specs.StatementCode.{body_lines}
 use Rattle.rc_rlang.specs.RegionRuns.{deletes}
 use Rattle.rc_rlang.specs.Shapes.{rlang_of}
-use Rattle.rc_lines.specs.Bare.{bare_code, lines_of}
+use Rattle.rc_lines.specs.Bare.{bare_code}
 use Rattle.rc_lines.specs.Gathered.{all_kept}
 use Rattle.rc_program_code.specs.Numbering.{wide_of}
 use Rattle.rc_program_code.specs.Listing.{structs_of, routine_of}

@@ -1,4 +1,4 @@
-use Rattle.std.proofs.Common.{◌≡◌, ◌++◌, sym, ap, ◌∙◌, subst, map}
+use Rattle.std.proofs.Common.{◌++◌, sym, ap, ◌∙◌, subst, map}
 use Rattle.std.specs.List.{AllByRecursion as Every}
 use Rattle.rc_emission.specs.KeptOperands.{same_kept, once, kept_code}
 use Rattle.rc_rlang.specs.Shapes.{code_of}
