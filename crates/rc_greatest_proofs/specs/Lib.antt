@@ -1,3 +1,4 @@
 pub mod Admitted
+pub mod Sealed
 pub mod Marks
 pub mod Greater

@@ -1,8 +1,8 @@
 //! Laws of the greatest proofs of an image.
 //!
 //! `specs/` is to be read in the order of `specs/Lib.antt`: `Admitted` says which proofs count, and which
-//! checks some of them prove, and `Marks` what the marks of an image change of its proofs, and
-//! `Greater` what greater proofs give to smaller ones.
+//! checks some of them prove, `Sealed` what an image sealed with its greatest proofs is, `Marks` what the
+//! marks of an image change of its proofs, and `Greater` what greater proofs give to smaller ones.
 #![tactic(auto)]
 
 ghost use Rattle.rc_greatest_proofs.specs.Greater.{GivingIsProved, GreaterGive};
