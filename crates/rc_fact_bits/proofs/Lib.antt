@@ -1,0 +1,3 @@
+pub mod Order
+pub mod Bytes
+pub mod Framing
