@@ -1,0 +1,15 @@
+pub mod Anew
+pub mod Exits
+pub mod Lowering
+pub mod Carrying
+pub mod Reaching
+pub mod Passes
+pub mod Shapes
+pub mod Beginning
+pub mod Entering
+pub mod Stretches
+pub mod Targets
+pub mod Families
+pub mod Widening
+pub mod Starts
+pub mod Answering

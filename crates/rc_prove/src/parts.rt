@@ -1,0 +1,113 @@
+// The parts of the way through a function: each from the entry or a target to the next target.
+ghost use Rattle.std.specs.Prelude.{◌≤◌, length, IfOk};
+ghost use Rattle.rc_prove.specs.Family.{family_of, LessenedAt, RouteFits};
+ghost use Rattle.rc_prove.specs.Lowering.{LeadsBehind};
+
+use crate::losses::{Losses, no_losses};
+use crate::lower::{lower, lower_from};
+use crate::route::Route;
+use crate::spot::Spot;
+use rc_base::NoMemory;
+use rc_facts::FactSet;
+use std::alloc::Global;
+
+/// Where a part begins.
+#[derive(Clone, Copy)]
+pub(crate) enum Start {
+    /// At the entry.
+    Entry,
+    /// At the target that stands behind an instruction.
+    Behind(usize),
+}
+
+/// Where the part ends that begins at an instruction.
+fn end_of(spots: &[Spot], from: usize) -> usize
+    requires { from ≤ length spots.now }
+    ensures after { from ≤ result }
+    ensures inside { result ≤ length spots.now }
+{
+    for at in from..spots.len() {
+        if spots[at].next.is_some() {
+            return at + 1;
+        }
+    }
+    spots.len()
+}
+
+/// Goes over the part at the entry.
+fn lower_first(
+    alloc: Global,
+    route: &Route,
+    entries: &mut [FactSet],
+    exits: &mut [FactSet],
+    frames: &mut [Vec<FactSet>],
+) -> Result<Losses, NoMemory>
+    requires { RouteFits route.now (family_of entries.old exits.old frames.old) }
+    ensures { IfOk result (λ losses. LessenedAt route.now (family_of entries.old exits.old frames.old) (family_of entries.new exits.new frames.new) losses.lost) }
+{
+    let place = route.place;
+    let spots = route.spots.as_slice();
+    let end = end_of(spots, 0);
+    lower(
+        alloc,
+        place,
+        &spots[..end],
+        route.first,
+        entries,
+        exits,
+        frames[place.function].as_mut_slice(),
+    )
+}
+
+/// Goes over the part behind an instruction, which begins at a target with this set.
+fn lower_behind(
+    alloc: Global,
+    route: &Route,
+    at: usize,
+    target: usize,
+    entries: &mut [FactSet],
+    exits: &mut [FactSet],
+    frames: &mut [Vec<FactSet>],
+) -> Result<Losses, NoMemory>
+    requires fits { RouteFits route.now (family_of entries.old exits.old frames.old) }
+    requires leads { LeadsBehind route.now.spots.items at target }
+    ensures { IfOk result (λ losses. LessenedAt route.now (family_of entries.old exits.old frames.old) (family_of entries.new exits.new frames.new) losses.lost) }
+{
+    let place = route.place;
+    let spots = route.spots.as_slice();
+    let from = at + 1;
+    let end = end_of(spots, from);
+    lower_from(
+        alloc,
+        place,
+        &spots[from..end],
+        target,
+        entries,
+        exits,
+        frames[place.function].as_mut_slice(),
+    )
+}
+
+/// Goes over the part that begins there, if one does.
+pub(crate) fn lower_part(
+    alloc: Global,
+    route: &Route,
+    start: Start,
+    entries: &mut [FactSet],
+    exits: &mut [FactSet],
+    frames: &mut [Vec<FactSet>],
+) -> Result<Losses, NoMemory>
+    requires { RouteFits route.now (family_of entries.old exits.old frames.old) }
+    ensures { IfOk result (λ losses. LessenedAt route.now (family_of entries.old exits.old frames.old) (family_of entries.new exits.new frames.new) losses.lost) }
+{
+    let Start::Behind(at) = start else {
+        return lower_first(alloc, route, entries, exits, frames);
+    };
+    let Some(spot) = route.spots.as_slice().get(at) else {
+        return Ok(no_losses(alloc));
+    };
+    let Some(target) = spot.next else {
+        return Ok(no_losses(alloc));
+    };
+    lower_behind(alloc, route, at, target, entries, exits, frames)
+}
