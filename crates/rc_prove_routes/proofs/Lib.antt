@@ -1,0 +1,4 @@
+pub mod Gathering
+pub mod Ranking
+pub mod Fitting
+pub mod Routing
