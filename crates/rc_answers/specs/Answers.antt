@@ -5,7 +5,7 @@ use Rattle.rc_answers.specs.declared.answer.Done.{Done}
 use Rattle.rc_answers.specs.declared.answer.Done.TheVariants.{Ended, StaleImage, Refused, ImageRefused, UnitRefused, LinkRefused, Wrote, Reported, Usage}
 use Rattle.rc_answers.specs.declared.answer.Fault.{Fault}
 use Rattle.rc_answers.specs.declared.image_refusal.ImageRefusal.{ImageRefusal}
-use Rattle.rc_answers.specs.declared.image_refusal.ImageRefusal.TheVariants.{Magic, Version, Short, Extra, Field, Target, Height, Kind, Number}
+use Rattle.rc_answers.specs.declared.image_refusal.ImageRefusal.TheVariants.{Magic, Version, Short, Extra, Field, Target, Height, Kind, Number, Facts, Pins, Wide}
 use Rattle.rc_answers.specs.declared.answer.Fault.TheVariants.{FileFault, ReadFault, WriteFault, Memory}
 use Rattle.rc_compile.specs.declared.refusal.Refusal.{Refusal}
 use Rattle.rc_compile.specs.declared.refusal.Refusal.TheVariants.{Points, Variables}
@@ -26,6 +26,19 @@ IsOfCode (Height function instruction) = Unit {0}
 IsOfCode (Kind function instruction) = Unit {0}
 IsOfCode (Number function instruction) = Unit {0}
 IsOfCode _ = ⊥
+
+-- an image can't be sealed: its code keeps the rules, but doesn't pin what is used, or has too many variables
+abbrev pub IsOfPins : ImageRefusal → Type 0
+IsOfPins (Pins function instruction) = Unit {0}
+IsOfPins (Wide function) = Unit {0}
+IsOfPins _ = ⊥
+
+-- what a sealed image carries doesn't prove it
+abbrev pub IsOfProofs : ImageRefusal → Type 0
+IsOfProofs (Facts function instruction) = Unit {0}
+IsOfProofs (Pins function instruction) = Unit {0}
+IsOfProofs (Wide function) = Unit {0}
+IsOfProofs _ = ⊥
 
 -- a program is refused for what it needs too much of
 abbrev pub IsOfCounts : Refusal → Type 0

@@ -133,7 +133,7 @@ done_line (UnitRefused file refusal) = unit_refusal_line file refusal
 done_line (LinkRefused refusal) = link_refusal_line refusal
 done_line Wrote = []
 done_line Reported = []
-done_line Usage = codes "usage: rc run FILE | compile FILE IMAGE | exec IMAGE | checks FILE | list IMAGE | slow FILE | soak N | upgrade IMAGE IMAGE | heap FILE | tasks FILE CHOICES | link IMAGE FILE\n"
+done_line Usage = codes "usage: rc run FILE | compile FILE IMAGE | exec IMAGE | checks FILE | list IMAGE | slow FILE | soak N | upgrade IMAGE IMAGE | heap FILE | tasks FILE CHOICES | link IMAGE FILE | seal IMAGE IMAGE\n"
 
 -- nothing can be said of a failed error stream on it
 abbrev pub fault_line : Fault → List ℕ

@@ -253,7 +253,7 @@ fn image_refusal_line(refusal: ImageRefusal) -> Line
 
 /// How the program is called.
 const USAGE: &[u8] =
-    b"usage: rc run FILE | compile FILE IMAGE | exec IMAGE | checks FILE | list IMAGE | slow FILE | soak N | upgrade IMAGE IMAGE | heap FILE | tasks FILE CHOICES | link IMAGE FILE\n";
+    b"usage: rc run FILE | compile FILE IMAGE | exec IMAGE | checks FILE | list IMAGE | slow FILE | soak N | upgrade IMAGE IMAGE | heap FILE | tasks FILE CHOICES | link IMAGE FILE | seal IMAGE IMAGE\n";
 
 fn done_line(done: Done) -> Line
     ensures { line_bytes result ≡ done_line done }

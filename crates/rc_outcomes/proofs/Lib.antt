@@ -1,11 +1,14 @@
+pub mod Admitting
+pub mod CarriedImages
 pub mod Files
 pub mod Flushing
 pub mod Linked
 pub mod MadeTexts
 pub mod OneOutcome
 pub mod Reports
+pub mod SealedRuns
+pub mod Sealing
 pub mod Storing
-pub mod SpelledImages
 pub mod StoredImages
 pub mod Tasks
 pub mod TextLaws

@@ -13,8 +13,8 @@ use Rattle.rc_core.specs.Deletes.{DeletesInPlace}
 use Rattle.rc_core.specs.Meaning.{meaning}
 use Rattle.rc_core.specs.Programs.{Program}
 use Rattle.rc_core.specs.Runs.{Ends}
+use Rattle.rc_claims.specs.declared.proofs.Proofs.{Proofs}
 use Rattle.rc_code.specs.declared.image.Parts.{Parts}
-use Rattle.rc_code.specs.ImageMeaning.{image_left, image_meaning}
 use Rattle.rc_code.specs.Soundness.{Sound}
 use Rattle.rc_image.specs.Spelling.{spelling}
 use Rattle.rc_image.specs.declared.version.Version.TheVariants.{Two}
@@ -22,16 +22,18 @@ use Rattle.rc_listing.specs.Listing.{listing}
 use Rattle.rc_loader.specs.Unmarked.{unmarked}
 use Rattle.rc_loader.specs.Violations.{FirstViolation}
 use Rattle.rc_loader.specs.declared.fault.Violation.{Violation}
-use Rattle.rc_loader.proofs.Firsts.{none_where_sound, one_first}
 use Rattle.rc_loader.proofs.Totals.{sound_or_first}
 use Rattle.rc_answers.specs.declared.image_refusal.ImageRefusal.{ImageRefusal}
 use Rattle.rc_outcomes.specs.Images.{Carried, carried_by}
 use Rattle.rc_outcomes.specs.Footprint.{AreThere, footprint}
 use Rattle.rc_outcomes.specs.Bytes.{AreBytes, HasBytes}
-use Rattle.rc_outcomes.specs.Outcome.{Compiles, Executes, IsOutcome, Leaving, Lists, OfImage, OfRead, OfScriptFile, OfTasksFile, OfText, OfTextFile, Outcome, ReportsOn, Runs, RunsTasks, Soaks, Upgrades, accepts, answers, as_left, as_they_are, broken, came, refusal_of_code, refuses, reports, reports_leaving, runs, script_outcome, sound, stores, unpinned, unsaid}
-use Rattle.rc_requests.specs.Request.{Request, Run, Slow, Compile, Exec, Listing, Upgrade, Script, Checks, Soak, Tasks, Link, usual_limits}
+use Rattle.rc_outcomes.specs.Judged.{AreFound, AreJudged, IsJudged}
+use Rattle.rc_outcomes.specs.Outcome.{Admits, Compiles, Executes, IsOutcome, Leaving, Lists, OfImage, OfRead, OfScriptFile, OfTasksFile, OfText, OfTextFile, Outcome, ReportsOn, Runs, RunsTasks, Seals, Soaks, Upgrades, accepts, answers, as_left, as_they_are, bare, breaks, broken, refusal_of_code, refuses, reports, reports_leaving, runs, runs_or_refuses, script_outcome, stores, unsaid}
+use Rattle.rc_requests.specs.Request.{Request, Run, Slow, Compile, Exec, Listing, Upgrade, Script, Checks, Soak, Tasks, Link, Seal, usual_limits}
 use Rattle.rc_answers.specs.declared.answer.Done.TheVariants.{ImageRefused, Refused, Usage}
+use Rattle.rc_outcomes.proofs.Admitting.{one_admitted}
 use Rattle.rc_outcomes.proofs.Linked.{files_linked, one_of_files}
+use Rattle.rc_outcomes.proofs.Sealing.{one_sealing}
 use Rattle.rc_outcomes.proofs.MadeTexts.{generated_bytes}
 use Rattle.rc_outcomes.proofs.Tasks.{by_tasks, one_by_tasks}
 use Rattle.rc_outcomes.proofs.Ways.{an_end, same_text}
@@ -100,21 +102,37 @@ soaked_outcome n text bytes program accepted =
     )
 
 -- what comes of an image, where something comes of each
-image_outcome : (file : List ℕ) (Made : Carried → List ℕ → Outcome → Type 0) (files : Names) (input : List ℕ) → ((carried : Carried) → (outcome : Outcome) × Made carried input outcome) → ¬ (files file ≡ None) → (outcome : Outcome) × OfImage file Made files input outcome
+image_outcome : (file : List ℕ) (Made : Carried → List ℕ → Outcome → Type 0) (files : Names) (input : List ℕ) → ((bytes : List ℕ) (carried : Carried) → files file ≡ Some bytes → carried_by bytes ≡ Ok carried → (outcome : Outcome) × Made carried input outcome) → ¬ (files file ≡ None) → (outcome : Outcome) × OfImage file Made files input outcome
 image_outcome file Made files input some there = by (files file) refl where
-  of : (said : Result Carried ImageRefusal) → (outcome : Outcome) × OfRead Made said input outcome
-  of (Ok carried) = some carried
-  of (Err refusal) = (answers (ImageRefused refusal), refl)
+  of : (bytes : List ℕ) → files file ≡ Some bytes → (said : Result Carried ImageRefusal) → carried_by bytes ≡ said → (outcome : Outcome) × OfRead Made said input outcome
+  of bytes is (Ok carried) e = some bytes carried is e
+  of bytes is (Err refusal) e = (answers (ImageRefused refusal), refl)
 
   by : (o : Option (List ℕ)) → files file ≡ o → (outcome : Outcome) × OfImage file Made files input outcome
   by None is = absurd (there is)
-  by (Some bytes) is = let found = of (carried_by bytes) in (found.0, (bytes, is, found.1))
+  by (Some bytes) is = let found = of bytes is (carried_by bytes) refl in (found.0, (bytes, is, found.1))
 
-execution : (limits : Limits) (input : List ℕ) (carried : Carried) → (outcome : Outcome) × Executes limits carried input outcome
-execution limits input carried = by (sound_or_first carried.image) where
-  by : Sound carried.image ⊎ ((v : Violation) × FirstViolation carried.image v) → (outcome : Outcome) × Executes limits carried input outcome
-  by (inl is) = (came (image_meaning (unmarked carried.image) input limits) (unpinned limits (image_left (unmarked carried.image) input limits)), sound is refl)
-  by (inr (v, first)) = (answers (ImageRefused (refusal_of_code v)), broken v first refl)
+-- what is run of it, or its refusal, where it is known what its proofs prove
+admission : (carried : Carried) → (Sound carried.image → AreJudged carried) → (admitted : Result Parts ImageRefusal) × Admits carried admitted
+admission carried judged = by (sound_or_first carried.image) where
+  by_proofs : Sound carried.image → (proofs : Option Proofs) → carried.proofs ≡ proofs → (admitted : Result Parts ImageRefusal) × Admits carried admitted
+  by_proofs is None none = (Ok (unmarked carried.image), bare none is)
+  by_proofs is (Some proofs) has = judged is proofs has
+
+  by : Sound carried.image ⊎ ((v : Violation) × FirstViolation carried.image v) → (admitted : Result Parts ImageRefusal) × Admits carried admitted
+  by (inl is) = by_proofs is carried.proofs refl
+  by (inr (v, first)) = (Err (refusal_of_code v), broken v first)
+
+execution : (limits : Limits) (input : List ℕ) (carried : Carried) → (Sound carried.image → AreJudged carried) → (outcome : Outcome) × Executes limits carried input outcome
+execution limits input carried judged =
+    let found = admission carried judged in
+    (runs_or_refuses limits input found.0, record { admitted = found.0; admits = found.1; comes = refl })
+
+sealing : (to input : List ℕ) (carried : Carried) → (Sound carried.image → AreFound to carried) → (outcome : Outcome) × Seals to carried input outcome
+sealing to input carried found = by (sound_or_first carried.image) where
+  by : Sound carried.image ⊎ ((v : Violation) × FirstViolation carried.image v) → (outcome : Outcome) × Seals to carried input outcome
+  by (inl is) = found is input
+  by (inr (v, first)) = (answers (ImageRefused (refusal_of_code v)), breaks v first refl)
 
 script_some : (file : List ℕ) (limits : Limits) (files : Names) → ¬ (files file ≡ None) → (outcome : Outcome) × OfScriptFile file limits files outcome
 script_some file limits files there = by (files file) refl where
@@ -132,19 +150,20 @@ tasks_some file choices limits files input bytes are there = by (files file) ref
       let found = text_outcome (Runs as_left limits input) whole (run_outcome as_left limits input whole) in
       (found.0, (text, is, by_tasks text choices input limits (bytes text is) are found.0 found.1))
 
-pub some_outcome : (request : Option Request) (files : Names) (input : List ℕ) → AreThere (footprint request) files → AreBytes request files → (outcome : Outcome) × IsOutcome request files input outcome
-some_outcome None files input there bytes = (answers Usage, refl)
-some_outcome (Some (Run file limits)) files input there bytes = file_outcome file as_they_are (Runs as_left limits) files input (λ text is. run_outcome as_left limits input text) (there file (0, omega arith, refl))
-some_outcome (Some (Slow file limits)) files input there bytes = file_outcome file as_they_are (Runs unsaid limits) files input (λ text is. run_outcome unsaid limits input text) (there file (0, omega arith, refl))
-some_outcome (Some (Compile from to)) files input there bytes = file_outcome from as_they_are (Compiles to) files input (λ text is. compiled_outcome to input text (bytes text is)) (there from (0, omega arith, refl))
-some_outcome (Some (Exec file limits)) files input there bytes = image_outcome file (Executes limits) files input (execution limits input) (there file (0, omega arith, refl))
-some_outcome (Some (Listing file)) files input there bytes = image_outcome file Lists files input (λ carried. (reports (listing carried.image), refl)) (there file (0, omega arith, refl))
-some_outcome (Some (Upgrade from to)) files input there bytes = image_outcome from (Upgrades to) files input (λ carried. (stores to (spelling Two carried.image), refl)) (there from (0, omega arith, refl))
-some_outcome (Some (Script file limits)) files input there bytes = script_some file limits files (there file (0, omega arith, refl))
-some_outcome (Some (Checks file)) files input there bytes = file_outcome file as_they_are ReportsOn files input (λ text is. reported_outcome input text (bytes text is)) (there file (0, omega arith, refl))
-some_outcome (Some (Soak n)) files input there bytes = text_outcome (Soaks n) (generated n) (soaked_outcome n (generated n) (generated_bytes n))
-some_outcome (Some (Tasks file choices limits)) files input there bytes = tasks_some file choices limits files input bytes.0 bytes.1 (there file (0, omega arith, refl))
-some_outcome (Some (Link to wanted)) files input there bytes = files_linked to wanted files input bytes.0 bytes.1 there
+pub some_outcome : (request : Option Request) (files : Names) (input : List ℕ) → AreThere (footprint request) files → AreBytes request files → IsJudged request files → (outcome : Outcome) × IsOutcome request files input outcome
+some_outcome None files input there bytes judged = (answers Usage, refl)
+some_outcome (Some (Run file limits)) files input there bytes judged = file_outcome file as_they_are (Runs as_left limits) files input (λ text is. run_outcome as_left limits input text) (there file (0, omega arith, refl))
+some_outcome (Some (Slow file limits)) files input there bytes judged = file_outcome file as_they_are (Runs unsaid limits) files input (λ text is. run_outcome unsaid limits input text) (there file (0, omega arith, refl))
+some_outcome (Some (Compile from to)) files input there bytes judged = file_outcome from as_they_are (Compiles to) files input (λ text is. compiled_outcome to input text (bytes text is)) (there from (0, omega arith, refl))
+some_outcome (Some (Exec file limits)) files input there bytes judged = image_outcome file (Executes limits) files input (λ found carried is e. execution limits input carried (judged found carried is e)) (there file (0, omega arith, refl))
+some_outcome (Some (Listing file)) files input there bytes judged = image_outcome file Lists files input (λ found carried is e. (reports (listing carried.image), refl)) (there file (0, omega arith, refl))
+some_outcome (Some (Upgrade from to)) files input there bytes judged = image_outcome from (Upgrades to) files input (λ found carried is e. (stores to (spelling Two carried.image), refl)) (there from (0, omega arith, refl))
+some_outcome (Some (Script file limits)) files input there bytes judged = script_some file limits files (there file (0, omega arith, refl))
+some_outcome (Some (Checks file)) files input there bytes judged = file_outcome file as_they_are ReportsOn files input (λ text is. reported_outcome input text (bytes text is)) (there file (0, omega arith, refl))
+some_outcome (Some (Soak n)) files input there bytes judged = text_outcome (Soaks n) (generated n) (soaked_outcome n (generated n) (generated_bytes n))
+some_outcome (Some (Tasks file choices limits)) files input there bytes judged = tasks_some file choices limits files input bytes.0 bytes.1 (there file (0, omega arith, refl))
+some_outcome (Some (Link to wanted)) files input there bytes judged = files_linked to wanted files input bytes.0 bytes.1 there
+some_outcome (Some (Seal from to)) files input there bytes judged = image_outcome from (Seals to) files input (λ found carried is e. sealing to input carried (judged found carried is e)) (there from (0, omega arith, refl))
 
 -- two outcomes of one text are one
 same_end : (program : Program) (input : List ℕ) (limits : Limits) (one other : End) → (meaning program input limits).end ≡ Ends one → (meaning program input limits).end ≡ Ends other → one ≡ other
@@ -177,10 +196,7 @@ one_of_image file Made files input one other only (bytes, is, so) (bytes', is', 
     by (Err refusal) so also = so ∙ sym also
 
 one_execution : (limits : Limits) (input : List ℕ) (one other : Outcome) (carried : Carried) → Executes limits carried input one → Executes limits carried input other → one ≡ other
-one_execution limits input one other carried (sound a c) (sound b d) = c ∙ sym d
-one_execution limits input one other carried (sound a c) (broken v b d) = absurd (none_where_sound carried.image v a b)
-one_execution limits input one other carried (broken v a c) (sound b d) = absurd (none_where_sound carried.image v b a)
-one_execution limits input one other carried (broken v a c) (broken w b d) = c ∙ ap (λ (u : Violation). answers (ImageRefused (refusal_of_code u))) (one_first carried.image v w a b) ∙ sym d
+one_execution limits input one other carried is also = is.comes ∙ ap (runs_or_refuses limits input) (one_admitted carried is.admitted also.admitted is.admits also.admits) ∙ sym also.comes
 
 one_script : (file : List ℕ) (limits : Limits) (files : Names) (one other : Outcome) → OfScriptFile file limits files one → OfScriptFile file limits files other → one ≡ other
 one_script file limits files one other (text, is, so) (text', is', so') = so ∙ ap (script_outcome limits) (same_text files file text text' is is') ∙ sym so'
@@ -220,6 +236,7 @@ one_outcome (Some (Checks file)) files input one other is also = one_of_file fil
 one_outcome (Some (Soak n)) files input one other is also = one_of_text (Soaks n) (generated n) one other (one_soaked n one other) is also
 one_outcome (Some (Tasks file choices limits)) files input one other is also = one_of_tasks file choices limits files input one other is also
 one_outcome (Some (Link to wanted)) files input one other is also = one_of_files wanted (Compiles to) files input one other (one_compiled to input one other) is also
+one_outcome (Some (Seal from to)) files input one other is also = one_of_image from (Seals to) files input one other (λ carried a b. one_sealing to carried input one other a b) is also
 
 pub accepted_never : (text : List ℕ) (program : Program) (input : List ℕ) (limits : Limits) → Accepted text program → NeverTouchesDeleted program input limits
 accepted_never text program input limits accepted = never_touches_deleted program input limits (accepted_in_place text program accepted)

@@ -34,9 +34,9 @@ use Rattle.rc_core.specs.Deletes.{DeletesInPlace}
 use Rattle.rc_outcomes.specs.Compiled.{HasCompiled, HasLinked, RunsAs, RunsTheSame}
 use Rattle.rc_outcomes.specs.StoredPrograms.{IsUnder}
 use Rattle.rc_outcomes.specs.Images.{alone, carried_by}
-use Rattle.rc_outcomes.specs.Outcome.{Executes, IsOutcome, OfRead, Outcome, Runs, accepts, as_left, came, end_as, sound, unpinned}
+use Rattle.rc_outcomes.specs.Outcome.{Executes, IsOutcome, OfRead, Outcome, Runs, accepts, as_left, bare, came, end_as, unpinned}
 use Rattle.rc_outcomes.proofs.OneOutcome.{one_outcome, one_run, run_of}
-use Rattle.rc_outcomes.proofs.SpelledImages.{spelled_image}
+use Rattle.rc_outcomes.proofs.CarriedImages.{carried_image}
 use Rattle.rc_requests.specs.Request.{Exec, Run}
 
 module _ (files : Names) (to : List ℕ) (program : Program) (well : IsWellTyped program) (in_place : DeletesInPlace program) (bounds : IsWithinBounds program) (stored : IsUnder to files program) (short : length (spelling Two stored.image) ≤ 268435456) where
@@ -53,7 +53,7 @@ module _ (files : Names) (to : List ℕ) (program : Program) (well : IsWellTyped
   without_marks = ap unmarked stored.has.compiled.is ∙ bare_image r (mask_of stored.has.compiled.marks r)
 
   is_read : carried_by (spelling Two stored.image) ≡ Ok (alone stored.image)
-  is_read = spelled_image (spelling Two stored.image) stored.image short (record { fits = fields_fit; version = Two; spelled = refl })
+  is_read = carried_image (spelling Two stored.image) (alone stored.image) short (record { fields = fields_fit; version = Two; spelled = refl })
 
   module _ (input : List ℕ) (limits : Limits) (bytes : Every IsByte input) where
     means : image_meaning (unmarked stored.image) input limits ≡ meaning program input limits
@@ -73,7 +73,7 @@ module _ (files : Names) (to : List ℕ) (program : Program) (well : IsWellTyped
         ∙ ap (λ (l : Option Left). came (image_meaning (unmarked stored.image) input limits) (unpinned limits l)) (sym leaves)
 
     executes : IsOutcome (Some (Exec to limits)) files input run.0
-    executes = (spelling Two stored.image, stored.there, subst (λ read. OfRead (Executes limits) read input run.0) (sym is_read) (sound is_sound comes))
+    executes = (spelling Two stored.image, stored.there, subst (λ read. OfRead (Executes limits) read input run.0) (sym is_read) (record { admitted = Ok (unmarked stored.image); admits = bare refl is_sound; comes = comes }))
 
   runs_as : RunsAs files to program
   runs_as input limits bytes outcome = (

@@ -6,7 +6,7 @@ use Rattle.rc_core.specs.Numbers.{IsByte}
 use Rattle.rc_answers.specs.Answers.{IsQuiet}
 use Rattle.rc_answers.specs.declared.answer.Done.{Done}
 use Rattle.rc_outcomes.specs.Outside.{Outside}
-use Rattle.rc_requests.specs.Request.{Request, Run, Slow, Compile, Exec, Listing, Upgrade, Script, Checks, Soak, Tasks, Link}
+use Rattle.rc_requests.specs.Request.{Request, Run, Slow, Compile, Exec, Listing, Upgrade, Script, Checks, Soak, Tasks, Link, Seal}
 
 -- the names that it reads, the name that it stores under, and whether it takes bytes of the input, writes to the output and runs over the
 -- heap
@@ -58,6 +58,7 @@ footprint (Some (Checks file)) = reports_on file
 footprint (Some (Soak n)) = made_in_heap
 footprint (Some (Tasks file choices limits)) = runs_in_heap file
 footprint (Some (Link to wanted)) = stores_from wanted to
+footprint (Some (Seal from to)) = stores_from (from ∷ []) to
 
 abbrev pub Reads : Footprint → List ℕ → Type 0
 Reads f name = Contains f.reads name

@@ -3,12 +3,14 @@ pub mod Compiled
 pub mod FaultCauses
 pub mod Footprint
 pub mod Images
+pub mod Judged
 pub mod Loading
 pub mod MayAnswer
 pub mod Outcome
 pub mod Outside
 pub mod Performing
 pub mod Reporting
+pub mod Sealed
 pub mod Storing
 pub mod StoredPrograms
 pub mod Runs

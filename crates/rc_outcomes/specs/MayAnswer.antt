@@ -1,10 +1,10 @@
 -- Which answers a request may have.
 use Rattle.std.specs.Prelude.{◌≡◌, ◌⊎◌, Option, Some, None}
-use Rattle.rc_answers.specs.Answers.{IsOfBytes, IsOfCode, IsOfCounts}
+use Rattle.rc_answers.specs.Answers.{IsOfBytes, IsOfCode, IsOfCounts, IsOfPins, IsOfProofs}
 use Rattle.rc_answers.specs.declared.answer.Done.{Done}
 use Rattle.rc_answers.specs.declared.answer.Done.TheVariants.{Ended, StaleImage, Refused, ImageRefused, UnitRefused, LinkRefused, Wrote, Reported, Usage}
 use Rattle.rc_compile.specs.declared.refusal.Refusal.TheVariants.{TooLong}
-use Rattle.rc_requests.specs.Request.{Request, Run, Slow, Compile, Exec, Listing, Upgrade, Script, Checks, Soak, Tasks, Link}
+use Rattle.rc_requests.specs.Request.{Request, Run, Slow, Compile, Exec, Listing, Upgrade, Script, Checks, Soak, Tasks, Link, Seal}
 
 -- a text ends its run or is refused
 abbrev pub EndsOrIsRefused : Done → Type 0
@@ -12,11 +12,11 @@ EndsOrIsRefused (Ended end) = Unit {0}
 EndsOrIsRefused (Refused refusal) = Unit {0}
 EndsOrIsRefused _ = ⊥
 
--- an image ends its run, or its bytes or its code are refused
+-- an image ends its run, or its bytes, its code or its proofs are refused
 abbrev pub RunsOrIsRefused : Done → Type 0
 RunsOrIsRefused (Ended end) = Unit {0}
 RunsOrIsRefused (StaleImage line) = Unit {0}
-RunsOrIsRefused (ImageRefused refusal) = IsOfBytes refusal ⊎ IsOfCode refusal
+RunsOrIsRefused (ImageRefused refusal) = IsOfBytes refusal ⊎ (IsOfCode refusal ⊎ IsOfProofs refusal)
 RunsOrIsRefused _ = ⊥
 
 -- an image is reported on, or the bytes are refused
@@ -30,6 +30,12 @@ abbrev pub WritesOrIsRefused : Done → Type 0
 WritesOrIsRefused Wrote = Unit {0}
 WritesOrIsRefused (ImageRefused refusal) = IsOfBytes refusal
 WritesOrIsRefused _ = ⊥
+
+-- an image is stored with proofs, or its bytes or its code are refused, or it can't be sealed
+abbrev pub SealsOrIsRefused : Done → Type 0
+SealsOrIsRefused Wrote = Unit {0}
+SealsOrIsRefused (ImageRefused refusal) = IsOfBytes refusal ⊎ (IsOfCode refusal ⊎ IsOfPins refusal)
+SealsOrIsRefused _ = ⊥
 
 -- a program's image is stored, or the text is refused
 abbrev pub StoresOrIsRefused : Done → Type 0
@@ -71,3 +77,4 @@ MayAnswer (Some (Checks file)) done = ReportsOrRefusesText done
 MayAnswer (Some (Soak n)) done = ReportsOrRefusesText done
 MayAnswer (Some (Tasks file choices limits)) done = EndsOrIsRefused done
 MayAnswer (Some (Link to wanted)) done = LinksOrIsRefused done
+MayAnswer (Some (Seal from to)) done = SealsOrIsRefused done

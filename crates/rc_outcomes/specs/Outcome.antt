@@ -1,5 +1,6 @@
 -- What a request comes to if nothing fails: its answer, and what it does outside.
 use Rattle.std.specs.Prelude.{◌≡◌, ◌⊎◌, ℕ, nat_le, List, [], ◌∷◌, ◌++◌, length, map, Option, Some, None, Result, Ok, Err, IsTrue, if◌then◌else◌}
+use Rattle.std.specs.List.{AllByRecursion as Every}
 use Rattle.rc_base.specs.Acts.{Act, Gave, IsGetcharNext, IsWriteNext, Write, output}
 use Rattle.rc_base.specs.Causes.{Rose}
 use Rattle.rc_base.specs.Limits.{most_text_bytes}
@@ -15,9 +16,11 @@ use Rattle.rc_compile.specs.declared.refusal.Refusal.{Refusal}
 use Rattle.rc_compile.specs.declared.refusal.Refusal.TheVariants as refusal
 use Rattle.rc_core.specs.Meaning.{Left, Meaning, meaning}
 use Rattle.rc_core.specs.Meaning as meant
+use Rattle.rc_core.specs.Numbers.{IsByte}
 use Rattle.rc_core.specs.Programs.{Program}
 use Rattle.rc_core.specs.Runs.{Ends, Stale, Stop}
 use Rattle.rc_core.specs.Store.{Store}
+use Rattle.rc_claims.specs.declared.proofs.Proofs.{Proofs}
 use Rattle.rc_code.specs.ImageMeaning.{image_left, image_meaning, view_left}
 use Rattle.rc_code.specs.Soundness.{Sound}
 use Rattle.rc_loader.specs.Unmarked.{unmarked}
@@ -26,6 +29,13 @@ use Rattle.rc_loader.specs.declared.fault.Rule.{Rule}
 use Rattle.rc_loader.specs.declared.fault.Rule.TheVariants as rule
 use Rattle.rc_loader.specs.declared.fault.Violation.{Violation}
 use Rattle.rc_first_heap.specs.Keeping.{IsKept}
+use Rattle.rc_greatest_proofs.specs.Sealed.{IsPinFault, IsSealedAs}
+use Rattle.rc_sealed.specs.AllProved.{AllProved}
+use Rattle.rc_sealed.specs.Claimed.{annotation_of}
+use Rattle.rc_sealed.specs.Faults.{IsProofFault, NoneIsWide}
+use Rattle.rc_sealed.specs.declared.fault.ProofFault.{ProofFault}
+use Rattle.rc_sealed.specs.declared.fault.ProofFault.TheVariants as proof_fault
+use Rattle.rc_sealed_images.specs.Spelling.{sealing}
 use Rattle.rc_syntax.specs.Tree.{Tree}
 use Rattle.rc_task_items.specs.Items.{tasks_of_text, without_tasks}
 use Rattle.rc_task_text.specs.TaskText.{task_text_of}
@@ -38,7 +48,7 @@ use Rattle.rc_outcomes.specs.Footprint.{TellsWhatIsUsed, footprint}
 use Rattle.rc_outcomes.specs.Images.{Carried, carried_by}
 use Rattle.rc_outcomes.specs.Loading.{Have}
 use Rattle.rc_outcomes.specs.Outside.{Outside}
-use Rattle.rc_requests.specs.Request.{Request, Run, Slow, Compile, Exec, Listing, Upgrade, Script, Checks, Soak, Tasks, Link, usual_limits}
+use Rattle.rc_requests.specs.Request.{Request, Run, Slow, Compile, Exec, Listing, Upgrade, Script, Checks, Soak, Tasks, Link, Seal, usual_limits}
 use Rattle.rc_answers.specs.Answers.{IsQuiet}
 use Rattle.rc_answers.specs.declared.answer.Done.{Done}
 use Rattle.rc_answers.specs.declared.answer.Done.TheVariants.{Ended, StaleImage, Refused, ImageRefused, UnitRefused, LinkRefused, Wrote, Reported, Usage}
@@ -49,7 +59,7 @@ use Rattle.rc_answers.specs.declared.link_refusal.LinkRefusal.{LinkRefusal}
 use Rattle.rc_link.specs.Answers.{refusal_of}
 use Rattle.rc_linked_texts.specs.Texts.{AreApart, AreProgram, FirstRefused}
 use Rattle.rc_rlang.specs.Bounds.{IsWithinBounds}
-use Rattle.rc_answers.specs.declared.image_refusal.ImageRefusal.TheVariants.{Target, Height, Kind, Number}
+use Rattle.rc_answers.specs.declared.image_refusal.ImageRefusal.TheVariants.{Target, Height, Kind, Number, Facts, Pins, Wide}
 use Rattle.rc_image.specs.Spelling.{spelling}
 use Rattle.rc_image.specs.declared.version.Version.TheVariants.{Two}
 use Rattle.rc_listing.specs.Listing.{listing}
@@ -224,17 +234,50 @@ refusal_by rule.Kind function instruction = Kind function instruction
 abbrev pub refusal_of_code : Violation → ImageRefusal
 refusal_of_code v = refusal_by v.rule v.function v.instruction
 
--- an image whose code keeps the rules does what it means with the mark of every store taken away, and leaves the heap so; every
--- other one is refused by its first violation
-pub data Executes (limits : Limits) (carried : Carried) (input : List ℕ) (outcome : Outcome) : Type 0 where
-  sound : Sound carried.image → outcome ≡ came (image_meaning (unmarked carried.image) input limits) (unpinned limits (image_left (unmarked carried.image) input limits)) → Executes limits carried input outcome
-  broken : (v : Violation) → FirstViolation carried.image v → outcome ≡ answers (ImageRefused (refusal_of_code v)) → Executes limits carried input outcome
+-- the refusal of an image that its proofs don't prove, or that can't be sealed; want of memory is none
+abbrev pub refusal_of_proofs : ProofFault → Option ImageRefusal
+refusal_of_proofs (proof_fault.Facts function instruction) = Some (Facts function instruction)
+refusal_of_proofs (proof_fault.Pins function instruction) = Some (Pins function instruction)
+refusal_of_proofs (proof_fault.Wide function) = Some (Wide function)
+refusal_of_proofs proof_fault.Memory = None
+
+-- what is run of a file's image; or the refusal of an image that isn't
+pub data Admits (carried : Carried) : Result Parts ImageRefusal → Type 0 where
+  -- its code keeps the rules, and no proofs stand beside it: it is run with the mark of every store taken away
+  bare : carried.proofs ≡ None → Sound carried.image → Admits carried (Ok (unmarked carried.image))
+  -- or proofs do, and prove each instruction of it: it is run as it is
+  proven : (proofs : Proofs) → carried.proofs ≡ Some proofs → Sound carried.image → AllProved carried.image (annotation_of carried.image proofs) → NoneIsWide carried.image → Admits carried (Ok carried.image)
+  -- they don't: it is refused for the first thing that they don't prove
+  unproven : (proofs : Proofs) (fault : ProofFault) (refusal : ImageRefusal) → carried.proofs ≡ Some proofs → Sound carried.image → IsProofFault carried.image (annotation_of carried.image proofs) fault → refusal_of_proofs fault ≡ Some refusal → Admits carried (Err refusal)
+  -- its code breaks a rule: it is refused by its first violation
+  broken : (v : Violation) → FirstViolation carried.image v → Admits carried (Err (refusal_of_code v))
+
+-- what the run of an image within limits comes to on the rest of the input
+abbrev pub comes_of : Parts → Limits → (rest : List ℕ) → Outcome
+comes_of parts limits rest = came (image_meaning parts rest limits) (unpinned limits (image_left parts rest limits))
+
+abbrev pub runs_or_refuses : Limits → (input : List ℕ) → Result Parts ImageRefusal → Outcome
+runs_or_refuses limits input (Ok parts) = comes_of parts limits input
+runs_or_refuses limits input (Err refusal) = answers (ImageRefused refusal)
+
+-- what is run does what it means, and leaves the heap so
+pub record Executes (limits : Limits) (carried : Carried) (input : List ℕ) (outcome : Outcome) : Type 0 where
+  pub admitted : Result Parts ImageRefusal
+  pub admits : Admits carried admitted
+  pub comes : outcome ≡ runs_or_refuses limits input admitted
 
 abbrev pub Lists : Carried → (input : List ℕ) → Outcome → Type 0
 Lists carried input outcome = outcome ≡ reports (listing carried.image)
 
 abbrev pub Upgrades : (to : List ℕ) → Carried → (input : List ℕ) → Outcome → Type 0
 Upgrades to carried input outcome = outcome ≡ stores to (spelling Two carried.image)
+
+-- an image whose code keeps the rules is stored with the greatest proofs there are of it, and with a mark at each store whose check they
+-- prove; one that doesn't pin what is used, or has too many variables for proofs, is refused. What was beside it is passed over
+pub data Seals (to : List ℕ) (carried : Carried) (input : List ℕ) (outcome : Outcome) : Type 0 where
+  seals : (sealed : Parts) (proofs : Proofs) → Sound carried.image → IsSealedAs carried.image sealed proofs → Every IsByte (sealing sealed proofs) → outcome ≡ stores to (sealing sealed proofs) → Seals to carried input outcome
+  unsealable : (fault : ProofFault) (refusal : ImageRefusal) → Sound carried.image → IsPinFault carried.image fault → refusal_of_proofs fault ≡ Some refusal → outcome ≡ answers (ImageRefused refusal) → Seals to carried input outcome
+  breaks : (v : Violation) → FirstViolation carried.image v → outcome ≡ answers (ImageRefused (refusal_of_code v)) → Seals to carried input outcome
 
 -- ---- scripts
 
@@ -260,6 +303,7 @@ IsOutcome (Some (Checks file)) files input outcome = OfTextFile file as_they_are
 IsOutcome (Some (Soak n)) files input outcome = OfText (Soaks n) (generated n) outcome
 IsOutcome (Some (Tasks file choices limits)) files input outcome = OfTasksFile file choices limits files input outcome
 IsOutcome (Some (Link to wanted)) files input outcome = OfFiles wanted (Compiles to) files input outcome
+IsOutcome (Some (Seal from to)) files input outcome = OfImage from (Seals to) files input outcome
 
 -- the outcome, where what comes to it tells what it has
 pub record Comes (request : Option Request) (before : Outside) (outcome : Outcome) : Type 0 where

@@ -8,7 +8,7 @@ use Rattle.rc_image.specs.Spelling.{spelling}
 use Rattle.rc_image.specs.declared.version.Version.TheVariants.{Two}
 use Rattle.rc_linked_texts.specs.Texts.{AreProgram}
 use Rattle.rc_outcomes.specs.Loading.{Have}
-use Rattle.rc_requests.specs.Request.{Request, Run, Slow, Compile, Exec, Listing, Upgrade, Script, Checks, Soak, Tasks, Link}
+use Rattle.rc_requests.specs.Request.{Request, Run, Slow, Compile, Exec, Listing, Upgrade, Script, Checks, Soak, Tasks, Link, Seal}
 use Rattle.rc_unchecked.specs.Images.{HasImage}
 
 -- under the name stands the image that the program is compiled to
@@ -31,3 +31,4 @@ StoresProgram (Some (Checks file)) files files' = Unit {0}
 StoresProgram (Some (Soak n)) files files' = Unit {0}
 StoresProgram (Some (Tasks file choices limits)) files files' = Unit {0}
 StoresProgram (Some (Link to wanted)) files files' = (texts : List (List ℕ)) (program : Program) → Have files wanted texts → AreProgram texts program → IsUnder to files' program
+StoresProgram (Some (Seal from to)) files files' = Unit {0}

@@ -1,10 +1,9 @@
 // What holds of every request and every text.
-ghost use Rattle.std.specs.Prelude.{◌≡◌, ◌≤◌, ◌↔◌, ℕ, List, length, Ok, Option};
+ghost use Rattle.std.specs.Prelude.{◌≡◌, ◌≤◌, ◌↔◌, ℕ, List, length, Ok, Option, Some};
 ghost use Rattle.std.specs.List.{AllByRecursion as Every};
 ghost use Rattle.rc_base.specs.Limits.{most_image_bytes};
 ghost use Rattle.rc_base.specs.Shelves.{Names};
 ghost use Rattle.rc_base.specs.declared.ends.Limits.{Limits};
-ghost use Rattle.rc_code.specs.declared.image.Parts.{Parts};
 ghost use Rattle.rc_compile.specs.Acceptance.{Accepted};
 ghost use Rattle.rc_core.specs.Numbers.{IsByte};
 ghost use Rattle.rc_core.specs.Programs.{Program};
@@ -12,19 +11,24 @@ ghost use Rattle.rc_outcomes.specs.Bytes.{AreBytes};
 ghost use Rattle.rc_linked_texts.specs.Texts.{AreProgram};
 ghost use Rattle.rc_outcomes.specs.Compiled.{HasCompiled, HasLinked, RunsAs, RunsTheSame};
 ghost use Rattle.rc_outcomes.specs.Footprint.{AreThere, footprint};
-ghost use Rattle.rc_outcomes.specs.Images.{IsSpelled, alone, carried_by};
+ghost use Rattle.rc_outcomes.specs.Images.{Carried, carried_by};
+ghost use Rattle.rc_outcomes.specs.Judged.{IsJudged};
 ghost use Rattle.rc_outcomes.specs.Outcome.{IsOutcome, OfText, Outcome, Runs, RunsTasks, as_left};
-ghost use Rattle.rc_requests.specs.Request.{Request};
+ghost use Rattle.rc_outcomes.specs.Sealed.{HasSealed, RunsChecked};
+ghost use Rattle.rc_requests.specs.Request.{Exec, Request};
 ghost use Rattle.rc_safety.specs.Safety.{NeverTouchesDeleted};
+ghost use Rattle.rc_sealed_images.specs.Carrying.{Carries};
 ghost use Rattle.rc_task_text.specs.TaskText.{AreChoices, task_text_of};
 
 /// Whatever the words ask comes to one outcome where the names that it reads are there, and never to
 /// two, whatever bytes the files and the input have. That the image of a file, a report on its checks and
 /// what its tasks do are outcomes needs that what the file has are bytes; and choices have to be digits,
 /// as they are where words ask for tasks. That the image of several files is needs besides that
-/// there are few enough of them.
+/// there are few enough of them. That an image with proofs is run or refused, and that one is sealed or
+/// refused, needs that the one or the other is known: of these it is said that there is never more than
+/// one outcome.
 pub fn a_request_has_one_outcome()
-    ensures some { (request : Option Request) (files : Names) (input : List ℕ) → AreThere (footprint request) files → AreBytes request files → (outcome : Outcome) × IsOutcome request files input outcome }
+    ensures some { (request : Option Request) (files : Names) (input : List ℕ) → AreThere (footprint request) files → AreBytes request files → IsJudged request files → (outcome : Outcome) × IsOutcome request files input outcome }
     ensures one { (request : Option Request) (files : Names) (input : List ℕ) (one other : Outcome) → IsOutcome request files input one → IsOutcome request files input other → one ≡ other }
 {}
 
@@ -33,11 +37,18 @@ pub fn an_accepted_text_never_touches_deleted()
     ensures { (text : List ℕ) (program : Program) (input : List ℕ) (limits : Limits) → Accepted text program → NeverTouchesDeleted program input limits }
 {}
 
-/// Bytes are those of an image exactly where they are its spelling in one of the two versions of the
-/// format, and the image keeps the rules of its fields.
-pub fn an_image_is_what_its_bytes_spell()
-    ensures read { (bytes : List ℕ) (image : Parts) → Every IsByte bytes → carried_by bytes ≡ Ok (alone image) → IsSpelled bytes image }
-    ensures spelled { (bytes : List ℕ) (image : Parts) → length bytes ≤ most_image_bytes → IsSpelled bytes image → carried_by bytes ≡ Ok (alone image) }
+/// Bytes carry an image, by itself or with proofs, exactly where they are a spelling of it: without proofs
+/// in one of the two versions of the format, with proofs in the one that has them. The image keeps the
+/// rules of its fields, and proofs fit it.
+pub fn an_image_is_what_its_bytes_carry()
+    ensures read { (bytes : List ℕ) (carried : Carried) → Every IsByte bytes → carried_by bytes ≡ Ok carried → Carries bytes carried.image carried.proofs }
+    ensures carried { (bytes : List ℕ) (carried : Carried) → length bytes ≤ most_image_bytes → Carries bytes carried.image carried.proofs → carried_by bytes ≡ Ok carried }
+{}
+
+/// What comes of an image with proofs is what comes of it with every check made, or its refusal, and never
+/// that a deleted region was touched; on every input and within all limits.
+pub fn a_sealed_image_runs_as_with_every_check()
+    ensures { (files : Names) (file : List ℕ) → (has : HasSealed files file) → (limits : Limits) (input : List ℕ) (outcome : Outcome) → IsOutcome (Some (Exec file limits)) files input outcome → RunsChecked has.image limits input outcome }
 {}
 
 /// What was stored of a text runs as the text does: on every input of bytes and within all limits

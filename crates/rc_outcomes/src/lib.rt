@@ -11,8 +11,8 @@ mod reporting;
 pub use flush::flush_behind;
 pub use laws::{
     a_linked_image_runs_as_its_program, a_linked_program_never_touches_deleted,
-    a_request_has_one_outcome, a_stored_image_runs_as_its_text,
-    an_accepted_text_never_touches_deleted, an_image_is_what_its_bytes_spell,
-    tasks_do_what_their_text_does,
+    a_request_has_one_outcome, a_sealed_image_runs_as_with_every_check,
+    a_stored_image_runs_as_its_text, an_accepted_text_never_touches_deleted,
+    an_image_is_what_its_bytes_carry, tasks_do_what_their_text_does,
 };
 pub use reporting::report;

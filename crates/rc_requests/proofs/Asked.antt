@@ -8,7 +8,7 @@ use Rattle.std.specs.Str.{bytes_eq}
 use Rattle.std.proofs.lemmas.Bool.Decides.{nat_tests}
 use Rattle.rc_base.specs.declared.ends.Limits.{Limits}
 use Rattle.rc_task_text.specs.TaskText.{AreChoices}
-use Rattle.rc_requests.specs.Request.{Request, Run, Slow, Compile, Exec, Listing, Upgrade, Script, Checks, Soak, Tasks, Link, are_choices, ending, ending_in_name, ending_number, limits_of, limits_within, most_made, number_within, request_of, with_choices, with_files}
+use Rattle.rc_requests.specs.Request.{Request, Run, Slow, Compile, Exec, Listing, Upgrade, Script, Checks, Soak, Tasks, Link, Seal, are_choices, ending, ending_in_name, ending_number, limits_of, limits_within, most_made, number_within, request_of, with_choices, with_files}
 
 -- ---- words of digits
 
@@ -54,6 +54,7 @@ Fits (Checks file) = Unit {0}
 Fits (Soak n) = Unit {0}
 Fits (Tasks file choices limits) = AreChoices choices
 Fits (Link to files) = (1 ≤ length files) × (length files ≤ 16)
+Fits (Seal from to) = Unit {0}
 
 either : (test : Bool) (one other : Option Request) → IfSome one Fits → IfSome other Fits → IfSome (if test then one else other) Fits
 either true one other a b = a
@@ -104,7 +105,8 @@ all_fit (verb ∷ file ∷ rest) =
     (either (bytes_eq verb (codes "checks")) _ _ (with_nothing (Checks file) tt rest)
     (either (bytes_eq verb (codes "soak")) _ _ (with_number Soak (λ n. tt) file rest)
     (either (bytes_eq verb (codes "tasks")) _ _ (of_tasks file rest)
-    (either (bytes_eq verb (codes "link")) _ None (of_files file rest) tt))))))))))
+    (either (bytes_eq verb (codes "link")) _ _ (of_files file rest)
+    (either (bytes_eq verb (codes "seal")) _ None (with_name (Seal file) (λ name. tt) rest) tt)))))))))))
 
 pub asked_choices : (words : List (List ℕ)) (file choices : List ℕ) (limits : Limits) → request_of words ≡ Some (Tasks file choices limits) → AreChoices choices
 asked_choices words file choices limits is = subst (λ (request : Option Request). IfSome request Fits) is (all_fit words)

@@ -5,7 +5,7 @@ use Rattle.rc_requests.specs.Request as request
 use Rattle.rc_requests.specs.Request.{Chosen}
 use Rattle.rc_requests.specs.declared.request.Chosen as code
 use Rattle.rc_requests.specs.declared.request.Request as code_request
-use Rattle.rc_requests.specs.declared.request.Request.TheVariants.{Run, Slow, Compile, Exec, Listing, Upgrade, Script, Checks, Soak, Tasks, Link}
+use Rattle.rc_requests.specs.declared.request.Request.TheVariants.{Run, Slow, Compile, Exec, Listing, Upgrade, Script, Checks, Soak, Tasks, Link, Seal}
 
 abbrev pub bytes_of : List (String Global) → List (List ℕ)
 bytes_of words = map string_bytes words
@@ -25,3 +25,4 @@ asks (Checks file) = request.Checks file.now
 asks (Soak n) = request.Soak n
 asks (Tasks file choices limits) = request.Tasks file.now choices.now limits
 asks (Link to files) = request.Link to.now (bytes_of files.now)
+asks (Seal from to) = request.Seal from.now to.now

@@ -33,6 +33,8 @@ pub data Request : Type 0 where
   Tasks : (file choices : List ℕ) → Limits → Request
   -- to store the image of the program that these files are together under a name
   Link : (to : List ℕ) → (files : List (List ℕ)) → Request
+  -- to store the image of the first file under the second name, with proofs of which of its checks are not needed
+  Seal : (from to : List ℕ) → Request
 
 -- the number of a word of decimal digits without a leading zero, where it is no more than `most`
 abbrev pub number_within : (most : ℕ) → List ℕ → Option ℕ
@@ -121,5 +123,6 @@ request_of (verb ∷ file ∷ rest) =
     if bytes_eq verb (codes "checks") then ending (Checks file) rest else
     if bytes_eq verb (codes "soak") then ending_number Soak file rest else
     if bytes_eq verb (codes "tasks") then with_choices (Tasks file) rest else
-    if bytes_eq verb (codes "link") then with_files (Link file) rest else None
+    if bytes_eq verb (codes "link") then with_files (Link file) rest else
+    if bytes_eq verb (codes "seal") then ending_in_name (Seal file) rest else None
 request_of _ = None

@@ -6,7 +6,7 @@ ghost use Rattle.std.specs.Option.{option_map};
 ghost use Rattle.std.specs.Fmt.{decimal};
 ghost use Rattle.std.specs.Str.{bytes_eq};
 ghost use Rattle.rc_requests.specs.Asking.{asks, bytes_of, chosen};
-ghost use Rattle.rc_requests.specs.Request.{Checks, Compile, Link, Listing, Soak, Tasks, Upgrade, are_choices, ending, ending_in_name, ending_number, limits_of, limits_within, number_within, option, request_of, with_choices, with_files};
+ghost use Rattle.rc_requests.specs.Request.{Checks, Compile, Link, Listing, Seal, Soak, Tasks, Upgrade, are_choices, ending, ending_in_name, ending_number, limits_of, limits_within, number_within, option, request_of, with_choices, with_files};
 
 use itoa::Buffer;
 use rc_base::{Limits, MOST_BLOCKS, MOST_REGIONS, MOST_TURNS, USUAL_TURNS};
@@ -37,6 +37,9 @@ pub enum Request<'a> {
     /// To store the image of the program that the files are together under the name. There are from 1
     /// to 16 of them.
     Link(&'a str, &'a [String]),
+    /// To store the image of the first file under the second name, with proofs of which of its checks
+    /// are not needed.
+    Seal(&'a str, &'a str),
 }
 
 /// How many choices there may be.
@@ -227,6 +230,16 @@ fn link<'a>(to: &'a str, rest: &'a [String]) -> Option<Request<'a>>
     Some(Request::Link(to, rest))
 }
 
+/// To seal this file, where one word stands behind: the name under which to store.
+fn seal<'a>(from: &'a str, rest: &'a [String]) -> Option<Request<'a>>
+    ensures { option_map asks result ≡ ending_in_name (Seal from.now) (bytes_of rest.now) }
+{
+    match rest {
+        [to] => Some(Request::Seal(from, to.as_str())),
+        _ => None,
+    }
+}
+
 fn asking<'a>(verb: &str, file: &'a str, rest: &'a [String]) -> Option<Request<'a>>
     ensures { option_map asks result ≡ request_of (verb.now ∷ file.now ∷ bytes_of rest.now) }
 {
@@ -266,6 +279,9 @@ fn asking<'a>(verb: &str, file: &'a str, rest: &'a [String]) -> Option<Request<'
     }
     if verb == "link" {
         return link(file, rest);
+    }
+    if verb == "seal" {
+        return seal(file, rest);
     }
     None
 }

@@ -1,0 +1,5 @@
+pub mod Bits
+pub mod Faults
+pub mod Frames
+pub mod Marks
+pub mod One
