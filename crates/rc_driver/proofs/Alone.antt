@@ -11,12 +11,12 @@ use Rattle.rc_code.specs.ImageMeaning.{image_left, image_meaning}
 use Rattle.rc_core.specs.Meaning.{Left, Meaning, meaning}
 use Rattle.rc_core.specs.Programs.{Program}
 use Rattle.rc_core.specs.Runs.{Ends, Stale, Stop}
-use Rattle.rc_driver.specs.Executing.{TellsBytes, comes_of}
+use Rattle.rc_driver.specs.Executing.{TellsBytes}
 use Rattle.rc_store.specs.Kept.{KeptStore}
 use Rattle.rc_answers.specs.declared.answer.Done.{Done}
 use Rattle.rc_answers.specs.declared.answer.Done.TheVariants.{Ended}
 use Rattle.rc_answers.specs.declared.answer.Fault.{Fault}
-use Rattle.rc_outcomes.specs.Outcome.{IsLeft, as_left, end_as, unpinned}
+use Rattle.rc_outcomes.specs.Outcome.{IsLeft, as_left, comes_of, end_as, unpinned}
 use Rattle.rc_outcomes.specs.Runs.{Ran}
 use Rattle.rc_reports.specs.Reports.{removed_count}
 use Rattle.rc_summaries.specs.declared.summary.Summary.{Summary}

@@ -6,7 +6,9 @@ pub mod EvaluationRows
 pub mod RunLaws
 pub mod Checked
 pub mod InspectionRows
+pub mod Admissions
 pub mod Executions
+pub mod Sealings
 pub mod MachineRuns
 pub mod Ran
 pub mod Compiled

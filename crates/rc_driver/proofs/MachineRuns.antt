@@ -22,9 +22,9 @@ use Rattle.rc_machine.specs.Stepping.{Did}
 use Rattle.rc_steps.specs.Follows.{Means}
 use Rattle.rc_store.specs.Kept.{KeptStore}
 use Rattle.rc_answers.specs.Answers.{IsRun}
-use Rattle.rc_outcomes.specs.Outcome.{IsLeft, Performed, end_as, unpinned}
+use Rattle.rc_outcomes.specs.Outcome.{IsLeft, Performed, comes_of, end_as, unpinned}
 use Rattle.rc_outcomes.specs.Runs.{RanUnflushed}
-use Rattle.rc_driver.specs.Executing.{TellsBytes, as_done, comes_of, done_by}
+use Rattle.rc_driver.specs.Executing.{TellsBytes, as_done, done_by}
 
 done_so : (e : ImageEnd) → done_by e ≡ end_as (stop_of e)
 done_so (image.Ended end) = refl

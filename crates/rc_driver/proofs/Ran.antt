@@ -19,7 +19,7 @@ use Rattle.rc_answers.specs.declared.answer.Done.TheVariants.{Ended, StaleImage,
 use Rattle.rc_answers.specs.declared.answer.Fault.{Fault}
 use Rattle.rc_answers.specs.declared.answer.Fault.TheVariants.{Memory}
 use Rattle.rc_driver.specs.Executing.{TellsBytes}
-use Rattle.rc_driver.specs.Executing as executing
+use Rattle.rc_outcomes.specs.Outcome as outcome
 use Rattle.rc_outcomes.specs.Outcome.{IsLeft, Outcome, Performed, StoppedShort, as_left, came, end_as, unpinned}
 use Rattle.rc_outcomes.specs.Runs.{Ran}
 use Rattle.rc_outcomes.proofs.Ways.{an_end}
@@ -27,7 +27,7 @@ use Rattle.rc_files.specs.Programs.{RanProgram, comes_of}
 use Rattle.rc_driver.specs.Ends.{Ends}
 
 module _ (text : List ℕ) (program : Program) (image : Parts) (only : IsOnlyProgram text program) (has : HasImage program image) (limits : Limits) (input input' : SourceState) (out out' : SinkState) (heap' : KeptStore) where
-  same : TellsBytes input → executing.comes_of image limits input.rest ≡ comes_of as_left program limits input.rest
+  same : TellsBytes input → outcome.comes_of image limits input.rest ≡ comes_of as_left program limits input.rest
   same told =
       ap (λ (m : Meaning). came m (unpinned limits (image_left image input.rest limits))) (has.means input.rest limits told.1).0
       ∙ ap (λ (l : Option Left). came (meaning program input.rest limits) (unpinned limits l)) (has.means input.rest limits told.1).1
@@ -38,7 +38,7 @@ module _ (text : List ℕ) (program : Program) (image : Parts) (only : IsOnlyPro
       let done : StaleImage line ≡ Ended e.0 = is ∙ ap (λ (s : Stop). end_as s) e.1 in
       cc
 
-  ended : (end : End) → Ran (TellsBytes input) (executing.comes_of image limits) input input' out out' heap' (Ok (Ended end)) → RanProgram as_left (TellsBytes input) program limits input input' out out' heap' (Ok (Ended end))
+  ended : (end : End) → Ran (TellsBytes input) (outcome.comes_of image limits) input input' out out' heap' (Ok (Ended end)) → RanProgram as_left (TellsBytes input) program limits input input' out out' heap' (Ok (Ended end))
   ended end r = record {
     ran = record {
       done = λ told. subst (λ (o : Outcome). Ended end ≡ o.done) (same told) (r.done told);
@@ -60,7 +60,7 @@ module _ (text : List ℕ) (program : Program) (image : Parts) (only : IsOnlyPro
     ends = tt;
   }
 
-  stale : (line : ℕ) → Ran (TellsBytes input) (executing.comes_of image limits) input input' out out' heap' (Ok (StaleImage line)) → RanProgram as_left (TellsBytes input) program limits input input' out out' heap' (Err Memory)
+  stale : (line : ℕ) → Ran (TellsBytes input) (outcome.comes_of image limits) input input' out out' heap' (Ok (StaleImage line)) → RanProgram as_left (TellsBytes input) program limits input input' out out' heap' (Err Memory)
   stale line r = record {
     ran = record {
       done = λ told. tt;
@@ -82,7 +82,7 @@ module _ (text : List ℕ) (program : Program) (image : Parts) (only : IsOnlyPro
     ends = tt;
   }
 
-  cut : (fault : Fault) → Ran (TellsBytes input) (executing.comes_of image limits) input input' out out' heap' (Err fault) → RanProgram as_left (TellsBytes input) program limits input input' out out' heap' (Err fault)
+  cut : (fault : Fault) → Ran (TellsBytes input) (outcome.comes_of image limits) input input' out out' heap' (Err fault) → RanProgram as_left (TellsBytes input) program limits input input' out out' heap' (Err fault)
   cut fault r = record {
     ran = record {
       done = λ told. tt;
@@ -104,7 +104,7 @@ module _ (text : List ℕ) (program : Program) (image : Parts) (only : IsOnlyPro
     ends = tt;
   }
 
-  pub ran_program : (ran answer : Result Done Fault) → Ran (TellsBytes input) (executing.comes_of image limits) input input' out out' heap' ran → Ends ran answer → RanProgram as_left (TellsBytes input) program limits input input' out out' heap' answer
+  pub ran_program : (ran answer : Result Done Fault) → Ran (TellsBytes input) (outcome.comes_of image limits) input input' out out' heap' ran → Ends ran answer → RanProgram as_left (TellsBytes input) program limits input input' out out' heap' answer
   ran_program (Ok (Ended end)) answer r is = subst (RanProgram as_left (TellsBytes input) program limits input input' out out' heap') (sym is) (ended end r)
   ran_program (Ok (StaleImage line)) answer r is = subst (RanProgram as_left (TellsBytes input) program limits input input' out out' heap') (sym is) (stale line r)
   ran_program (Ok (Refused refusal)) answer r is = absurd r.is_run

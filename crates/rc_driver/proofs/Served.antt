@@ -13,7 +13,7 @@ use Rattle.rc_answers.specs.Lines.{done_line}
 use Rattle.rc_outcomes.specs.Outcome.{Comes, IsOutcome, Outcome, Performed, StoppedShort}
 use Rattle.rc_outcomes.specs.Outside.{NoneRose, Outside, outside}
 use Rattle.rc_outcomes.specs.Performing.{Performs}
-use Rattle.rc_requests.specs.Request.{Request, Run, Slow, Compile, Exec, Listing, Upgrade, Script, Checks, Soak, Tasks, Link}
+use Rattle.rc_requests.specs.Request.{Request, Run, Slow, Compile, Exec, Listing, Upgrade, Script, Checks, Soak, Tasks, Link, Seal}
 use Rattle.rc_answers.specs.Telling.{Tells, ToldDone, ToldFault, Untold}
 use Rattle.rc_answers.specs.declared.answer.Done.{Done}
 use Rattle.rc_answers.specs.declared.answer.Done.TheVariants.{Ended, StaleImage, Refused, ImageRefused, UnitRefused, LinkRefused, Wrote, Reported, Usage}
@@ -32,6 +32,7 @@ told_done request before files' input' out' err' heap' done p tells told = recor
   follows = p.follows;
   settled = p.settled;
   complete = λ none outcome comes. inl (ap Ok (p.follows outcome comes).0);
+  only_memory = λ none here. tt;
   missing = p.missing;
   may_answer = p.may_answer;
   alone = record { others = p.alone.others; names = p.alone.names; files = p.alone.files; input = p.alone.input; out = p.alone.out; heap = p.alone.heap };
@@ -91,6 +92,7 @@ replaced request before files' input' out' err' heap' done p tells untold = reco
   follows = λ outcome comes. all_acts outcome before.input input' before.out out' (p.follows outcome comes).1;
   settled = λ told. tt;
   complete = λ none outcome comes. absurd (none.err untold.rose);
+  only_memory = λ none here. absurd (none.err untold.rose);
   missing = λ none. absurd (not_missing (p.missing none).3);
   may_answer = tt;
   alone = record { others = p.alone.others; names = p.alone.names; files = p.alone.files; input = p.alone.input; out = p.alone.out; heap = p.alone.heap };
@@ -136,16 +138,17 @@ there (Some (Checks file)) before outcome is (name, read, lacks) = there_is befo
 there (Some (Soak n)) before outcome is (name, read, lacks) = let low = read.1 in omega (arith, low)
 there (Some (Tasks file choices limits)) before outcome is (name, read, lacks) = there_is before.files.names file name is.0 (the_only file name read) is.1 lacks.none
 there (Some (Link to wanted)) before outcome is (name, read, lacks) = there_of_all before.files.names wanted is.0 is.1 name read lacks.none
+there (Some (Seal from to)) before outcome is (name, read, lacks) = there_is before.files.names from name is.0 (the_only from name read) is.1 lacks.none
 
-complete_fault : (request : Option Request) (before : Outside) (files' : ShelfState) (input' : SourceState) (out' err' : SinkState) (heap' : KeptStore) (fault : Fault) → Performs request before (outside files' input' out' before.err heap') (Err fault) → NoneRose before (outside files' input' out' err' heap') → (outcome : Outcome) → Comes request before outcome → fault ≡ Memory
-complete_fault request before files' input' out' err' heap' FileFault p none outcome comes = absurd (no_file (p.file_fault refl).cause) where
+only_memory_left : (request : Option Request) (before : Outside) (files' : ShelfState) (input' : SourceState) (out' err' : SinkState) (heap' : KeptStore) (fault : Fault) → Performs request before (outside files' input' out' before.err heap') (Err fault) → NoneRose before (outside files' input' out' err' heap') → ¬ IsMissing (footprint request) before → fault ≡ Memory
+only_memory_left request before files' input' out' err' heap' FileFault p none here = absurd (no_file (p.file_fault refl).cause) where
   no_file : Rose before.files.faults files'.faults ⊎ IsMissing (footprint request) before → ⊥
   no_file (inl rose) = none.files rose
-  no_file (inr missing) = there request before outcome comes.comes missing
-complete_fault request before files' input' out' err' heap' ReadFault p none outcome comes = absurd (none.input (p.read_fault refl).rose)
-complete_fault request before files' input' out' err' heap' WriteFault p none outcome comes = absurd (none.out (p.write_fault refl).rose)
-complete_fault request before files' input' out' err' heap' ErrFault p none outcome comes = absurd (p.no_error refl)
-complete_fault request before files' input' out' err' heap' Memory p none outcome comes = refl
+  no_file (inr missing) = here missing
+only_memory_left request before files' input' out' err' heap' ReadFault p none here = absurd (none.input (p.read_fault refl).rose)
+only_memory_left request before files' input' out' err' heap' WriteFault p none here = absurd (none.out (p.write_fault refl).rose)
+only_memory_left request before files' input' out' err' heap' ErrFault p none here = absurd (p.no_error refl)
+only_memory_left request before files' input' out' err' heap' Memory p none here = refl
 
 heard_fault : (request : Option Request) (before : Outside) (files' : ShelfState) (input' : SourceState) (out' err' : SinkState) (heap' : KeptStore) (fault : Fault) → fault ≢ ErrFault → ToldFault fault before.err err' → Heard request before (outside files' input' out' err' heap') (Err fault)
 heard_fault request before files' input' out' err' heap' FileFault other told = told
@@ -159,7 +162,8 @@ told_fault : (request : Option Request) (before : Outside) (files' : ShelfState)
 told_fault request before files' input' out' err' heap' fault p tells told = record {
   follows = p.follows;
   settled = λ told. tt;
-  complete = λ none outcome comes. inr (ap Err (complete_fault request before files' input' out' err' heap' fault p none outcome comes));
+  complete = λ none outcome comes. inr (ap Err (only_memory_left request before files' input' out' err' heap' fault p none (there request before outcome comes.comes)));
+  only_memory = λ none here. only_memory_left request before files' input' out' err' heap' fault p none here;
   missing = p.missing;
   may_answer = tt;
   alone = record { others = p.alone.others; names = p.alone.names; files = p.alone.files; input = p.alone.input; out = p.alone.out; heap = p.alone.heap };

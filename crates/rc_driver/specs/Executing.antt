@@ -1,5 +1,5 @@
 -- What it comes to to run an image.
-use Rattle.std.specs.Prelude.{◌≡◌, ℕ, List, Option, Result, Ok, Err, IsTrue}
+use Rattle.std.specs.Prelude.{◌≡◌, ◌⊎◌, ℕ, List, Option, Result, Ok, Err, IsTrue}
 use Rattle.std.specs.List.{AllByRecursion as Every}
 use Rattle.rc_base.specs.Sinks.{SinkState}
 use Rattle.rc_base.specs.Sources.{SourceState}
@@ -7,15 +7,10 @@ use Rattle.rc_base.specs.declared.ends.Limits.{Limits}
 use Rattle.rc_base.specs.declared.ends.RunFault.{RunFault}
 use Rattle.rc_core.specs.Numbers.{IsByte}
 use Rattle.rc_code.specs.declared.image.Parts.{Parts}
-use Rattle.rc_code.specs.ImageMeaning.{image_left, image_meaning}
-use Rattle.rc_code.specs.Soundness.{Sound}
-use Rattle.rc_loader.specs.Unmarked.{unmarked}
-use Rattle.rc_loader.specs.Violations.{FirstViolation}
-use Rattle.rc_loader.specs.declared.fault.Violation.{Violation}
 use Rattle.rc_machine.specs.declared.end.ImageEnd.{ImageEnd}
 use Rattle.rc_machine.specs.declared.end.ImageEnd.TheVariants as image
 use Rattle.rc_store.specs.Kept.{KeptStore}
-use Rattle.rc_answers.specs.Answers.{IsOfCode, IsRun}
+use Rattle.rc_answers.specs.Answers.{IsOfCode, IsOfProofs, IsRun}
 use Rattle.rc_answers.specs.declared.answer.Done.{Done}
 use Rattle.rc_answers.specs.declared.answer.Done.TheVariants.{Ended, StaleImage, ImageRefused}
 use Rattle.rc_answers.specs.declared.answer.Fault.{Fault}
@@ -24,7 +19,8 @@ use Rattle.rc_answers.specs.declared.image_refusal.ImageRefusal.{ImageRefusal}
 use Rattle.rc_files.specs.Making.{MakesOf}
 use Rattle.rc_outcomes.specs.Footprint.{footprint}
 use Rattle.rc_outcomes.specs.MayAnswer.{MayAnswer}
-use Rattle.rc_outcomes.specs.Outcome.{Executes, Outcome, Untouched, came, refusal_of_code, unpinned}
+use Rattle.rc_outcomes.specs.Images.{Carried}
+use Rattle.rc_outcomes.specs.Outcome.{Admits, Executes, Untouched, comes_of}
 use Rattle.rc_outcomes.specs.Runs.{Ran}
 use Rattle.rc_requests.specs.Request.{Request}
 
@@ -37,10 +33,6 @@ abbrev pub as_done : Result ImageEnd RunFault → Result Done RunFault
 as_done (Ok end) = Ok (done_by end)
 as_done (Err fault) = Err fault
 
--- what the run of an image comes to on the rest of the input
-abbrev pub comes_of : Parts → Limits → List ℕ → Outcome
-comes_of parts limits rest = came (image_meaning parts rest limits) (unpinned limits (image_left parts rest limits))
-
 -- the input tells what it has, and that is bytes
 abbrev pub TellsBytes : SourceState → Type 0
 TellsBytes input = IsTrue input.tells × Every IsByte input.rest
@@ -50,11 +42,11 @@ pub record Spared (input input' : SourceState) (out out' : SinkState) (heap heap
   pub untouched : Untouched input input' out out'
   pub heap_same : heap' ≡ heap
 
--- an image was loaded and run, or was refused, or there was no memory to tell
-pub data Executed (parts : Parts) (limits : Limits) (input input' : SourceState) (out out' : SinkState) (heap heap' : KeptStore) : Result Done Fault → Type 0 where
-  ran : (result : Result Done Fault) → Sound parts → Ran (TellsBytes input) (comes_of (unmarked parts) limits) input input' out out' heap' result → Executed parts limits input input' out out' heap heap' result
-  refused : (v : Violation) → FirstViolation parts v → Spared input input' out out' heap heap' → Executed parts limits input input' out out' heap heap' (Ok (ImageRefused (refusal_of_code v)))
-  no_memory : Spared input input' out out' heap heap' → Executed parts limits input input' out out' heap heap' (Err Memory)
+-- what a file carries was run, or was refused, or there was no memory to tell
+pub data Executed (carried : Carried) (limits : Limits) (input input' : SourceState) (out out' : SinkState) (heap heap' : KeptStore) : Result Done Fault → Type 0 where
+  ran : (code : Parts) (result : Result Done Fault) → Admits carried (Ok code) → Ran (TellsBytes input) (comes_of code limits) input input' out out' heap' result → Executed carried limits input input' out out' heap heap' result
+  refused : (refusal : ImageRefusal) → Admits carried (Err refusal) → Spared input input' out out' heap heap' → Executed carried limits input input' out out' heap heap' (Ok (ImageRefused refusal))
+  no_memory : Spared input input' out out' heap heap' → Executed carried limits input input' out out' heap heap' (Err Memory)
 
 -- the rows of the tables say of a request that it runs the image of this file
 pub record ExecutesOf (request : Option Request) (name : List ℕ) (limits : Limits) : Type 0 where
@@ -63,4 +55,4 @@ pub record ExecutesOf (request : Option Request) (name : List ℕ) (limits : Lim
   pub writes : IsTrue (footprint request).writes_out
   pub heap : IsTrue (footprint request).uses_heap
   pub may_run : (done : Done) → IsRun done → MayAnswer request done
-  pub may_refuse : (refusal : ImageRefusal) → IsOfCode refusal → MayAnswer request (ImageRefused refusal)
+  pub may_refuse : (refusal : ImageRefusal) → IsOfCode refusal ⊎ IsOfProofs refusal → MayAnswer request (ImageRefused refusal)

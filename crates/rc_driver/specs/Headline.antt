@@ -1,5 +1,5 @@
 -- What the top call promises of the words, of what it finds outside and of what it leaves.
-use Rattle.std.specs.Prelude.{◌≡◌, ◌⊎◌, List, map, Option, None, Result, Ok, Err, IfOk, IsErrOf, IsOk, IsTrue, String, string_bytes}
+use Rattle.std.specs.Prelude.{◌≡◌, ◌⊎◌, List, map, Option, None, Result, Ok, Err, IfErr, IfOk, IsErrOf, IsOk, IsTrue, String, string_bytes}
 use Rattle.std.specs.declared.alloc.Global.{Global}
 use Rattle.rc_base.specs.Causes.{Rose}
 use Rattle.rc_base.specs.Sinks.{IsFlushed, TookFront}
@@ -54,6 +54,8 @@ pub record Serves (request : Option Request) (before after : Outside) (result : 
   pub settled : (UsesFiles (footprint request) → IsTrue before.files.tells) → IfOk result (Settles request before)
   -- where no count rose, the answer is that of the outcome, or want of memory
   pub complete : NoneRose before after → (outcome : Outcome) → Comes request before outcome → (result ≡ Ok outcome.done) ⊎ (result ≡ Err Memory)
+  -- and a fault is want of memory, where each name that is read is there
+  pub only_memory : NoneRose before after → ¬ IsMissing (footprint request) before → IfErr result (λ fault. fault ≡ Memory)
   -- where a name that is read isn't there, nothing is done
   pub missing : IsMissing (footprint request) before → Untouched before.input after.input before.out after.out × (after.files.names ≡ before.files.names) × (after.heap ≡ before.heap) × ((result ≡ Err FileFault) ⊎ (result ≡ Err Memory))
   -- the answer is one of those that the request may have

@@ -2,10 +2,12 @@ pub mod Headline
 pub mod Scripting
 pub mod Evaluating
 pub mod Checking
+pub mod Admitting
 pub mod Executing
 pub mod Ends
 pub mod Running
 pub mod Tasking
 pub mod Compiling
 pub mod Linking
+pub mod Sealing
 pub mod Soaking

@@ -1,39 +1,26 @@
 // Runs the image of a file.
 ghost use Rattle.std.specs.Prelude.{◌≡◌, Option};
 ghost use Rattle.rc_base.specs.Sinks.{SinkState};
-ghost use Rattle.rc_driver.specs.Executing.{Executed, ExecutesOf, TellsBytes, as_done, comes_of};
+ghost use Rattle.rc_driver.specs.Executing.{Executed, ExecutesOf, TellsBytes, as_done};
+ghost use Rattle.rc_files.specs.Loading.{Fit, as_read};
 ghost use Rattle.rc_first_heap.specs.First.{IsUnused};
 ghost use Rattle.rc_machine.specs.Image.{RunsImage};
-ghost use Rattle.rc_outcomes.specs.Outcome.{refusal_of_code};
+ghost use Rattle.rc_outcomes.specs.Outcome.{comes_of};
 ghost use Rattle.rc_outcomes.specs.Outside.{outside};
 ghost use Rattle.rc_outcomes.specs.Performing.{Performs};
 ghost use Rattle.rc_outcomes.specs.Runs.{Ran};
 ghost use Rattle.rc_requests.specs.Request.{Request};
 ghost use Rattle.rc_store.specs.Stores.{IsNew};
 
-use rc_answers::{Done, Fault, ImageRefusal};
+use crate::admit::{NotRun, admit};
+use rc_answers::{Done, Fault};
 use rc_base::{Limits, RunFault, Shelf, Sink, Source, Steps};
-use rc_code::{Image, Loaded};
-use rc_files::{NoImage, load_image};
-use rc_loader::{LoadFault, Rule, Violation, load};
+use rc_code::Loaded;
+use rc_files::{Carried, NoImage, load_image};
 use rc_machine::{ImageEnd, run};
 use rc_outcomes::flush_behind;
 use rc_store::Heap;
 use std::alloc::Global;
-
-/// The refusal of an image that breaks a rule first there.
-fn refusal_of(violation: Violation) -> ImageRefusal
-    ensures { result ≡ refusal_of_code violation }
-{
-    let function = violation.function;
-    let instruction = violation.instruction;
-    match violation.rule {
-        Rule::Number => ImageRefusal::Number(function, instruction),
-        Rule::Target => ImageRefusal::Target(function, instruction),
-        Rule::Height => ImageRefusal::Height(function, instruction),
-        Rule::Kind => ImageRefusal::Kind(function, instruction),
-    }
-}
 
 /// What was done, or the fault, of a run.
 fn as_done(ended: Result<ImageEnd, RunFault>) -> Result<Done, RunFault>
@@ -65,28 +52,29 @@ pub fn run_loaded<H: Heap, S: Source, O: Sink>(
     flush_behind(out, as_done(ended))
 }
 
-/// Loads an image and runs it, or refuses it.
+/// Runs what a file carries, or refuses it.
 fn execute<H: Heap, S: Source, O: Sink>(
     alloc: Global,
-    image: Image,
+    carried: Carried,
     limits: &Limits,
     heap: &mut H,
     input: &mut S,
     out: &mut O,
     steps: &mut Steps<H::Counter>,
 ) -> Result<Done, Fault>
-    requires { IsNew (H.store heap.old) }
-    ensures { Executed image limits.now (S.state input.old) (S.state input.new) (O.state out.old) (O.state out.new) (H.store heap.old) (H.store heap.new) result }
+    requires new { IsNew (H.store heap.old) }
+    requires fit { Fit carried }
+    ensures { Executed (as_read carried) limits.now (S.state input.old) (S.state input.new) (O.state out.old) (O.state out.new) (H.store heap.old) (H.store heap.new) result }
 {
-    match load(alloc, image) {
+    match admit(alloc, carried) {
         Ok(code) => run_loaded(alloc, &code, limits, heap, input, out, steps),
-        Err(LoadFault::Broken(violation)) => Ok(Done::ImageRefused(refusal_of(violation))),
-        Err(LoadFault::Memory) => Err(Fault::Memory),
+        Err(NotRun::Refused(refusal)) => Ok(Done::ImageRefused(refusal)),
+        Err(NotRun::Memory) => Err(Fault::Memory),
     }
 }
 
 /// Runs the image of a file over an unused heap, for a request that asks that. The marks that the file
-/// has are not trusted.
+/// has are trusted only where proofs stand beside them, and prove them.
 pub fn exec_image<F: Shelf, S: Source, O: Sink, H: Heap>(
     alloc: Global,
     name: &str,
@@ -101,7 +89,7 @@ pub fn exec_image<F: Shelf, S: Source, O: Sink, H: Heap>(
     ensures { (request : Option Request) (err : SinkState) → ExecutesOf request name.now limits → Performs request (outside (F.state files.old) (S.state input.old) (O.state out.old) err (H.store heap.old)) (outside (F.state files.new) (S.state input.new) (O.state out.new) err (H.store heap.new)) result }
 {
     match load_image(alloc, name, files) {
-        Ok(image) => execute(alloc, image, &limits, heap, input, out, steps),
+        Ok(carried) => execute(alloc, carried, &limits, heap, input, out, steps),
         Err(NoImage::Refused(refusal)) => Ok(Done::ImageRefused(refusal)),
         Err(NoImage::Failed(fault)) => Err(fault),
     }

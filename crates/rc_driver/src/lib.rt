@@ -3,11 +3,13 @@
 //!
 //! `run` runs the image of a program by the machine over the heap, and `tasks` the same with the lines that
 //! run its tasks; `compile` stores it, `link` that of the program that several files are together, and
-//! `exec` runs one that was stored. `slow` runs a program node by node, `checks` reports which of its checks
+//! `exec` runs one that was stored. `seal` stores an image with proofs of which of its checks are not
+//! needed, and `exec` looks at these before it leaves a check out. `slow` runs a program node by node, `checks` reports which of its checks
 //! are kept, and `heap` runs a script of heap commands. `soak` makes a large program from a number, compiles
 //! and runs it, and writes a line that sums it up.
 #![tactic(auto)]
 
+mod admit;
 mod check;
 mod compile;
 mod evaluation;
@@ -18,6 +20,7 @@ mod program;
 mod run;
 mod running;
 mod script_file;
+mod seal;
 mod soak;
 mod tasks;
 

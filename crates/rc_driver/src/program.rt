@@ -12,6 +12,7 @@ use crate::execute::exec_image;
 use crate::link::link_files;
 use crate::run::run_file;
 use crate::script_file::run_script;
+use crate::seal::seal_image;
 use crate::soak::soak_number;
 use crate::tasks::run_tasks;
 use rc_answers::{Done, Fault, tell};
@@ -56,6 +57,7 @@ fn perform<F: Shelf, S: Source, O: Sink, H: SetHeap>(
             alloc, file, choices, limits, files, input, out, heap, steps,
         ),
         Some(Request::Link(to, names)) => link_files(alloc, names, to, files),
+        Some(Request::Seal(from, to)) => seal_image(alloc, from, to, files),
         None => Ok(Done::Usage),
     }
 }
@@ -64,19 +66,22 @@ fn perform<F: Shelf, S: Source, O: Sink, H: SetHeap>(
 ///
 /// A listing writes exactly that of the image to `out`. A compilation stores exactly the image of the
 /// text's program, which means what the program means, and so does a linking for the one program that
-/// several files are; an upgrade stores exactly the image's bytes. A run writes exactly the bytes of the
-/// meaning of its program or its image to `out`, takes exactly those of `input` that the meaning asks
-/// for, and answers exactly its end. A program is run through its image, but for the request to go node
-/// by node; an image of a file is run with all marks of its stores taken away. Both run over `heap`,
-/// which is as its constructor made it, under the request's limits, and so does a program of tasks, which
-/// does exactly what its tasks mean under the choices. A script of heap commands is obeyed over it line
-/// by line, writes exactly its answers to `out`, and leaves the store that is behind its last line. A
-/// report on the checks of a program says exactly which may go. A program that is made from a number is
-/// run over the heap too, under the usual limits and without input, and the line that sums it up is
-/// written to `out`. Only a fault of the outside, which its count shows, or want of memory may cut a run
-/// or a report short, and then a front of its acts was done. What is answered is told on `err`. The cells
-/// of `heap` are read by `steps` alone, the one counter of its ledger. All that is promised stands fact
-/// by fact in `Serves` of specs/Headline, over the outside before the call and after it.
+/// several files are; an upgrade stores exactly the image's bytes, and a sealing those of the image with
+/// the greatest proofs of it, and with a mark at exactly the stores whose checks they prove. A run writes
+/// exactly the bytes of the meaning of its program or its image to `out`, takes exactly those of `input`
+/// that the meaning asks for, and answers exactly its end. A program is run through its image, but for
+/// the request to go node by node; an image of a file is run with all marks of its stores taken away,
+/// unless it carries proofs: then it is run as it is where they prove each instruction, and refused
+/// where they don't. Both run over `heap`, which is as its constructor made it, under the request's
+/// limits, and so does a program of tasks, which does exactly what its tasks mean under the choices. A
+/// script of heap commands is obeyed over it line by line, writes exactly its answers to `out`, and
+/// leaves the store that is behind its last line. A report on the checks of a program says exactly which
+/// may go. A program that is made from a number is run over the heap too, under the usual limits and
+/// without input, and the line that sums it up is written to `out`. Only a fault of the outside, which
+/// its count shows, or want of memory may cut a run or a report short, and then a front of its acts was
+/// done. What is answered is told on `err`. The cells of `heap` are read by `steps` alone, the one
+/// counter of its ledger. All that is promised stands fact by fact in `Serves` of specs/Headline, over
+/// the outside before the call and after it.
 ///
 /// # Errors
 ///

@@ -25,7 +25,8 @@ fn report_image<O: Sink>(alloc: Global, image: &Image, out: &mut O) -> Result<Do
     report(out, list(alloc, image))
 }
 
-/// Loads the image of a file and writes its listing, for a request that asks that.
+/// Loads the image of a file and writes its listing, for a request that asks that. Proofs are passed
+/// over.
 pub fn list_image<F: Shelf, O: Sink>(
     alloc: Global,
     name: &str,
@@ -35,7 +36,7 @@ pub fn list_image<F: Shelf, O: Sink>(
     ensures { (request : Option Request) (input : SourceState) (err : SinkState) (heap : KeptStore) → ListsOf request name.now → Performs request (outside (F.state files.old) input (O.state out.old) err heap) (outside (F.state files.new) input (O.state out.new) err heap) result }
 {
     match load_image(alloc, name, files) {
-        Ok(image) => report_image(alloc, &image, out),
+        Ok(carried) => report_image(alloc, &carried.image, out),
         Err(NoImage::Refused(refusal)) => Ok(Done::ImageRefused(refusal)),
         Err(NoImage::Failed(fault)) => Err(fault),
     }

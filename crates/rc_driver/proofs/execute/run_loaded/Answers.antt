@@ -3,7 +3,8 @@ use Rattle.rc_base.specs.declared.ends.RunFault.{RunFault}
 use Rattle.rc_answers.specs.declared.answer.Done.{Done}
 use Rattle.rc_outcomes.specs.Runs.{FlushedBehind}
 use Rattle.rc_outcomes.proofs.Flushing.{flushed_run}
-use Rattle.rc_driver.specs.Executing.{TellsBytes, as_done, comes_of}
+use Rattle.rc_outcomes.specs.Outcome.{comes_of}
+use Rattle.rc_driver.specs.Executing.{TellsBytes, as_done}
 use Rattle.rc_driver.proofs.MachineRuns.{machine_ran}
 use Rattle.rc_driver.proofs.execute.run_loaded.Goals as goal
 

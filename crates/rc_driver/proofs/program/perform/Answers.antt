@@ -5,12 +5,13 @@ use Rattle.rc_requests.specs.Asking.{asks, bytes_of}
 use Rattle.rc_requests.proofs.Asked.{asked_choices, asked_files}
 use Rattle.rc_outcomes.specs.Outside.{outside}
 use Rattle.rc_outcomes.specs.Performing.{Performs}
-use Rattle.rc_requests.specs.Request.{Request, Run, Slow, Compile, Exec, Listing, Upgrade, Script, Checks, Soak, Tasks, Link}
+use Rattle.rc_requests.specs.Request.{Request, Run, Slow, Compile, Exec, Listing, Upgrade, Script, Checks, Soak, Tasks, Link, Seal}
 use Rattle.rc_requests.specs.declared.request.Request.{Request as Asked}
 use Rattle.rc_answers.specs.declared.answer.Done.TheVariants.{Usage}
 use Rattle.rc_driver.proofs.EvaluationRows.{slow_row}
 use Rattle.rc_driver.proofs.ProgramRows.{compile_row, link_row, run_row, tasks_row}
 use Rattle.rc_driver.proofs.Executions.{exec_row}
+use Rattle.rc_driver.proofs.Sealings.{seal_row}
 use Rattle.rc_files.proofs.ImageFiles.{list_row, upgrade_row}
 use Rattle.rc_driver.proofs.ScriptRows.{script_row}
 use Rattle.rc_driver.proofs.InspectionRows.{checks_row}
@@ -83,6 +84,11 @@ pub returns-in-Some-Link : goal.returns-in-Some-Link
 returns-in-Some-Link g c = λ err. subst (λ (request : Option Request). Performs request (outside (g.F.Shelf.state c.args.files.now) (g.S.Source.state c.args.input.now) (g.O.Sink.state c.args.out.now) err (g.H.Heap.store c.args.heap.now)) (outside (g.F.Shelf.state c.link_files.new.files) (g.S.Source.state c.args.input.now) (g.O.Sink.state c.args.out.now) err (g.H.Heap.store c.args.heap.now)) c.link_files.result)
     (ap (λ (r : Asked). Some (asks r)) (sym c.in-Some-Link.field-0-is) ∙ c.in-Some-Link.ensures)
     (c.link_files.ensures (Some (Link c.in-Some-Link.to.now (bytes_of c.in-Some-Link.names.now))) (g.S.Source.state c.args.input.now) (g.O.Sink.state c.args.out.now) err (g.H.Heap.store c.args.heap.now) (link_row c.in-Some-Link.to.now (bytes_of c.in-Some-Link.names.now)))
+
+pub returns-in-Some-Seal : goal.returns-in-Some-Seal
+returns-in-Some-Seal g c = λ err. subst (λ (request : Option Request). Performs request (outside (g.F.Shelf.state c.args.files.now) (g.S.Source.state c.args.input.now) (g.O.Sink.state c.args.out.now) err (g.H.Heap.store c.args.heap.now)) (outside (g.F.Shelf.state c.seal_image.new.files) (g.S.Source.state c.args.input.now) (g.O.Sink.state c.args.out.now) err (g.H.Heap.store c.args.heap.now)) c.seal_image.result)
+    (ap (λ (r : Asked). Some (asks r)) (sym c.in-Some-Seal.field-0-is) ∙ c.in-Some-Seal.ensures)
+    (c.seal_image.ensures (Some (Seal c.in-Some-Seal.from.now c.in-Some-Seal.to.now)) (g.S.Source.state c.args.input.now) (g.O.Sink.state c.args.out.now) err (g.H.Heap.store c.args.heap.now) (seal_row c.in-Some-Seal.from.now c.in-Some-Seal.to.now))
 
 pub returns-in-None : goal.returns-in-None
 returns-in-None g c = λ err. subst (λ (request : Option Request). Performs request (outside (g.F.Shelf.state c.args.files.now) (g.S.Source.state c.args.input.now) (g.O.Sink.state c.args.out.now) err (g.H.Heap.store c.args.heap.now)) (outside (g.F.Shelf.state c.args.files.now) (g.S.Source.state c.args.input.now) (g.O.Sink.state c.args.out.now) err (g.H.Heap.store c.args.heap.now)) (Ok Usage)) c.in-None.ensures (asks_usage (outside (g.F.Shelf.state c.args.files.now) (g.S.Source.state c.args.input.now) (g.O.Sink.state c.args.out.now) err (g.H.Heap.store c.args.heap.now)))

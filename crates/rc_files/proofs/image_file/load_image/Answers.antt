@@ -6,20 +6,20 @@ use Rattle.rc_answers.specs.declared.answer.Fault.TheVariants.{FileFault, Memory
 use Rattle.rc_files.proofs.ImageFiles.{loaded_image, not_loaded}
 use Rattle.rc_files.proofs.image_file.load_image.Goals as goal
 
-pub returns-in-Ok : goal.returns-in-Ok
-returns-in-Ok g c = loaded_image c.args.name.now (g.F.Shelf.state c.args.files.now) (g.F.Shelf.state c.load.new.self) c.in-Ok.piece c.image_in_piece.result c.in-Ok.ensures c.image_in_piece.ensures
+pub returns-in-Ok-clause-loaded : goal.returns-in-Ok-clause-loaded
+returns-in-Ok-clause-loaded g c = loaded_image c.args.name.now (g.F.Shelf.state c.args.files.now) (g.F.Shelf.state c.load.new.self) c.in-Ok.piece c.image_in_piece.result c.in-Ok.ensures c.image_in_piece.ensures.read
 
-pub returns-in-Err-Memory : goal.returns-in-Err-Memory
-returns-in-Err-Memory g c =
+pub returns-in-Err-Memory-clause-loaded : goal.returns-in-Err-Memory-clause-loaded
+returns-in-Err-Memory-clause-loaded g c =
     let load = subst (Loads c.args.name.now 268435456 (g.F.Shelf.state c.args.files.now) (g.F.Shelf.state c.load.new.self)) (c.in-Err-Memory.is ∙ ap Err c.in-Err-Memory.field-0-is) c.load.ensures in
     not_loaded c.args.name.now (g.F.Shelf.state c.args.files.now) (g.F.Shelf.state c.load.new.self) shelf_fault.Memory Memory load (no_memory (load.cause.memory refl))
 
-pub returns-in-Err-Absent : goal.returns-in-Err-Absent
-returns-in-Err-Absent g c =
+pub returns-in-Err-Absent-clause-loaded : goal.returns-in-Err-Absent-clause-loaded
+returns-in-Err-Absent-clause-loaded g c =
     let load = subst (Loads c.args.name.now 268435456 (g.F.Shelf.state c.args.files.now) (g.F.Shelf.state c.load.new.self)) (c.in-Err-Absent.is ∙ ap Err c.in-Err-Absent.field-0-is) c.load.ensures in
     not_loaded c.args.name.now (g.F.Shelf.state c.args.files.now) (g.F.Shelf.state c.load.new.self) shelf_fault.Absent FileFault load (no_file (load.cause.absent refl))
 
-pub returns-in-Err-Failed : goal.returns-in-Err-Failed
-returns-in-Err-Failed g c =
+pub returns-in-Err-Failed-clause-loaded : goal.returns-in-Err-Failed-clause-loaded
+returns-in-Err-Failed-clause-loaded g c =
     let load = subst (Loads c.args.name.now 268435456 (g.F.Shelf.state c.args.files.now) (g.F.Shelf.state c.load.new.self)) (c.in-Err-Failed.is ∙ ap Err c.in-Err-Failed.field-0-is) c.load.ensures in
     not_loaded c.args.name.now (g.F.Shelf.state c.args.files.now) (g.F.Shelf.state c.load.new.self) shelf_fault.Failed FileFault load (no_file (inr (load.cause.failed refl)))

@@ -1,4 +1,4 @@
-use Rattle.std.proofs.Common.{◌≡◌, ◌∙◌, ℕ, List, ◌∷◌, [], ◌++◌, ◌+◌, take, subst, sym}
+use Rattle.std.proofs.Common.{ℕ, List, ◌∷◌, [], ◌++◌, ◌+◌, take, subst, sym}
 use Rattle.std.specs.Prelude.{string_bytes}
 use Rattle.rc_answers.specs.declared.answer.Fault.TheVariants.{Memory}
 use Rattle.rc_outcomes.specs.Loading.{Loaded, LoadedAll, NotLoaded, no_memory}
