@@ -48,7 +48,7 @@ use rc_row_files::compare_files;
 use row::Row;
 use std::process::ExitCode;
 
-const FILES: [&str; 18] = [
+const FILES: [&str; 19] = [
     "words.rows",
     "programs.rows",
     "values.rows",
@@ -67,6 +67,7 @@ const FILES: [&str; 18] = [
     "soak.rows",
     "tasks.rows",
     "link.rows",
+    "sealed.rows",
 ];
 
 fn main(rt: HostRuntime) -> ExitCode {

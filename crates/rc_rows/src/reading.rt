@@ -8,7 +8,7 @@ use std::io;
 
 /// What is told where words ask nothing.
 const USAGE: &[u8] =
-    b"usage: rc run FILE | compile FILE IMAGE | exec IMAGE | checks FILE | list IMAGE | slow FILE | soak N | upgrade IMAGE IMAGE | heap FILE | tasks FILE CHOICES | link IMAGE FILE\n";
+    b"usage: rc run FILE | compile FILE IMAGE | exec IMAGE | checks FILE | list IMAGE | slow FILE | soak N | upgrade IMAGE IMAGE | heap FILE | tasks FILE CHOICES | link IMAGE FILE | seal IMAGE IMAGE\n";
 
 /// The status where words ask nothing.
 const USAGE_STATUS: u8 = 123;

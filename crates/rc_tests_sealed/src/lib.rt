@@ -6,6 +6,8 @@
 #[cfg(test)]
 mod bits;
 #[cfg(test)]
+mod claimed;
+#[cfg(test)]
 mod pins;
 #[cfg(test)]
 mod stops;

@@ -25,6 +25,23 @@ const DANGLING: &[u8] =
 const PINNED: &[u8] =
     b"RCIM\x02\x00\x00\x00\x01\x00\x01\x03\x00\x08\x21\x06\x00\x05\x00\x26\x01\x00\x05\x00\x2e\x00\x00\x28\x01\x08\x01\x00\x01\x00";
 
+/// It makes an object of a region and one of a region below, and stores a `parentptr` to the first in the
+/// second, without a check.
+const UPWARD: &[u8] =
+    b"RCIM\x02\x01\x01\x06\x00\x00\x01\x00\x00\x00\x00\x01\x00\x03\x03\x04\x00\x04\x00\x00\x0e\x21\x06\x00\x05\x00\x24\x00\x06\x01\x05\x00\x22\x24\x00\x06\x02\x05\x02\x05\x01\x20\x00\x01\x00\x00\x28\x01\x0e\x01\x00\x01\x00";
+
+/// It stores one to the second in the first.
+const DOWNWARD: &[u8] =
+    b"RCIM\x02\x01\x01\x06\x00\x00\x01\x00\x00\x00\x00\x01\x00\x03\x03\x04\x00\x04\x00\x00\x0e\x21\x06\x00\x05\x00\x24\x00\x06\x01\x05\x00\x22\x24\x00\x06\x02\x05\x01\x05\x02\x20\x00\x01\x00\x00\x28\x01\x0e\x01\x00\x01\x00";
+
+/// It makes an object of a region, and stores in it a `traditional` pointer to a global, without a check.
+const TO_A_GLOBAL: &[u8] =
+    b"RCIM\x02\x01\x01\x07\x00\x01\x00\x01\x00\x01\x00\x00\x00\x00\x01\x00\x01\x04\x00\x00\x08\x21\x24\x00\x06\x00\x05\x00\x04\x00\x20\x00\x01\x00\x00\x28\x01\x08\x01\x00\x01\x00";
+
+/// It stores one to the object.
+const TO_NO_GLOBAL: &[u8] =
+    b"RCIM\x02\x01\x01\x07\x00\x01\x00\x01\x00\x01\x00\x00\x00\x00\x01\x00\x01\x04\x00\x00\x08\x21\x24\x00\x06\x00\x05\x00\x05\x00\x20\x00\x01\x00\x00\x28\x01\x08\x01\x00\x01\x00";
+
 /// Whether a sound image with these proofs is loaded, or this is told of it.
 fn is_told(alloc: Global, image: Image, proofs: &Proofs, wanted: Option<ProofFault>) -> bool
     requires { ProofsFit image proofs.now }
@@ -39,7 +56,7 @@ fn is_told(alloc: Global, image: Image, proofs: &Proofs, wanted: Option<ProofFau
 }
 
 /// Whether the image that these bytes carry with proofs is loaded, or this is told of it.
-fn tells(alloc: Global, bytes: &[u8], wanted: Option<ProofFault>) -> bool {
+pub(crate) fn tells(alloc: Global, bytes: &[u8], wanted: Option<ProofFault>) -> bool {
     match read_sealed(alloc, bytes) {
         Err(_) => false,
         Ok((image, carried)) => match carried {
@@ -55,4 +72,12 @@ fn proofs_that_claim_nothing_are_verified(rt: HostRuntime) {
     assert!(rt; tells(rt.alloc(), TO_ANOTHER, Some(ProofFault::Facts(0, 8))));
     assert!(rt; tells(rt.alloc(), DANGLING, Some(ProofFault::Pins(0, 3))));
     assert!(rt; tells(rt.alloc(), PINNED, None));
+}
+
+#[test]
+fn annotations_are_told_apart(rt: HostRuntime) {
+    assert!(rt; tells(rt.alloc(), UPWARD, None));
+    assert!(rt; tells(rt.alloc(), DOWNWARD, Some(ProofFault::Facts(0, 11))));
+    assert!(rt; tells(rt.alloc(), TO_A_GLOBAL, None));
+    assert!(rt; tells(rt.alloc(), TO_NO_GLOBAL, Some(ProofFault::Facts(0, 5))));
 }
