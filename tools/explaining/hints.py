@@ -92,6 +92,13 @@ IMAGE_REFUSALS = {
         "an operand names what is not there, pins are wrong, a plain cell is marked, or main has a wrong "
         "shape",
     ),
+    29: ("facts", "the proofs that the image carries do not prove it: seal it anew with rc seal"),
+    30: (
+        "pins",
+        "a region or pointer that is used behind it is not pinned, or one stands below its operands: an image "
+        "of rc compile pins all it has to",
+    ),
+    31: ("wide", "a function has more variables than proofs speak of: without proofs the image runs"),
 }
 
 # What each trap means, and what to do.

@@ -13,7 +13,7 @@ FORMS = [
         r"rc: file (?P<file>\d+): (?:line (?P<line>\d+): )?(?P<what>refused) (?P<number>\d+) (?P<name>[a-z-]+)",
         r"rc: (?:file (?P<file>\d+): line (?P<line>\d+): )?(?P<what>link refused) (?P<number>\d+) (?P<name>[a-z]+)",
         r"rc: image (?P<what>refused) (?P<number>\d+) (?P<name>[a-z]+)(?: at (?P<offset>\d+))?",
-        r"rc: image (?P<what>refused) (?P<number>\d+) (?P<name>[a-z]+) in (?P<function>\d+) at (?P<instruction>\d+)",
+        r"rc: image (?P<what>refused) (?P<number>\d+) (?P<name>[a-z]+) in (?P<function>\d+)(?: at (?P<instruction>\d+))?",
         r"rc: line (?P<line>\d+): (?P<name>stale image)",
         r"rc: (?P<name>spent|file fault|read fault|write fault|no memory)",
         r"(?P<name>usage): rc run FILE .*",

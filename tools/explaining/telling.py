@@ -21,6 +21,7 @@ COMMANDS = {
     "exec": ("image", f"IMAGE {OPTIONS}"),
     "list": ("image", "IMAGE"),
     "upgrade": ("image", "IMAGE IMAGE"),
+    "seal": ("image", "IMAGE IMAGE"),
     "heap": ("script", "FILE [--regions N] [--blocks N]"),
     "soak": ("number", "N"),
     "tasks": ("text", f"FILE CHOICES {OPTIONS}"),
@@ -97,7 +98,9 @@ class Teller:
         if message.offset is not None:
             place = f" at byte {message.offset}"
         elif message.function is not None:
-            place = f" in function {message.function} at instruction {message.instruction}"
+            place = f" in function {message.function}"
+            if message.instruction is not None:
+                place += f" at instruction {message.instruction}"
         return f"{message.what}: {message.name}{place}" if message.what else message.name
 
     def usage(self):
@@ -177,7 +180,7 @@ class Teller:
 
     def of_image_refusal(self, message):
         yield IMAGE_REFUSALS[message.number][1]
-        program = self.program() if message.function is not None else None
+        program = self.program() if message.instruction is not None else None
         if program and message.instruction < len(program.code(message.function)):
             it = program.code(message.function)[message.instruction]
             numbers = it.operands + ([len(it.pins)] + it.pins if it.name in ("DELETE", "CALL") else [])
@@ -198,7 +201,7 @@ class Teller:
         why = next(filter(None, map(why_unreadable, reads)), None)
         if why:
             yield why
-        elif self.words[0] in ("compile", "upgrade", "link"):
+        elif self.words[0] in ("compile", "upgrade", "link", "seal"):
             yield from map(why_not_stored, stores)
 
     def limit(self, option):
