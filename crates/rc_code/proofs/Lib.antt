@@ -1,3 +1,4 @@
 pub mod Rows
 pub mod Kinding
 pub mod OneKind
+pub mod Marks

@@ -74,13 +74,17 @@ on_address line (Number n) w go = trap NullTrap line w
 on_address line Null w go = trap NullTrap line w
 on_address line (Handle r) w go = trap NullTrap line w
 
+-- the cell that a target comes to, whose pointer leads to this element
+abbrev pub spot_at : Address → Target → Spot
+spot_at a t = record { region = a.region; object = a.object; element = unsigned_abs (pos a.index +ℤ t.shift); cell = cell_of t }
+
 abbrev pub on_spot : {A : Type 0} → (line : ℕ) → Target → Held → (Spot → Run Held A) → Run Held A
 on_spot line t w go =
     on_address line t.pointer w (λ a.
     touching (lives w.store a.region) line w
     (tested (is_index (pos a.index +ℤ t.shift) (object_in w.store a.region a.object).count) Bounds line w
     (tested (list_all chosen_in_range t.chosen) Bounds line w
-    (go (record { region = a.region; object = a.object; element = unsigned_abs (pos a.index +ℤ t.shift); cell = cell_of t })))))
+    (go (spot_at a t)))))
 
 abbrev pub value_in : Store → Spot → Value
 value_in s spot = get_or (object_in s spot.region spot.object).values (place_of (object_in s spot.region spot.object) spot) Null

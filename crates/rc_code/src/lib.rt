@@ -17,8 +17,8 @@ pub use instruction::Instruction;
 pub use items::Items;
 pub use kind::{Cell, Storage};
 pub use laws::{
-    numbers_are_those_of_the_table, operands_are_those_of_the_table, tags_are_those_of_cells,
-    tags_are_those_of_locals,
+    marks_are_right_where_checks_pass, numbers_are_those_of_the_table,
+    operands_are_those_of_the_table, tags_are_those_of_cells, tags_are_those_of_locals,
 };
 pub use loaded::Loaded;
 pub use opcode::{Arithmetic, Jump, Opcode, Operand, Simple, Typed};

@@ -59,7 +59,7 @@ pub function_is : (parts : Parts) (g : ℕ) → function_at (reading_of (unmarke
 function_is parts g = at_mapped unmarked_function parts.functions g no_function
 
 pub faithful : (parts : Parts) → Faithful (unmarked parts)
-faithful parts input bytes limits n s w path at is = λ line.
+faithful parts input bytes limits n s w path at is =
     let here : slice_get (map unmarked_instruction (function_at (reading_of parts) s.function).code) s.at ≡ Some (instruction.Store path true) =
     subst (λ (f : Function). slice_get f.code s.at ≡ Some (instruction.Store path true)) (function_is parts s.function) is in
     let found = no_other unmarked_instruction (function_at (reading_of parts) s.function).code s.at (instruction.Store path true) here in

@@ -37,7 +37,7 @@ use Rattle.rc_code.specs.Soundness.{ReadingIsSound}
 use Rattle.rc_code.specs.StoreModel.{stored}
 use Rattle.rc_code.specs.ImageMeaning.{first_number, first_values, first_objects, first_held, image_run, view_left}
 use Rattle.rc_code.specs.ImageMeaning as Image
-use Rattle.rc_worlds.specs.Worlds.{Compared, named_cell, renamed, seen, model, watched, mapped, own}
+use Rattle.rc_worlds.specs.Worlds.{Compared, named_cell, renamed, seen, model, watched, mapped, own, none_marked}
 use Rattle.rc_worlds.specs.Typed.{Shape, shape_of, shape_in, GlobalsAreThere, Good}
 use Rattle.rc_worlds.specs.Facts.{ImageIsSound}
 use Rattle.rc_worlds.proofs.Walks.{unmarked}
@@ -88,7 +88,7 @@ module _ (r : Rlang) (fit : IsRlang r) (numberable : IsNumberable r) (small : Is
 
   -- the image with the source's layouts, beside a store that calls types by their numbers
   abbrev pub image : Compared
-  image = record { code = view_of r; marked = false; name = name; watching = true; apart = false; ranged = false }
+  image = record { code = view_of r; name = name; marks = none_marked; ranged = false }
 
   cell_same : (k : CellKind) → cell_kind (cell_of (type_in r) (path_in r) k) ≡ named_cell name k
   cell_same int_cell = refl

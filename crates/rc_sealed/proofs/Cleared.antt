@@ -16,6 +16,7 @@ use Rattle.rc_code.specs.StoreModel.{Held, store_model, stored}
 use Rattle.rc_code.specs.Steps.{Frame, State, Moved, goes, finished, placed, leaving, step_by, step_of, steps_of, main_state}
 use Rattle.rc_code.specs.ImageMeaning.{image_run, meaning_of_run, left_by_run, first_held}
 use Rattle.rc_code.specs.Faithful.{MarkIsRight}
+use Rattle.rc_code.proofs.Marks.{same_where_right}
 use Rattle.rc_worlds.specs.SmallSteps.{ended}
 use Rattle.rc_worlds.specs.States.{store_steps}
 use Rattle.rc_worlds.proofs.Ended.{steps_mean}
@@ -60,7 +61,7 @@ module _ (parts : Parts) where
     by (instruction.Simple simple.Return) line is =
         ap (λ (f : Function). leaving stored bare f s.frames (result_of f.result s.stack) w) (function_is parts s.function) ∙ same_leaving F s.frames (result_of F.result s.stack) w
     by (instruction.Store path false) line is = refl
-    by (instruction.Store path true) line is = ap (λ m. bind (bind m (λ _. Go (onward 0 (drop (suc (width (path_at code path))) s.stack) s.locals))) (λ x. Go (placed s x))) (right path is line)
+    by (instruction.Store path true) line is = ap (λ m. bind (bind m (λ _. Go (onward 0 (drop (suc (width (path_at code path))) s.stack) s.locals))) (λ x. Go (placed s x))) (same_where_right code path s w (right path is) line)
     by (instruction.Set x) line is = ap (λ (f : Function). bind (effect stored bare f line s.at (instruction.Set x) (calls_within stored bare 0) s.stack s.locals w) (λ x. Go (placed s x))) (function_is parts s.function)
     by (instruction.Constant k n) line is = refl
     by (instruction.Global n) line is = refl

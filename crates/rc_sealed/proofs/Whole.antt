@@ -27,7 +27,8 @@ use Rattle.rc_code.specs.StoreModel.{Held, store_model, stored_in, stored}
 use Rattle.rc_code.specs.Steps.{State, Moved, goes, finished, step_of, steps_of, first_steps, main_state}
 use Rattle.rc_code.specs.ImageMeaning.{image_run, image_meaning, meaning_of_run}
 use Rattle.rc_code.specs.Faithful.{MarkIsRight, Faithful}
-use Rattle.rc_worlds.specs.Worlds.{Compared, watched, trusting, model, own, put_by, mapped}
+use Rattle.rc_code.proofs.Marks.{right_where_same}
+use Rattle.rc_worlds.specs.Worlds.{Compared, watched, trusting, model, own, put_by, mapped, marks_checked}
 use Rattle.rc_worlds.specs.Typed.{Good, Reaches}
 use Rattle.rc_worlds.specs.Meanings.{image_world}
 use Rattle.rc_worlds.specs.SmallSteps.{ended}
@@ -101,7 +102,7 @@ module _ (parts : Parts) (fields : FieldsFit parts) (rules : Sound parts) (proof
     main = function_at code parts.main
 
     good0 : Good im w0
-    good0 = begins_good parts fields input limits true true false (λ e. cc)
+    good0 = begins_good parts fields input limits (marks_checked false) false (λ e. cc)
 
     rooted0 : Rooted (parent w0.heap)
     rooted0 zero e = cc
@@ -159,7 +160,7 @@ module _ (parts : Parts) (fields : FieldsFit parts) (rules : Sound parts) (proof
     as_written : (n : ℕ) → first_steps (trusting (λ ty. ty)) code n (model (λ ty. ty) w0) ≡ store_steps parts input limits n
     as_written n =
         same_first n (store_model.take_turn (model (λ ty. ty) w0))
-        ∙ ap (λ code'. bind (store_model.take_turn (model (λ ty. ty) w0)) (λ _. steps_of stored code' n (goes (main_state code)))) (own_is_written parts true true false)
+        ∙ ap (λ code'. bind (store_model.take_turn (model (λ ty. ty) w0)) (λ _. steps_of stored code' n (goes (main_state code)))) (own_is_written parts (marks_checked false) false)
         ∙ ap (λ w. first_steps stored code n w) (first_is_model code input limits)
 
     -- the store is at each moment what a store sees of the source's world
@@ -185,8 +186,11 @@ module _ (parts : Parts) (fields : FieldsFit parts) (rules : Sound parts) (proof
 
     -- a mark is right wherever a run comes to it
     right_at : (s : State World) (w : World) → StateKeeps parts fields rules proofs all s w → (path : ℕ) → instruction_at (function_at code s.function) s.at ≡ instruction.Store path true → MarkIsRight code path (state_seen im.name s) (model im.name w)
-    right_at s w keeps path is line = sym (at_mark false refl) ∙ at_mark true refl
+    right_at s w keeps path is = right_where_same code path (state_seen im.name s) (model im.name w) line (sym (at_mark false refl) ∙ at_mark true refl)
       where
+        line : ℕ
+        line = 0
+
         f : Function
         f = function_at code s.function
 

@@ -15,11 +15,12 @@ use Rattle.rc_code.specs.declared.image.Path.{Path}
 use Rattle.rc_code.specs.declared.image.Parts.{Parts}
 use Rattle.rc_code.specs.declared.instruction.Instruction.TheVariants as instruction
 use Rattle.rc_code.specs.Faithful.{MarkIsRight, Faithful}
+use Rattle.rc_code.proofs.Marks.{right_where_same}
 use Rattle.rc_code.specs.ImageMeaning.{first_held}
 use Rattle.rc_code.specs.Running.{Reading, reading_of, path_at, function_at, cell_at, storage_of, value_at, kept, target_on}
 use Rattle.rc_code.specs.Steps.{State, Moved, goes, finished, steps_of, first_steps, main_state}
 use Rattle.rc_code.specs.StoreModel.{Held, store_model, stored, stored_in}
-use Rattle.rc_worlds.specs.Worlds.{Compared, model, watched, trusting, own}
+use Rattle.rc_worlds.specs.Worlds.{Compared, model, watched, trusting, own, tells_apart}
 use Rattle.rc_worlds.specs.Facts.{ImageIsSound}
 use Rattle.rc_worlds.specs.States.{state_seen, run_seen, MovedSuits}
 use Rattle.rc_worlds.proofs.Does.{Excused, IfGoes}
@@ -48,16 +49,16 @@ module _ (r : Rlang) (fit : IsRlang r) (small : IsSmall (image_of r)) (marks : (
     image = Unchecked.unchecked r fit small marks only (Unchecked.apart r fit small marks only input limits well)
 
     sound : ImageIsSound image
-    sound = view_is_sound image (λ ty. refl) (Unchecked.own_sound r fit small marks only image.apart)
+    sound = view_is_sound image (λ ty. refl) (Unchecked.own_sound r fit small marks only (tells_apart image.marks))
 
     abbrev first : World
     first = Unchecked.first r fit small marks only input limits
 
     own_written : (own image).code ≡ reading_of parts
-    own_written = Unchecked.own_written r fit small marks only image.apart
+    own_written = Unchecked.own_written r fit small marks only (tells_apart image.marks)
 
     none : (k : ℕ) → Excused image (first_steps (watched image) image.code k first) → ⊥
-    none = none_fails image sound (keeps_turns image.code image.name image.apart) first (Unchecked.none_failed r fit small marks only input limits well)
+    none = none_fails image sound (keeps_turns image.code image.name (tells_apart image.marks)) first (Unchecked.none_failed r fit small marks only input limits well)
 
     module _ (n : ℕ) where
       same_first : (m : Run Held (Unit {0})) → bind m (λ _. steps_of (trusting image.name) image.code n (goes (main_state image.code))) ≡ bind m (λ _. steps_of stored (own image).code n (goes (main_state (own image).code)))
@@ -71,7 +72,7 @@ module _ (r : Rlang) (fit : IsRlang r) (small : IsSmall (image_of r)) (marks : (
           ∙ ap (λ w. first_steps stored (reading_of parts) n w) (Joined.first_is_model r fit (Unchecked.numberable r fit small marks only) small input limits)
 
       follows : Follows image sound (first_steps (watched image) image.code n first) (first_steps (trusting image.name) image.code n (model image.name first))
-      follows = first_follow image sound n first (Unchecked.begins r fit small marks only image.apart input limits) none
+      follows = first_follow image sound n first (Unchecked.begins r fit small marks only (tells_apart image.marks) input limits) none
 
       module _ (p : ℕ) where
         abbrev IsRightAt : State Held → Held → Type 0
@@ -87,9 +88,10 @@ module _ (r : Rlang) (fit : IsRlang r) (small : IsSmall (image_of r)) (marks : (
         by (Go (goes s0) w0) is suit s w e =
             let es : state_seen image.name s0 ≡ s = cc in
             let ew : model image.name w0 ≡ w = cc in
-            subst (λ x. IsRightAt x w) es (subst (λ y. IsRightAt (state_seen image.name s0) y) ew (λ there line.
-            subst (λ storage. stored_in false line (target_on path (drop 1 s0.stack)) (kept storage (value_at s0.stack 0)) (model image.name w0) ≡ stored_in true line (target_on path (drop 1 s0.stack)) (kept storage (value_at s0.stack 0)) (model image.name w0)) same_storage
-            (right image.code image.name image.apart sound s0 w0 suit p there line (unfailing_here image.code image.name image.apart sound s0 w0 suit p there n first is none line))))
+            subst (λ x. IsRightAt x w) es (subst (λ y. IsRightAt (state_seen image.name s0) y) ew (λ there.
+            right_where_same (reading_of parts) p (state_seen image.name s0) (model image.name w0) 0
+            (subst (λ storage. stored_in false 0 (target_on path (drop 1 s0.stack)) (kept storage (value_at s0.stack 0)) (model image.name w0) ≡ stored_in true 0 (target_on path (drop 1 s0.stack)) (kept storage (value_at s0.stack 0)) (model image.name w0)) same_storage
+            (right image.code image.name (tells_apart image.marks) sound s0 w0 suit p there 0 (unfailing_here image.code image.name (tells_apart image.marks) sound s0 w0 suit p there n first is none 0)))))
         by (Go (finished v) w0) is suit s w e = absurd cc
         by (Stopped t w0) is suit s w e = absurd cc
 

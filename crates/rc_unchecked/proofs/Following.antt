@@ -6,7 +6,7 @@ use Rattle.rc_core.specs.Source.{World, source}
 use Rattle.rc_code.specs.Running.{run_main}
 use Rattle.rc_code.specs.StoreModel.{Held, store_model}
 use Rattle.rc_code.specs.Steps.{Moved, goes, finished, step_of, steps_of, first_steps, main_state}
-use Rattle.rc_worlds.specs.Worlds.{Compared, watched, trusting, model}
+use Rattle.rc_worlds.specs.Worlds.{Compared, watched, trusting, model, may_mark}
 use Rattle.rc_worlds.specs.Typed.{Good, Reaches}
 use Rattle.rc_worlds.specs.Facts.{ImageIsSound}
 use Rattle.rc_worlds.specs.SmallSteps.{ended}
@@ -79,8 +79,8 @@ module _ (image : Compared) (sound : ImageIsSound image) where
   pub none_fails : KeepsTurns (watched image) → (w : World) → (Excused image (run_main (watched image) image.code w) → ⊥) → (k : ℕ) → Excused image (first_steps (watched image) image.code k w) → ⊥
   none_fails keeps w whole k = by (first_steps (watched image) image.code k w) refl
     where
-      comes : ComesTo (watched image) image.code keeps image.marked sound.rules w
-      comes = main_comes (watched image) image.code keeps image.marked sound.rules sound.main w
+      comes : ComesTo (watched image) image.code keeps (may_mark image.marks) sound.rules w
+      comes = main_comes (watched image) image.code keeps (may_mark image.marks) sound.rules sound.main w
 
       by : (m : Run World (Moved World)) → first_steps (watched image) image.code k w ≡ m → Excused image m → ⊥
       by (Go x w1) is e = e

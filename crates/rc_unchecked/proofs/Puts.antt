@@ -13,7 +13,7 @@ use Rattle.rc_core.specs.Source.{World, with_heap, is_index, chosen_in_range, ce
 use Rattle.rc_emission.proofs.SourceTurns.{source_turns}
 use Rattle.rc_numbering.proofs.SourceWaits.{waiting, source_waits}
 use Rattle.rc_code.specs.Running.{Reading}
-use Rattle.rc_worlds.specs.Worlds.{watched, watched_put, passing}
+use Rattle.rc_worlds.specs.Worlds.{watched, watched_put, passing, marks_checked}
 use Rattle.rc_worlds.proofs.Turns.{KeepsTurns}
 use Rattle.rc_labels.specs.PutLaws.{MakesNoTurns, KeepsWaiting}
 
@@ -46,7 +46,7 @@ keeps_waiting apart false line t v w = source_waits.store line t v w
 keeps_waiting apart true line t v w = record { holds = puts apart (λ _ w1. w1.waiting ≡ w.waiting) line w t v (λ heap. refl) }
 
 -- where the run over the source's world looks and checks
-pub keeps_turns : (code : Reading) (name : Ty → Ty) (apart : Bool) → KeepsTurns (watched (record { code = code; marked = true; name = name; watching = true; apart = apart; ranged = false }))
+pub keeps_turns : (code : Reading) (name : Ty → Ty) (apart : Bool) → KeepsTurns (watched (record { code = code; name = name; marks = marks_checked apart; ranged = false }))
 keeps_turns code name apart = record {
   take_turn = λ w. record { goes = source_turns.take_turn w w.turns (omega arith) };
   get_byte = λ w. record { goes = (source_turns.get_byte w w.turns (omega arith)).holds };

@@ -20,7 +20,7 @@ use Rattle.rc_code.specs.Running.{Reading, path_at, function_at, line_at, cell_a
 use Rattle.rc_code.specs.Soundness.{Kind, kind_of, place_kinds, instruction_at, IsFine}
 use Rattle.rc_code.specs.Steps.{State, Moved, goes, placed, step_by, step_of, steps_of, first_steps}
 use Rattle.rc_code.specs.StoreModel.{stored_in}
-use Rattle.rc_worlds.specs.Worlds.{Compared, failed, passing, watched, watched_put, model, mapped}
+use Rattle.rc_worlds.specs.Worlds.{Compared, failed, passing, watched, watched_put, model, mapped, marks_checked}
 use Rattle.rc_worlds.specs.Typed.{Keeps}
 use Rattle.rc_worlds.specs.Facts.{ImageIsSound}
 use Rattle.rc_worlds.specs.States.{StateSuits}
@@ -33,7 +33,7 @@ use Rattle.rc_unchecked.proofs.Following.{excused_behind}
 
 module _ (code : Reading) (name : Ty → Ty) (apart : Bool) where
   abbrev image : Compared
-  image = record { code = code; marked = true; name = name; watching = true; apart = apart; ranged = false }
+  image = record { code = code; name = name; marks = marks_checked apart; ranged = false }
 
   -- ---- a store whose check doesn't fail
 

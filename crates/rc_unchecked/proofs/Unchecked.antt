@@ -27,7 +27,7 @@ use Rattle.rc_code.specs.Soundness.{ReadingIsSound}
 use Rattle.rc_code.specs.StoreModel.{stored}
 use Rattle.rc_code.specs.ImageMeaning.{first_held, image_run}
 use Rattle.rc_code.specs.ImageMeaning as Image
-use Rattle.rc_worlds.specs.Worlds.{Compared, model, watched, watched_put, mapped, own}
+use Rattle.rc_worlds.specs.Worlds.{Compared, model, watched, watched_put, mapped, own, marks_checked}
 use Rattle.rc_worlds.specs.Typed.{Good}
 use Rattle.rc_worlds.specs.Facts.{ImageIsSound}
 use Rattle.rc_worlds.proofs.Does.{Excused}
@@ -69,7 +69,7 @@ module _ (r : Rlang) (fit : IsRlang r) (small : IsSmall (image_of r)) (marks : (
 
   -- the image with its marks, and with the source's layouts, beside a store that calls types by their numbers
   abbrev pub unchecked : (apart : Bool) → Compared
-  unchecked apart = record (Joined.image r fit numberable small) { code = record (view_of r) { parts = parts }; marked = true; apart = apart }
+  unchecked apart = record (Joined.image r fit numberable small) { code = record (view_of r) { parts = parts }; marks = marks_checked apart }
 
   pub own_written : (apart : Bool) → (own (unchecked apart)).code ≡ reading_of parts
   own_written apart = ap (λ (code : Reading). record code { parts = parts }) (Joined.own_is_written r fit numberable small)

@@ -27,10 +27,10 @@ use Rattle.rc_code.proofs.OneKind.{is_tested, span_inside}
 use Rattle.rc_code.specs.Running.{pointee, Reading, reading_of, layout_of, cell_kind, layout_at, path_at, function_at, cell_at, no_path, no_function, storage_of, chosen_values}
 use Rattle.rc_code.specs.Soundness.{ReadingIsSound}
 use Rattle.rc_code.specs.ImageMeaning.{first_values, global_object, first_objects, first_held}
-use Rattle.rc_worlds.specs.Worlds.{Compared, named_cell, renamed, model}
+use Rattle.rc_worlds.specs.Worlds.{Compared, named_cell, renamed, model, Marks, may_mark, looks}
 use Rattle.rc_worlds.specs.Typed.{Shape, shape_in, Stored, HeapIsTyped, IsSoundBy, Good}
 use Rattle.rc_worlds.specs.Facts.{PathIsSound, ImageIsSound}
-use Rattle.rc_worlds.specs.Meanings.{image_world, AreBytes, GlobalsHaveBytes}
+use Rattle.rc_worlds.specs.Meanings.{image_world, AreBytes, GlobalsHaveBytes, as_marked}
 use Rattle.rc_worlds.proofs.Typed.{blank_is_typed}
 use Rattle.rc_worlds.specs.Worlds.{own}
 use Rattle.rc_worlds.proofs.Places.{inside_span, is_reached_there, alike_there}
@@ -104,7 +104,7 @@ module _ (parts : Parts) (fields : FieldsFit parts) where
     noted = λ vs long e. ap note_of (written_same p fits vs long e);
   }
 
-  pub image_is_sound : (image : Compared) → image.code ≡ reading_of parts → ReadingIsSound image.marked image.code → ImageIsSound image
+  pub image_is_sound : (image : Compared) → image.code ≡ reading_of parts → ReadingIsSound (may_mark image.marks) image.code → ImageIsSound image
   image_is_sound image is rules = record {
     rules = rules;
     paths = subst (λ (code : Reading). (p : ℕ) → p < length code.parts.paths → PathIsSound code (path_at code p)) (sym is) (λ p there. path_is_sound (path_at (reading_of parts) p) (every_at (PathFits parts.types) parts.paths p no_path fields.paths there));
@@ -190,15 +190,15 @@ module _ (parts : Parts) (fields : FieldsFit parts) (input : List ℕ) (limits :
     );
   }
 
-  by_watching : (b : Bool) → IsSoundBy b heap
-  by_watching true = heap_is_sound
-  by_watching false = record { root = refl; parents = parent_is_live heap heap_is_sound }
+  by_looks : (b : Bool) → IsSoundBy b heap
+  by_looks true = heap_is_sound
+  by_looks false = record { root = refl; parents = parent_is_live heap heap_is_sound }
 
-  pub begins_good : (marked watching ranged : Bool) → (ranged ≡ true → GlobalsHaveBytes parts × Every IsByte input)
-      → Good (record { code = reading_of parts; marked = marked; name = λ ty. ty; watching = watching; apart = false; ranged = ranged }) (image_world (reading_of parts) input limits)
-  begins_good marked watching ranged bytes = record {
-    sound = by_watching watching;
-    typed = heap_is_typed (record { code = reading_of parts; marked = marked; name = λ ty. ty; watching = watching; apart = false; ranged = ranged }) refl (λ e. (bytes e).0);
+  pub begins_good : (marks : Marks) (ranged : Bool) → (ranged ≡ true → GlobalsHaveBytes parts × Every IsByte input)
+      → Good (as_marked marks ranged parts) (image_world (reading_of parts) input limits)
+  begins_good marks ranged bytes = record {
+    sound = by_looks (looks marks);
+    typed = heap_is_typed (as_marked marks ranged parts) refl (λ e. (bytes e).0);
     globals = λ g global e. globals_there (reading_of parts) parts.globals g global e;
     waiting = tt;
     input = λ e. (bytes e).1;
@@ -233,5 +233,5 @@ first_is_model code input limits = ap (λ os. record {
   store = record { regions = Some (record { parent = 0; objects = os }) ∷ []; pins = []; spare = 0; region_limit = limits.regions; block_limit = limits.blocks };
 }) (objects_same (first_objects code))
 
-pub own_is_written : (parts : Parts) (marked watching ranged : Bool) → (own (record { code = reading_of parts; marked = marked; name = λ ty. ty; watching = watching; apart = false; ranged = ranged })).code ≡ reading_of parts
-own_is_written parts marked watching ranged = ap (λ ls. record { parts = parts; layouts = ls; numbered = pointee }) (layouts_same (map layout_of parts.types))
+pub own_is_written : (parts : Parts) (marks : Marks) (ranged : Bool) → (own (as_marked marks ranged parts)).code ≡ reading_of parts
+own_is_written parts marks ranged = ap (λ ls. record { parts = parts; layouts = ls; numbered = pointee }) (layouts_same (map layout_of parts.types))

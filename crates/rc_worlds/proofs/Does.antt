@@ -8,14 +8,14 @@ use Rattle.rc_core.specs.Runs.{Run, Go, Stopped, bind, branching, trap, tested, 
 use Rattle.rc_core.specs.Source.{World, Spot, at_region, at_address, at_spot, is_index, chosen_in_range, cell_of}
 use Rattle.std.specs.Prelude.{◌+ℤ◌, pos, unsigned_abs, get_or}
 use Rattle.rc_code.specs.StoreModel.{Held, lives, on_region, on_address, on_spot}
-use Rattle.rc_worlds.specs.Worlds.{Compared, failed, model, mapped}
+use Rattle.rc_worlds.specs.Worlds.{Compared, failed, model, mapped, may_mark, looks, tells_apart}
 use Rattle.rc_worlds.specs.Typed.{Good, Grows, AsFresh, Reaches}
 use Rattle.rc_worlds.proofs.Looks.{lives_same, in_view, counts_renamed}
 
 -- a check with a mark may have failed where the source's world watches them: nothing is said of the store
 abbrev pub Excused : Compared → {A : Type 0} → Run World A → Type 0
 Excused image (Go x w) = ⊥
-Excused image (Stopped stop w) = (image.marked ≡ true) × (image.watching ≡ true) × ((line : ℕ) × (stop ≡ failed image.apart line))
+Excused image (Stopped stop w) = (may_mark image.marks ≡ true) × (looks image.marks ≡ true) × ((line : ℕ) × (stop ≡ failed (tells_apart image.marks) line))
 
 abbrev pub Same : Compared → {A : Type 0} → Run World A → Run Held A → Type 0
 Same image m m' = Excused image m ⊎ (m' ≡ mapped image m)

@@ -9,7 +9,7 @@ use Rattle.rc_core.specs.Meaning.{first_world}
 use Rattle.rc_safety.proofs.Lists.{every_append, every_map}
 use Rattle.rc_safety.proofs.Heaps.{parent_is_live}
 use Rattle.rc_safety.proofs.First.{first_is_sound}
-use Rattle.rc_worlds.specs.Worlds.{Compared}
+use Rattle.rc_worlds.specs.Worlds.{Compared, looks}
 use Rattle.rc_worlds.specs.Typed.{ObjectIsTyped, HeapIsTyped, GlobalsAreThere, IsSoundBy, Good, Stored}
 use Rattle.rc_worlds.proofs.Typed.{blank_is_typed}
 
@@ -53,7 +53,7 @@ module _ (image : Compared) (unranged : image.ranged ≡ false) where
   }
 
   pub first_is_good : (p : Program) (input : List ℕ) (limits : Limits) → GlobalsAreThere image (first_heap p) → Good image (first_world p input limits)
-  first_is_good p input limits globals = record { sound = by image.watching; typed = first_is_typed p; globals = globals; waiting = tt; input = λ e. cc }
+  first_is_good p input limits globals = record { sound = by (looks image.marks); typed = first_is_typed p; globals = globals; waiting = tt; input = λ e. cc }
     where
       by : (b : _) → IsSoundBy b (first_heap p)
       by true = first_is_sound p

@@ -12,8 +12,8 @@ use Rattle.rc_code.specs.Soundness.{ReadingIsSound, Sound, SoundUnmarked}
 use Rattle.rc_code.specs.StoreModel.{stored}
 use Rattle.rc_code.specs.ImageMeaning.{first_held, image_run, view_left}
 use Rattle.rc_code.specs.ImageMeaning as Image
-use Rattle.rc_worlds.specs.Worlds.{mapped, Compared, renamed, seen, model}
-use Rattle.rc_worlds.specs.Meanings.{image_world, looking, counting, world_run, world_meaning, AreTheSame, IsNotStale}
+use Rattle.rc_worlds.specs.Worlds.{mapped, Compared, renamed, seen, model, Marks, may_mark, none_marked, marks_checked, marks_trusted}
+use Rattle.rc_worlds.specs.Meanings.{image_world, looking, counting, world_run, world_meaning, AreTheSame, IsNotStale, as_marked}
 use Rattle.rc_worlds.proofs.Does.{Excused}
 use Rattle.rc_worlds.proofs.Walks.{exact, unmarked, trusted}
 use Rattle.rc_worlds.proofs.Layouts.{same_run}
@@ -31,16 +31,16 @@ regions_left (g ∷ heap) = ap (λ v. v ∷ map view_left (map (seen (λ ty. ty)
     one true = ap (λ os. Some (record { parent = g.parent; objects = os })) (objects_left g.objects)
     one false = refl
 
-module _ (parts : Parts) (fields : FieldsFit parts) (marked watching : Bool) (rules : ReadingIsSound marked (reading_of parts)) (input : List ℕ) (limits : Limits) where
+module _ (parts : Parts) (fields : FieldsFit parts) (marks : Marks) (rules : ReadingIsSound (may_mark marks) (reading_of parts)) (input : List ℕ) (limits : Limits) where
   abbrev image : Compared
-  image = record { code = reading_of parts; marked = marked; name = λ ty. ty; watching = watching; apart = false; ranged = false }
+  image = as_marked marks false parts
 
   runs : (Excused image (world_run image input limits) → ⊥) → image_run parts input limits ≡ mapped image (world_run image input limits)
   runs none =
       ap (λ w. run_main stored (reading_of parts) w) (sym (first_is_model (reading_of parts) input limits))
-      ∙ ap (λ code. run_main stored code (model (λ ty. ty) (image_world (reading_of parts) input limits))) (sym (own_is_written parts marked watching false))
+      ∙ ap (λ code. run_main stored code (model (λ ty. ty) (image_world (reading_of parts) input limits))) (sym (own_is_written parts marks false))
       ∙ sym (same_run image (λ ty. refl) (model (λ ty. ty) (image_world (reading_of parts) input limits)))
-      ∙ exact image (image_is_sound parts fields image refl rules) (image_world (reading_of parts) input limits) (begins_good parts fields input limits marked watching false (λ e. cc)) none
+      ∙ exact image (image_is_sound parts fields image refl rules) (image_world (reading_of parts) input limits) (begins_good parts fields input limits marks false (λ e. cc)) none
 
   same_meaning : (m : Run World Value) → Image.meaning_of_run input (mapped image m) ≡ meaning_of_run input m
   same_meaning (Go v w) = refl
@@ -56,15 +56,15 @@ module _ (parts : Parts) (fields : FieldsFit parts) (marked watching : Bool) (ru
     left = ap Image.left_by_run (runs none) ∙ same_left (world_run image input limits);
   }
 
-  not_excused : (m : Run World Value) → IsNotStale (meaning_of_run input m) → Excused image m → ⊥
-  not_excused (Go v w) never e = e
-  not_excused (Stopped stop w) never e = never e.2.0 e.2.1
-
 pub unmarked_same : (parts : Parts) → FieldsFit parts → SoundUnmarked parts → (input : List ℕ) (limits : Limits) → AreTheSame parts (looking false parts) input limits
-unmarked_same parts fields rules input limits = same parts fields false true rules input limits (unmarked (looking false parts) (image_is_sound parts fields (looking false parts) refl rules) refl (world_run (looking false parts) input limits))
+unmarked_same parts fields rules input limits = same parts fields none_marked rules input limits (unmarked (looking false parts) (image_is_sound parts fields (looking false parts) refl rules) refl (world_run (looking false parts) input limits))
+
+not_excused : (parts : Parts) (input : List ℕ) (m : Run World Value) → IsNotStale (meaning_of_run input m) → Excused (looking true parts) m → ⊥
+not_excused parts input (Go v w) never e = e
+not_excused parts input (Stopped stop w) never e = never e.2.0 e.2.1
 
 pub marked_same : (parts : Parts) → FieldsFit parts → Sound parts → (input : List ℕ) (limits : Limits) → IsNotStale (world_meaning (looking true parts) input limits) → AreTheSame parts (looking true parts) input limits
-marked_same parts fields rules input limits never = same parts fields true true rules input limits (not_excused parts fields true true rules input limits (world_run (looking true parts) input limits) never)
+marked_same parts fields rules input limits never = same parts fields (marks_checked false) rules input limits (not_excused parts input (world_run (looking true parts) input limits) never)
 
 pub trusted_same : (parts : Parts) → FieldsFit parts → Sound parts → (input : List ℕ) (limits : Limits) → AreTheSame parts (counting false parts) input limits
-trusted_same parts fields rules input limits = same parts fields true false rules input limits (trusted (counting false parts) (image_is_sound parts fields (counting false parts) refl rules) refl (world_run (counting false parts) input limits))
+trusted_same parts fields rules input limits = same parts fields marks_trusted rules input limits (trusted (counting false parts) (image_is_sound parts fields (counting false parts) refl rules) refl (world_run (counting false parts) input limits))

@@ -35,7 +35,7 @@ use Rattle.rc_code.specs.Running.{Operation, two, one, operation, outcome, opera
 use Rattle.rc_code.specs.StoreModel.{Held}
 use Rattle.rc_code.specs.Soundness.{no_global, Kind, numbers, handles, pointers, kind_of, place_kinds, local_in, parameter_kinds, result_kinds, takes, gives, count_off, after, instruction_at, kinds_before, ends, IsFine}
 use Rattle.rc_code.proofs.Kinding.{arithmetic_gives, arithmetic_takes, constant_gives, constant_takes, operation_takes, right_kind, result_sign}
-use Rattle.rc_worlds.specs.Worlds.{Compared, watched, trusting, model, naming}
+use Rattle.rc_worlds.specs.Worlds.{Compared, watched, trusting, model, naming, may_mark, looks}
 use Rattle.rc_worlds.specs.Typed.{HasKind, InRange, Keeps, Good, Reaches}
 use Rattle.rc_worlds.specs.Facts.{ImageIsSound}
 use Rattle.rc_worlds.proofs.Looks.{enter_law}
@@ -126,7 +126,7 @@ module _ (image : Compared) where
           → Does image w (NextSuits f at) (effect (watched image) image.code f line at i calls st env w) (effect (trusting image.name) image.code f line at i calls' st env (model image.name w))
 
     abbrev pub Acts : Instruction → Type 0
-    Acts i = instruction_at f at ≡ i → IsFine image.marked image.code f at i → (ends i ≡ false → suc at < length f.code) → Steps i
+    Acts i = instruction_at f at ≡ i → IsFine (may_mark image.marks) image.code f at i → (ends i ≡ false → suc at < length f.code) → Steps i
 
     abbrev as_kinds : (w : World) (kinds : List Kind) (st : List Value) → kinds_before image.code f at ≡ kinds → AreKinds image w.heap (kinds_before image.code f at) st → AreKinds image w.heap kinds st
     as_kinds w kinds st e all = subst (λ kinds. AreKinds image w.heap kinds st) e all
@@ -279,7 +279,7 @@ module _ (image : Compared) where
         on [] env w good all locals = absurd all
         on (v ∷ st) env w good all locals =
             does_then image w (λ _ w1. Unit {0}) (NextSuits f at) _ _ _ _
-            (put_does image image.watching refl proved (λ e. (fine.names.1 e).0) line (target_on path st) (kept (storage_of image.code (cell_at image.code path)) v) w good (λ a spot here.
+            (put_does image (looks image.marks) refl proved (λ e. (fine.names.1 e).0) line (target_on path st) (kept (storage_of image.code (cell_at image.code path)) v) w good (λ a spot here.
             subst (λ s. Keeps image w.heap s (kept (storage_of image.code (cell_at image.code path)) v)) (sym (place_reached image w path b.0 st (sound.paths p fine.names.0) all.1 a spot here).kind)
             (kept_suits image w.heap (storage_of image.code (cell_at image.code path)) v all.0)))
             (λ _ w1 a _. falling (instruction.Store p proved) b.0 is (more refl) refl refl b.1 (drop (width path) st) env w1 a.good

@@ -13,7 +13,7 @@ use Rattle.rc_code.specs.declared.instruction.Instruction.{Instruction}
 use Rattle.rc_code.specs.Running.{line_at, function_at, Next, onward, backward, done, Onward, first_locals, effect, resume, walk, rounds, calls_within, run_main}
 use Rattle.rc_code.specs.StoreModel.{Held}
 use Rattle.rc_code.specs.Soundness.{kind_of, parameter_kinds, kinds_before, ends, FunctionIsSound}
-use Rattle.rc_worlds.specs.Worlds.{mapped, Compared, watched, trusting, model}
+use Rattle.rc_worlds.specs.Worlds.{mapped, Compared, watched, trusting, model, may_mark, looks}
 use Rattle.rc_worlds.specs.Typed.{Good}
 use Rattle.rc_worlds.specs.Facts.{ImageIsSound}
 use Rattle.rc_worlds.proofs.Does.{Excused, Same, Does, reaches_itself, does_go, does_then}
@@ -23,7 +23,7 @@ use Rattle.rc_worlds.proofs.Steps.{ResultSuits, NextSuits, Agrees, CallsAgree, a
 
 module _ (image : Compared) (sound : ImageIsSound image) where
   -- an instruction that isn't one of the last kinds has one behind it
-  pub one_more : (f : Function) → FunctionIsSound image.marked image.code f → (n : ℕ) (i : Instruction) → slice_get f.code n ≡ Some i → ends i ≡ false → suc n < length f.code
+  pub one_more : (f : Function) → FunctionIsSound (may_mark image.marks) image.code f → (n : ℕ) (i : Instruction) → slice_get f.code n ≡ Some i → ends i ≡ false → suc n < length f.code
   one_more f fine n i e goes = by (which (suc n) (length f.code) (slice_get_within f.code n i e))
     where
       which : (a b : ℕ) → a ≤ b → (a ≡ b) ⊎ (a < b)
@@ -46,7 +46,7 @@ module _ (image : Compared) (sound : ImageIsSound image) where
   resumed f at next again next' again' ahead back (backward to st env) w good suits = (back to suits.0).agrees st env w good suits.1 suits.2
   resumed f at next again next' again' ahead back (done v) w good suits = does_go image w w (ResultSuits image f.result) v (reaches_itself image w good) suits
 
-  walk_agrees : (f : Function) → FunctionIsSound image.marked image.code f → (calls : Calls World) (calls' : Calls Held) → CallsAgree image calls calls' → (again : Onward World) (again' : Onward Held) → ((n : ℕ) → n < length f.code → Agrees image f (again n) (again' n) n)
+  walk_agrees : (f : Function) → FunctionIsSound (may_mark image.marks) image.code f → (calls : Calls World) (calls' : Calls Held) → CallsAgree image calls calls' → (again : Onward World) (again' : Onward Held) → ((n : ℕ) → n < length f.code → Agrees image f (again n) (again' n) n)
       → (rest : List Instruction) (at n : ℕ) → ((k : ℕ) → slice_get f.code (at + k) ≡ slice_get rest k) → at + n < length f.code
       → Agrees image f (walk (watched image) image.code f rest at calls again n) (walk (trusting image.name) image.code f rest at calls' again' n) (at + n)
   walk_agrees f fine calls calls' called again again' back [] at n stands inside = absurd (past f.code (at + n) (stands n ∙ nothing n) inside)
@@ -75,7 +75,7 @@ module _ (image : Compared) (sound : ImageIsSound image) where
             resumed f at (walk (watched image) image.code f rest (suc at) calls again) again (walk (trusting image.name) image.code f rest (suc at) calls' again') again' onward_agrees back x w1 a.good suits);
       })
 
-  rounds_agree : (f : Function) → FunctionIsSound image.marked image.code f → (calls : Calls World) (calls' : Calls Held) → CallsAgree image calls calls' → (fuel n : ℕ) → n < length f.code → Agrees image f (rounds (watched image) image.code fuel f calls n) (rounds (trusting image.name) image.code fuel f calls' n) n
+  rounds_agree : (f : Function) → FunctionIsSound (may_mark image.marks) image.code f → (calls : Calls World) (calls' : Calls Held) → CallsAgree image calls calls' → (fuel n : ℕ) → n < length f.code → Agrees image f (rounds (watched image) image.code fuel f calls n) (rounds (trusting image.name) image.code fuel f calls' n) n
   rounds_agree f fine calls calls' called zero n inside = record { agrees = λ st env w good all locals. record { same = inr refl; goes = tt } }
   rounds_agree f fine calls calls' called (suc fuel) n inside =
       let e : 0 + n ≡ n = omega arith in
@@ -111,12 +111,12 @@ module _ (image : Compared) (sound : ImageIsSound image) where
       by (inl e) = absurd (none e)
       by (inr e) = e
 
-  pub unmarked : image.marked ≡ false → {A : Type 0} → (m : Run World A) → Excused image m → ⊥
+  pub unmarked : may_mark image.marks ≡ false → {A : Type 0} → (m : Run World A) → Excused image m → ⊥
   unmarked none (Go x w) e = e
   unmarked none (Stopped stop w) e = let marked = e.0 in cc
 
   -- and where it trusts them, always
-  pub trusted : image.watching ≡ false → {A : Type 0} → (m : Run World A) → Excused image m → ⊥
+  pub trusted : looks image.marks ≡ false → {A : Type 0} → (m : Run World A) → Excused image m → ⊥
   trusted none (Go x w) e = e
   trusted none (Stopped stop w) e = let watching = e.1 in cc
 

@@ -15,7 +15,7 @@ use Rattle.rc_code.specs.Running.{layout_at, path_at, function_at, pointee, stor
 use Rattle.rc_code.specs.StoreModel.{stored}
 use Rattle.rc_code.proofs.Kinding.{arithmetic_gives, arithmetic_takes, constant_gives, constant_takes}
 use Rattle.rc_code.specs.Soundness.{Kind, kind_of, place_kinds, takes, gives, count_off, instruction_at, kinds_before, FunctionIsSound, Names, Operands, Targets, Empty}
-use Rattle.rc_worlds.specs.Worlds.{mapped, own, Compared, watched, model, named_cell}
+use Rattle.rc_worlds.specs.Worlds.{mapped, own, Compared, watched, model, named_cell, may_mark}
 use Rattle.rc_worlds.specs.Typed.{Good}
 use Rattle.rc_worlds.specs.Facts.{PathIsSound, ImageIsSound}
 use Rattle.rc_worlds.proofs.Looks.{note_renamed}
@@ -144,7 +144,7 @@ module _ (image : Compared) (same_number : (ty : Ty) → pointee (image.name ty)
   note_same : (t cell : ℕ) → note_of (get_or (layout_at (own image).code t) cell int_cell) ≡ note_of (get_or (layout_at image.code t) cell int_cell)
   note_same t cell = ap (λ (l : Layout). note_of (get_or l cell int_cell)) (own_layout image same_number t) ∙ note_renamed image.name (record { layout = layout_at image.code t; count = 0; values = [] } ∷ []) 0 cell
 
-  names_same : (f : Function) (i : Instruction) → Names (own image).marked (own image).code f i → Names image.marked image.code f i
+  names_same : (f : Function) (i : Instruction) → Names (may_mark (own image).marks) (own image).code f i → Names (may_mark image.marks) image.code f i
   names_same f (instruction.Typed row t) e = type_there t e
   names_same f (instruction.Move t s direction) e = type_there t e
   names_same f (instruction.Store p b) e = (e.0, λ m. let was = e.1 m in (was.0, sym (ap is_plain (note_same (path_at image.code p).type_number (path_at image.code p).offset)) ∙ was.1))
@@ -200,7 +200,7 @@ module _ (image : Compared) (same_number : (ty : Ty) → pointee (image.name ty)
   empty_same f n (instruction.Simple simple.Return) x = subst (λ ks. Empty image.code f (instruction.Simple simple.Return) ks) (kinds_same f n) x
   empty_same f n i x = x
 
-  function_same : (f : Function) → FunctionIsSound (own image).marked (own image).code f → FunctionIsSound image.marked image.code f
+  function_same : (f : Function) → FunctionIsSound (may_mark (own image).marks) (own image).code f → FunctionIsSound (may_mark image.marks) image.code f
   function_same f sound = record {
     begins = sound.begins;
     fine = λ n i e. let was = sound.fine n i e in record {

@@ -24,7 +24,7 @@ use Rattle.rc_kinds.proofs.InRange.{byte_fits}
 use Rattle.rc_code.specs.Running.{layout_at}
 use Rattle.rc_code.specs.StoreModel.{Held, lives, parent_in, with_objects_in, with_store, turn_in, byte_in, value_in, kind_in, put_in, stored_in, made_in, allocated_in, deleted_in}
 use Rattle.rc_code.specs.Soundness.{Kind, handles, pointers}
-use Rattle.rc_worlds.specs.Worlds.{Compared, model, naming, named_cell, renamed, seen, passing, put_by, deleted_by, delete_by}
+use Rattle.rc_worlds.specs.Worlds.{Compared, model, naming, named_cell, renamed, seen, passing, put_by, deleted_by, delete_by, may_mark, looks, tells_apart}
 use Rattle.rc_worlds.specs.Typed.{Shape, shape_of, shape_there, LeadsTo, InRange, HasKind, Stored, ObjectIsTyped, RegionIsTyped, HeapIsTyped, IsMade, IsTree, IsSoundBy, Good, Grows, AsFresh, Reaches}
 use Rattle.rc_worlds.proofs.Looks.{lives_same, all_lives_same, in_view, parent_in_view, child_same, killed_seen, changed_seen, map_append, length_seen, filter_same, blank_renamed, counts_renamed, length_renamed, note_renamed, value_renamed, appended_renamed, put_renamed}
 use Rattle.rc_worlds.proofs.Counts.{decisions_agree, not_child, turned, waiting_apart}
@@ -153,7 +153,7 @@ module _ (image : Compared) where
       ap (λ vs. with_store (model image.name w) (record (model image.name w).store { regions = vs })) e
       ∙ ap (λ ps. with_store (model image.name w) (record (model image.name w).store { regions = map (seen image.name) heap1; pins = ps })) (sym (filter_same (is_fresh (live heap1)) (is_fresh (live w.heap)) w.waiting each))
 
-  reaches_heap : (w : World) (heap1 : Heap) → Good image w → IsSoundBy image.watching heap1 → HeapIsTyped image heap1 → Grows w.heap heap1 → Every (AsFresh w.heap heap1) w.waiting → Reaches image w (with_heap w heap1)
+  reaches_heap : (w : World) (heap1 : Heap) → Good image w → IsSoundBy (looks image.marks) heap1 → HeapIsTyped image heap1 → Grows w.heap heap1 → Every (AsFresh w.heap heap1) w.waiting → Reaches image w (with_heap w heap1)
   reaches_heap w heap1 good sound typed grows each = record {
     good = record { sound = sound; typed = typed; globals = λ g global e. grows.objects 0 g _ (good.globals g global e); waiting = all_made_grow w.heap heap1 grows w.waiting good.waiting; input = good.input };
     grows = grows;
@@ -190,7 +190,7 @@ module _ (image : Compared) where
       does_tested image w (Gives handles) _ (nat_le (length w.heap) w.regions) Full line _ _ (ap (λ n. nat_le n w.regions) (length_seen image.name w.heap)) (λ e.
       subst (λ n. Does image w (Gives handles) (Go (Handle (length w.heap)) (with_heap w heap1)) (Go (Handle n) (with_store (model image.name w) (record (model image.name w).store { regions = map (seen image.name) w.heap ++ Some (record { parent = p; objects = [] }) ∷ [] })))) (sym (length_seen image.name w.heap))
       (does_heap w heap1 (map (seen image.name) w.heap ++ Some (record { parent = p; objects = [] }) ∷ []) (Gives handles) (Handle (length w.heap)) (sym (map_append image.name w.heap (new_region p)))
-      (reaches_heap w heap1 good (sound_made image.watching w.heap p good.sound l) (record { regions = every_append (RegionIsTyped image heap1) w.heap (new_region p ∷ []) (regions_grow image w.heap heap1 w.heap grows good.typed.regions) (tt, tt) }) grows (as_fresh_made w.heap (new_region p) w.waiting good.waiting))
+      (reaches_heap w heap1 good (sound_made (looks image.marks) w.heap p good.sound l) (record { regions = every_append (RegionIsTyped image heap1) w.heap (new_region p ∷ []) (regions_grow image w.heap heap1 w.heap grows good.typed.regions) (tt, tt) }) grows (as_fresh_made w.heap (new_region p) w.waiting good.waiting))
       (record { suits = last w.heap })))
     where
       heap1 : Heap
@@ -204,7 +204,7 @@ module _ (image : Compared) where
       last (g ∷ heap) = let h = last heap in omega (arith, h)
 
   pub new_region_does : (line : ℕ) (w : World) → Good image w → Does image w (Gives handles) (source.new_region line w) ((naming image.name).new_region line (model image.name w))
-  new_region_does line w good = made_does line 0 w good (sound_root image.watching w.heap good.sound)
+  new_region_does line w good = made_does line 0 w good (sound_root (looks image.marks) w.heap good.sound)
 
   pub new_subregion_does : (line : ℕ) (v : Value) (w : World) → Good image w → Does image w (Gives handles) (source.new_subregion line v w) ((naming image.name).new_subregion line v (model image.name w))
   new_subregion_does line v w good = does_region image line v w (Gives handles) _ _ (λ r. does_touching image w (Gives handles) (lives (model image.name w).store r) (live w.heap r) line _ _ (lives_same image.name w r) (λ l. made_does line r w good l))
@@ -237,8 +237,8 @@ module _ (image : Compared) where
       grows : Grows w.heap heap1
       grows = grows_update w.heap r (λ g. record g { objects = new g.objects }) (λ o shape e. object_appended (objects w.heap r) made_object o shape e)
 
-      sound : IsSoundBy image.watching heap1
-      sound = sound_appended image.watching w.heap r (layout_at image.code t) (unsigned_abs count) good.sound l
+      sound : IsSoundBy (looks image.marks) heap1
+      sound = sound_appended (looks image.marks) w.heap r (layout_at image.code t) (unsigned_abs count) good.sound l
 
       typed : Every (RegionIsTyped image heap1) heap1
       typed = every_update (RegionIsTyped image heap1) w.heap r _ no_region (λ g same old. every_append (ObjectIsTyped image heap1) g.objects (made_object ∷ []) old (blank_is_typed image heap1 (layout_at image.code t) (unsigned_abs count), tt)) (regions_grow image w.heap heap1 w.heap grows good.typed.regions)
@@ -252,7 +252,7 @@ module _ (image : Compared) where
   allocate_does line v count t w good = does_region image line v w (Gives (pointers t)) _ _ (λ r. does_touching image w (Gives (pointers t)) (lives (model image.name w).store r) (live w.heap r) line _ _ (lives_same image.name w r) (λ l. allocated_does line r count t w good l))
 
   -- a deletion
-  kills : (b : Bool) → b ≡ image.watching → (r : ℕ) (w : World) → Good image w → IsSoundBy b (killed w.heap r) → Every (AsFresh w.heap (killed w.heap r)) w.waiting
+  kills : (b : Bool) → b ≡ looks image.marks → (r : ℕ) (w : World) → Good image w → IsSoundBy b (killed w.heap r) → Every (AsFresh w.heap (killed w.heap r)) w.waiting
       → Does image {A = Unit {0}} w (λ _ w1. Unit {0}) (Go tt (with_heap w (killed w.heap r))) (Go tt (with_store (model image.name w) (record (model image.name w).store { regions = update (model image.name w).store.regions r (λ _. None) })))
   kills b is r w good sound fresh =
       let heap1 = killed w.heap r in
@@ -262,7 +262,7 @@ module _ (image : Compared) where
       (record { regions = every_update (RegionIsTyped image heap1) w.heap r _ no_region (λ g same old. old) (regions_grow image w.heap heap1 w.heap grows good.typed.regions) })
       grows fresh) (tt {0})
 
-  deleted_does : (b : Bool) → b ≡ image.watching → (line : ℕ) (held : List Value) (r : ℕ) (w : World) → Good image w → IsSoundBy b w.heap → Does image w Any (deleted_by b image.name line held r w) (deleted_in line held r (model image.name w))
+  deleted_does : (b : Bool) → b ≡ looks image.marks → (line : ℕ) (held : List Value) (r : ℕ) (w : World) → Good image w → IsSoundBy b w.heap → Does image w Any (deleted_by b image.name line held r w) (deleted_in line held r (model image.name w))
   deleted_does true is line held r w good sound =
       does_touching image w Any (lives (model image.name w).store r) (live w.heap r) line _ _ (lives_same image.name w r) (λ l.
       does_tested image w Any (not (nat_eq r 0)) (not (nat_eq r 0)) Root line _ _ refl (λ inner.
@@ -283,7 +283,7 @@ module _ (image : Compared) where
       kills false is r w good (tree_killed w.heap r tree (not_true _ inner) (not_true _ childless)) (as_fresh_killed w.heap r w.waiting (waiting_apart (live w.heap) r l held w.waiting _ none))))))
 
   pub delete_does : (line : ℕ) (held : List Value) (v : Value) (w : World) → Good image w → Does image w Any (delete_by image line held v w) ((naming image.name).delete line held v (model image.name w))
-  delete_does line held v w good = does_region image line v w Any _ _ (λ r. deleted_does image.watching refl line held r w good good.sound)
+  delete_does line held v w good = does_region image line v w Any _ _ (λ r. deleted_does (looks image.marks) refl line held r w good good.sound)
 
   -- values that are pinned while a function runs
   pub enter_good : (held : List Value) (w : World) → Good image w → Every (IsMade w.heap) held → Good image (source.enter held w)
@@ -333,7 +333,7 @@ module _ (image : Compared) where
 
   -- a write of what is of the cell's kind
   writes : (x : Target) (v : Value) (w : World) → Good image w → (a : Address) (spot : Spot) → IsSpot image w x a spot → Stored image w.heap (get_or (object_of w.heap spot).layout spot.cell int_cell) v
-      → IsFresh (live w.heap) v → IsSoundBy image.watching (written spot (v ∷ []) w.heap)
+      → IsFresh (live w.heap) v → IsSoundBy (looks image.marks) (written spot (v ∷ []) w.heap)
       → Does image {A = Unit {0}} w (λ _ w1. Unit {0}) (Go tt (with_heap w (written spot (v ∷ []) w.heap))) (Go tt (with_store (model image.name w) (put_in spot v (model image.name w).store)))
   writes x v w good a spot is suits fresh sound =
       does_heap {A = Unit {0}} w heap1 _ Any (tt {0}) (sym (changed_seen image.name w.heap spot.region _ _ (put_renamed image.name spot v)))
@@ -388,12 +388,12 @@ module _ (image : Compared) where
           subst (λ m. Does image w Any m (tested (fits (parent_in (model image.name w).store) (note_of (kind_in (model image.name w).store spot)) spot.region v) (unfit (note_of (kind_in (model image.name w).store spot))) line (model image.name w) done')) (sym (fitting_one w.heap spot.region line layout spot.cell v w done))
           (subst (λ note. Does image w Any (tested (fits (parent w.heap) (note_of kind) spot.region v) (unfit (note_of kind)) line w done) (tested (fits (parent_in (model image.name w).store) note spot.region v) (unfit note) line (model image.name w) done')) (sym (ap (λ os. note_of (get_or (get_or os spot.object no_object).layout spot.cell int_cell)) (in_view image.name w spot.region is.alive) ∙ note_renamed image.name (objects w.heap spot.region) spot.object spot.cell))
           (does_tested image w Any _ (fits (parent w.heap) (note_of kind) spot.region v) (unfit (note_of kind)) line _ _
-          (fits_same (live w.heap) (parent w.heap) (parent_in (model image.name w).store) (sound_parents image.watching w.heap good.sound) (parent_in_view image.name w) (note_of kind) spot.region v is.alive) (λ fit.
-          writes x v w good a spot is suits (sym (and_true (is_fresh (live w.heap) v)) ∙ fresh) (sound_written image.watching x v w a spot good.sound is (sym (and_true (is_fresh (live w.heap) v)) ∙ fresh) fit)))))
+          (fits_same (live w.heap) (parent w.heap) (parent_in (model image.name w).store) (sound_parents (looks image.marks) w.heap good.sound) (parent_in_view image.name w) (note_of kind) spot.region v is.alive) (λ fit.
+          writes x v w good a spot is suits (sym (and_true (is_fresh (live w.heap) v)) ∙ fresh) (sound_written (looks image.marks) x v w a spot good.sound is (sym (and_true (is_fresh (live w.heap) v)) ∙ fresh) fit)))))
 
   -- without the check over the store: where it fails over the source's world, nothing is said
-  pub put_does : (b : Bool) → b ≡ image.watching → (proved : Bool) → (proved ≡ true → image.marked ≡ true) → (line : ℕ) (x : Target) (v : Value) (w : World) → Good image w → ((a : Address) (spot : Spot) → IsSpot image w x a spot → Stored image w.heap (get_or (object_of w.heap spot).layout spot.cell int_cell) v)
-      → Does image w Any (put_by image.apart b proved line x v w) (stored_in proved line x v (model image.name w))
+  pub put_does : (b : Bool) → b ≡ looks image.marks → (proved : Bool) → (proved ≡ true → may_mark image.marks ≡ true) → (line : ℕ) (x : Target) (v : Value) (w : World) → Good image w → ((a : Address) (spot : Spot) → IsSpot image w x a spot → Stored image w.heap (get_or (object_of w.heap spot).layout spot.cell int_cell) v)
+      → Does image w Any (put_by (tells_apart image.marks) b proved line x v w) (stored_in proved line x v (model image.name w))
   put_does true watching false marked line x v w good each = store_does line x v w good each
   put_does false watching false marked line x v w good each = store_does line x v w good each
   put_does false watching true marked line x v w good each = does_spot image line x w Any _ _ (λ a spot is.
@@ -404,6 +404,6 @@ module _ (image : Compared) where
       by a spot is fresh (fits (parent w.heap) (note_of (get_or (object_of w.heap spot).layout spot.cell int_cell)) spot.region v) refl))
     where
       by : (a : Address) (spot : Spot) → IsSpot image w x a spot → IsFresh (live w.heap) v → (b : Bool) → fits (parent w.heap) (note_of (get_or (object_of w.heap spot).layout spot.cell int_cell)) spot.region v ≡ b
-          → Does image {A = Unit {0}} w (λ _ w1. Unit {0}) (passing image.apart b line w (Go tt (with_heap w (written spot (v ∷ []) w.heap)))) (Go tt (with_store (model image.name w) (put_in spot v (model image.name w).store)))
-      by a spot is fresh true fit = writes x v w good a spot is (each a spot is) fresh (sound_written image.watching x v w a spot good.sound is fresh fit)
+          → Does image {A = Unit {0}} w (λ _ w1. Unit {0}) (passing (tells_apart image.marks) b line w (Go tt (with_heap w (written spot (v ∷ []) w.heap)))) (Go tt (with_store (model image.name w) (put_in spot v (model image.name w).store)))
+      by a spot is fresh true fit = writes x v w good a spot is (each a spot is) fresh (sound_written (looks image.marks) x v w a spot good.sound is fresh fit)
       by a spot is fresh false fit = record { same = inl (marked refl, sym watching, (line, refl)); goes = tt }

@@ -9,7 +9,7 @@ use Rattle.rc_core.specs.Source.{chosen_in_range, cells_chosen}
 use Rattle.rc_code.specs.declared.image.Path.{Path}
 use Rattle.rc_code.specs.Running.{Reading, layout_at, path_at, function_at, cell_at, storage_of, chosen_values}
 use Rattle.rc_code.specs.Soundness.{ReadingIsSound}
-use Rattle.rc_worlds.specs.Worlds.{Compared}
+use Rattle.rc_worlds.specs.Worlds.{Compared, may_mark}
 
 -- all cells that indices in range reach are inside the type and have one kind
 pub record PathIsSound (image : Reading) (p : Path) : Type 0 where
@@ -20,7 +20,7 @@ pub record PathIsSound (image : Reading) (p : Path) : Type 0 where
       → note_of (get_or (layout_at image p.type_number) (p.offset + cells_chosen (chosen_values p.indices vs)) int_cell) ≡ note_of (cell_at image p)
 
 pub record ImageIsSound (image : Compared) : Type 0 where
-  pub rules : ReadingIsSound image.marked image.code
+  pub rules : ReadingIsSound (may_mark image.marks) image.code
   pub paths : (p : ℕ) → p < length image.code.parts.paths → PathIsSound image.code (path_at image.code p)
   pub parameters : (f : ℕ) → f < length image.code.parts.functions → (function_at image.code f).parameters ≤ length (function_at image.code f).locals
   pub main : image.code.parts.main < length image.code.parts.functions

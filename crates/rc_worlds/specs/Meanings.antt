@@ -13,7 +13,7 @@ use Rattle.rc_code.specs.declared.image.Global.{Global}
 use Rattle.rc_code.specs.declared.image.Parts.{Parts}
 use Rattle.rc_code.specs.Running.{Reading, reading_of, run_main}
 use Rattle.rc_code.specs.ImageMeaning.{first_objects, image_meaning, image_left}
-use Rattle.rc_worlds.specs.Worlds.{Compared, watched}
+use Rattle.rc_worlds.specs.Worlds.{Compared, watched, Marks, none_marked, marks_checked, marks_trusted}
 
 abbrev pub image_world : Reading → (input : List ℕ) → Limits → World
 image_world image input limits = record {
@@ -26,13 +26,17 @@ image_world image input limits = record {
   blocks = limits.blocks;
 }
 
--- an image as it is written: where the run over the source's world looks at each cell at a deletion and makes each check, and
--- where it counts and trusts the marks
+-- an image as it is written
+abbrev pub as_marked : Marks → (ranged : Bool) → Parts → Compared
+as_marked marks ranged parts = record { code = reading_of parts; name = λ ty. ty; marks = marks; ranged = ranged }
+
+-- where the run over the source's world looks at each cell at a deletion and makes each check, and where it counts and trusts the marks
 abbrev pub looking : (marked : Bool) → Parts → Compared
-looking marked parts = record { code = reading_of parts; marked = marked; name = λ ty. ty; watching = true; apart = false; ranged = false }
+looking false parts = as_marked none_marked false parts
+looking true parts = as_marked (marks_checked false) false parts
 
 abbrev pub counting : (ranged : Bool) → Parts → Compared
-counting ranged parts = record { code = reading_of parts; marked = true; name = λ ty. ty; watching = false; apart = false; ranged = ranged }
+counting ranged parts = as_marked marks_trusted ranged parts
 
 -- each byte that a global begins with is one
 abbrev pub AreBytes : Initial → Type 0

@@ -9,7 +9,7 @@ use Rattle.rc_core.specs.Laws.{stop_of}
 use Rattle.rc_core.specs.Meaning.{first_world}
 use Rattle.rc_code.specs.Running.{pointee, run_main}
 use Rattle.rc_code.specs.StoreModel.{stored}
-use Rattle.rc_worlds.specs.Worlds.{Compared, failed, model, watched, mapped, own}
+use Rattle.rc_worlds.specs.Worlds.{Compared, failed, model, watched, mapped, own, may_mark, tells_apart}
 use Rattle.rc_worlds.specs.Typed.{GlobalsAreThere}
 use Rattle.rc_worlds.specs.Facts.{ImageIsSound}
 
@@ -24,5 +24,5 @@ pub record IsTranslated (image : Compared) (p : Program) : Type 0 where
 -- the run over the store is the run over the source's world, where marks, if there are some, never leave out a check that fails
 abbrev pub IsCarried : Compared → Program → (input : List ℕ) → Limits → Type 0
 IsCarried image p input limits =
-    (image.marked ≡ true → (line : ℕ) → stop_of (run_main (watched image) image.code (first_world p input limits)) ≢ Some (failed image.apart line))
+    (may_mark image.marks ≡ true → (line : ℕ) → stop_of (run_main (watched image) image.code (first_world p input limits)) ≢ Some (failed (tells_apart image.marks) line))
     → run_main stored (own image).code (model image.name (first_world p input limits)) ≡ mapped image (run_main (watched image) image.code (first_world p input limits))

@@ -22,7 +22,7 @@ use Rattle.rc_code.specs.declared.kind.Storage.{Storage}
 use Rattle.rc_code.specs.declared.kind.Storage.TheVariants as storage
 use Rattle.rc_code.specs.declared.image.Global.{Global}
 use Rattle.rc_code.specs.Soundness.{Kind, numbers, handles, pointers, kind_of}
-use Rattle.rc_worlds.specs.Worlds.{Compared}
+use Rattle.rc_worlds.specs.Worlds.{Compared, looks}
 use Rattle.rc_code.specs.Running.{layout_at, storage_of}
 
 -- the cells of an element, and how many elements there are
@@ -113,12 +113,12 @@ pub record IsTree (heap : Heap) : Type 0 where
   pub root : live heap 0 ≡ true
   pub parents : (r : ℕ) → live heap r ≡ true → live heap (parent heap r) ≡ true
 
-abbrev pub IsSoundBy : (watching : Bool) → Heap → Type 0
+abbrev pub IsSoundBy : (looks : Bool) → Heap → Type 0
 IsSoundBy true heap = HeapIsSound heap
 IsSoundBy false heap = IsTree heap
 
 pub record Good (image : Compared) (w : World) : Type 0 where
-  pub sound : IsSoundBy image.watching w.heap
+  pub sound : IsSoundBy (looks image.marks) w.heap
   pub typed : HeapIsTyped image w.heap
   pub globals : GlobalsAreThere image w.heap
   pub waiting : Every (IsMade w.heap) w.waiting

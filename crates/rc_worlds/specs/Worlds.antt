@@ -15,17 +15,36 @@ use Rattle.rc_core.specs.Source.{World, with_heap, object_of, at_region, at_spot
 use Rattle.rc_code.specs.Running.{Reading, Doing, pointee}
 use Rattle.rc_code.specs.StoreModel.{Held, store_model, stored_in}
 
--- An image of which the run over the source's world and that over the store are compared. `marked` says whether a store may have
--- the mark, `name` by what name the store keeps a type, and `watching` whether the run over the source's world looks and checks,
--- or counts and trusts the marks. Where it checks, `apart` says how a check that a mark leaves out and that fails stops it: as one
--- that has no turns left, so that it is told from one that touches a dead region; else as that one. `ranged` says whether each byte
--- that a run is given is one: those of the input, and those that a global begins with.
+-- What the run over the source's world does with marks. Where no store has one, or where each store makes its check all the same, it looks
+-- at each cell at a deletion; where it trusts the marks as the store does, it counts. A check that a mark leaves out, and that is made and
+-- fails, stops the run: as one that has no turns left, so that it is told from one that touches a dead region, where `apart` says so; else
+-- as that one.
+pub data Marks : Type 0 where
+  none_marked : Marks
+  marks_checked : (apart : Bool) → Marks
+  marks_trusted : Marks
+
+abbrev pub may_mark : Marks → Bool
+may_mark none_marked = false
+may_mark (marks_checked apart) = true
+may_mark marks_trusted = true
+
+abbrev pub looks : Marks → Bool
+looks none_marked = true
+looks (marks_checked apart) = true
+looks marks_trusted = false
+
+abbrev pub tells_apart : Marks → Bool
+tells_apart none_marked = false
+tells_apart (marks_checked apart) = apart
+tells_apart marks_trusted = false
+
+-- An image of which the run over the source's world and that over the store are compared. `name` says by what name the store keeps a
+-- type, and `ranged` whether each byte that a run is given is one: those of the input, and those that a global begins with.
 pub record Compared : Type 0 where
   pub code : Reading
-  pub marked : Bool
   pub name : Ty → Ty
-  pub watching : Bool
-  pub apart : Bool
+  pub marks : Marks
   pub ranged : Bool
 
 -- the source's world as that of a store: the views of live regions, and the waiting values that name none that is dead; a
@@ -82,7 +101,7 @@ abbrev pub trusted_put : (proved : Bool) → (line : ℕ) → Target → Value �
 trusted_put false line t v w = source.store line t v w
 trusted_put true line t v w = at_spot line t w (λ spot. touching (is_fresh (live w.heap) v) line w (Go tt (with_heap w (written spot (v ∷ []) w.heap))))
 
-abbrev pub put_by : (apart watching proved : Bool) → (line : ℕ) → Target → Value → World → Run World (Unit {0})
+abbrev pub put_by : (apart looks proved : Bool) → (line : ℕ) → Target → Value → World → Run World (Unit {0})
 put_by apart true proved line t v w = watched_put apart proved line t v w
 put_by apart false proved line t v w = trusted_put proved line t v w
 
@@ -94,15 +113,15 @@ counted name line held r w =
     (tested (nat_eq (refs (record (model name w).store { pins = filter (is_fresh (live w.heap)) held ++ (model name w).store.pins }) r) 0) Reference line w
     (Go tt (with_heap w (killed w.heap r))))))
 
-abbrev pub deleted_by : (watching : Bool) → (Ty → Ty) → (line : ℕ) → (held : List Value) → (r : ℕ) → World → Run World (Unit {0})
+abbrev pub deleted_by : (looks : Bool) → (Ty → Ty) → (line : ℕ) → (held : List Value) → (r : ℕ) → World → Run World (Unit {0})
 deleted_by true name line held r w = deleted line held r w
 deleted_by false name line held r w = counted name line held r w
 
 abbrev pub delete_by : Compared → (line : ℕ) → (held : List Value) → Value → World → Run World (Unit {0})
-delete_by image line held v w = at_region line v w (λ r. deleted_by image.watching image.name line held r w)
+delete_by image line held v w = at_region line v w (λ r. deleted_by (looks image.marks) image.name line held r w)
 
 abbrev pub watched : Compared → Doing World
-watched image = record { ops = record source { delete = delete_by image }; put = put_by image.apart image.watching }
+watched image = record { ops = record source { delete = delete_by image }; put = put_by (tells_apart image.marks) (looks image.marks) }
 
 abbrev pub trusting : (Ty → Ty) → Doing Held
 trusting name = record { ops = naming name; put = stored_in }
