@@ -37,7 +37,7 @@ returns-clause-went g c =
     let turns = c.if-at-eq0.false in
     let pins = pins_here code c.args.running.now.function c.args.at.now.place ∙ ap pins_of r.1 in
     let held = subst (λ ps. IsPinned (pinned ps pile.locals) (g.H.Heap.store c.args.heap.now) (g.H.Heap.store c.pin_behind.new.heap)) pins c.in-Ok.ensures in
-    leads_pile _ _ _ _ _ _ _ _ (r.5.1.1 (omega (arith, turns)) (omega (arith, words, room, first, long, long2, high)) more (g.H.Heap.store c.pin_behind.new.heap) held) c.begin.ensures
+    leads_pile _ _ _ _ _ _ _ _ (r.5.goes_on (omega (arith, turns)) (omega (arith, words, room, first, long, long2, high)) more (g.H.Heap.store c.pin_behind.new.heap) held) c.begin.ensures
 
 pub pin_behind-requires-clause-some : goal.pin_behind-requires-clause-some
 pin_behind-requires-clause-some g c =
