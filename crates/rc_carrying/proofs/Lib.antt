@@ -5,3 +5,4 @@ pub mod Dropping
 pub mod Ready
 pub mod Asking
 pub mod Visits
+pub mod Idle

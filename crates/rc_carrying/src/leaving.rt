@@ -71,6 +71,31 @@ fn assigned_by(effect: &Effect) -> Option<u32>
     }
 }
 
+/// Carries a set over an instruction with any effect.
+fn carry_any(
+    alloc: Global,
+    set: &mut FactSet,
+    effect: &Effect,
+    exits: &[FactSet],
+    scratch: u32,
+    low: u32,
+    top: u32,
+) -> Result<(), NoMemory>
+    requires ready { IsReady set.old.variables scratch (holds set.old) }
+    requires below { EffectBelow scratch (effect_of effect.now) }
+    requires call { CallFits exits.now (effect_of effect.now) }
+    requires low { low ≤ top }
+    requires top { top ≤ scratch }
+    ensures variables { set.new.variables ≡ set.old.variables }
+    ensures facts { OnOk result (CarriesOver set.old.variables scratch exits.now (effect_of effect.now) low top (holds set.old) (holds set.new)) }
+{
+    set.forget(scratch);
+    cross(alloc, set, effect, exits, scratch)?;
+    reset(set, scratch);
+    drop_gone(set, low, top, assigned_by(effect));
+    Ok(())
+}
+
 /// Carries a set over an instruction with this effect, behind which nothing stays known of the variables
 /// from `low` to below `top`, but of the assigned one.
 ///
@@ -94,9 +119,9 @@ pub fn carry(
     ensures variables { set.new.variables ≡ set.old.variables }
     ensures facts { OnOk result (CarriesOver set.old.variables scratch exits.now (effect_of effect.now) low top (holds set.old) (holds set.new)) }
 {
-    set.forget(scratch);
-    cross(alloc, set, effect, exits, scratch)?;
-    reset(set, scratch);
-    drop_gone(set, low, top, assigned_by(effect));
-    Ok(())
+    if let Effect::Nothing = effect {
+        drop_gone(set, low, top, None);
+        return Ok(());
+    }
+    carry_any(alloc, set, effect, exits, scratch, low, top)
 }

@@ -1,3 +1,4 @@
 pub mod Order
 pub mod Bytes
 pub mod Framing
+pub mod Numbering

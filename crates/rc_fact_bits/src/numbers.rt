@@ -1,43 +1,65 @@
 // Which fact a bit stands for.
-ghost use Rattle.std.specs.Prelude.{◌≡◌, ◌<◌, ◌≤◌, ◌*◌, ◌+◌, IsTrue, MatchOption};
-ghost use Rattle.rc_facts.specs.Facts.{is_over};
-ghost use Rattle.rc_claims.specs.Bits.{bit_count, bit_number};
+ghost use Rattle.std.specs.Prelude.{◌≡◌, ◌<◌, ◌≤◌, ◌+◌, suc};
+ghost use Rattle.rc_fact_bits.specs.Standing.{number_at, FactAt};
 
 use rc_facts::Fact;
 
-/// Two variables below `n`, by the number of their pair.
-fn pair(n: u32, number: usize) -> (u32, u32)
-    requires few { n ≤ 128 }
-    requires inside { number < n * n }
-    ensures first { result.0 < n }
-    ensures second { result.1 < n }
-    ensures both { result.0 * n + result.1 ≡ number }
-{
-    let width = n as usize;
-    ((number / width) as u32, (number % width) as u32)
+/// Where a bit stands, in rows of as many bits as there are variables: a row for each variable that
+/// comes first in a pair, for pairs in one region and then for those above, and two for single ones.
+#[derive(Clone, Copy)]
+pub(crate) struct Place {
+    pub(crate) row: u32,
+    pub(crate) column: u32,
 }
 
-/// The fact over `n` variables that has that number.
-pub(crate) fn fact_of(n: u32, number: usize) -> Option<Fact>
-    requires few { n ≤ 128 }
-    ensures { MatchOption result (bit_count n ≤ number) (λ fact. IsTrue (is_over n fact) × (bit_number n fact ≡ number)) }
+/// Where the first bit stands.
+pub(crate) fn first_place() -> Place
+    ensures row { result.row ≡ 0 }
+    ensures column { result.column ≡ 0 }
 {
-    let width = n as usize;
-    let square = width * width;
-    if number < square {
-        let (x, y) = pair(n, number);
-        return Some(Fact::In(x, y));
+    Place { row: 0, column: 0 }
+}
+
+/// Where the next bit stands.
+pub(crate) fn place_behind(n: u32, place: Place) -> Place
+    requires few { n ≤ 128 }
+    requires inside { place.column < n }
+    requires small { place.row < 100000 }
+    ensures inside { result.column < n }
+    ensures rows { result.row ≤ place.row + 1 }
+    ensures next { number_at n result ≡ suc (number_at n place) }
+{
+    let Place { row, column } = place;
+    if column + 1 < n {
+        return Place {
+            row,
+            column: column + 1,
+        };
     }
-    if number < 2 * square {
-        let (x, y) = pair(n, number - square);
-        return Some(Fact::Up(x, y));
+    Place {
+        row: row + 1,
+        column: 0,
     }
-    let alone = number - 2 * square;
-    if alone < width {
-        return Some(Fact::Trad(alone as u32));
+}
+
+/// The fact over `n` variables whose bit stands there, if there is one.
+pub(crate) fn fact_at(n: u32, place: Place) -> Option<Fact>
+    requires few { n ≤ 128 }
+    requires inside { place.column < n }
+    ensures { FactAt n (number_at n place) result }
+{
+    let Place { row, column } = place;
+    if row < n {
+        return Some(Fact::In(row, column));
     }
-    if alone < 2 * width {
-        return Some(Fact::NonNull((alone - width) as u32));
+    if row < 2 * n {
+        return Some(Fact::Up(row - n, column));
+    }
+    if row == 2 * n {
+        return Some(Fact::Trad(column));
+    }
+    if row == 2 * n + 1 {
+        return Some(Fact::NonNull(column));
     }
     None
 }

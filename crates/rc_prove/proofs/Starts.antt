@@ -1,12 +1,13 @@
 -- Lists of full sets.
-use Rattle.std.proofs.Common.{◌≡◌, ◌∙◌, ℕ, IsTrue, zero, suc, ◌+◌, ◌<◌, List, [], ◌∷◌, ◌++◌, length, map, get_or, Some, refl, sym, ap, subst, inl, inr, ◌⊎◌, arith}
+use Rattle.std.proofs.Common.{rules, Bool, true, false, not, ◌&&◌, ◌||◌, nat_eq, nat_lt, ◌≡◌, ◌∙◌, ℕ, IsTrue, zero, suc, ◌+◌, ◌<◌, List, [], ◌∷◌, ◌++◌, length, map, get_or, Some, refl, sym, ap, subst, inl, inr, ◌⊎◌, arith}
 use Rattle.std.specs.Prelude.{slice_get}
 use Rattle.std.specs.declared.vec.Vec.{Vec}
 use Rattle.std.specs.declared.alloc.Global.{Global}
 use Rattle.std.proofs.lemmas.List.{length-append}
 use Rattle.std.proofs.lemmas.Option.{slice_get_within}
 use Rattle.rc_facts.specs.declared.fact.Fact.{Fact}
-use Rattle.rc_facts.specs.Facts.{Known, holds}
+use Rattle.rc_facts.specs.declared.fact.Fact.TheVariants.{In, Up, Trad, NonNull}
+use Rattle.rc_facts.specs.Facts.{Known, holds, is_over, names}
 use Rattle.rc_flow.specs.Flow.{no_set}
 use Rattle.rc_prove.specs.declared.start.Counts.{Counts}
 use Rattle.rc_prove.specs.Family.{Family, items_of, FewerAll}
@@ -87,4 +88,28 @@ shaped all old new b w = record {
     long = (w.shape j).frames ∙ full.long;
     each = λ r lt. within c.locals c.variables (get_or (get_or old.frames j []) r no_set) (get_or (get_or new.frames j []) r no_set) (full.each r lt) ((w.shape j).frame r) ((w.facts j).frames r);
   });
+}
+
+-- ---- fewer variables
+
+lt_less : (x t : ℕ) → (nat_lt x (suc t) && not (nat_eq x t)) ≡ nat_lt x t
+lt_less x t = grind (arith, rules)
+
+each_apart : (a b c d : Bool) → ((a && b) && not (c || d)) ≡ ((a && not c) && (b && not d))
+each_apart true true true d = refl
+each_apart true true false d = refl
+each_apart true false true d = refl
+each_apart true false false d = refl
+each_apart false b c d = refl
+
+over_less : (t : ℕ) (fact : Fact) → (is_over (suc t) fact && not (names t fact)) ≡ is_over t fact
+over_less t (In x y) = each_apart (nat_lt x (suc t)) (nat_lt y (suc t)) (nat_eq x t) (nat_eq y t) ∙ ap (λ b. b && (nat_lt y (suc t) && not (nat_eq y t))) (lt_less x t) ∙ ap (λ b. nat_lt x t && b) (lt_less y t)
+over_less t (Up x y) = each_apart (nat_lt x (suc t)) (nat_lt y (suc t)) (nat_eq x t) (nat_eq y t) ∙ ap (λ b. b && (nat_lt y (suc t) && not (nat_eq y t))) (lt_less x t) ∙ ap (λ b. nat_lt x t && b) (lt_less y t)
+over_less t (Trad x) = lt_less x t
+over_less t (NonNull x) = lt_less x t
+
+pub full_less : (count variables at : ℕ) (old new : Known) → count ≡ suc at → IsFull count variables old → new.variables ≡ old.variables → ((fact : Fact) → holds new fact ≡ (holds old fact && not (names at fact))) → IsFull at variables new
+full_less count variables at old new e full same is = record {
+  wide = same ∙ full.wide;
+  facts = λ fact. is fact ∙ ap (λ b. b && not (names at fact)) (full.facts fact ∙ ap (λ k. is_over k fact) e) ∙ over_less at fact;
 }

@@ -36,9 +36,9 @@ pub(crate) fn no_losses(alloc: Global) -> Losses
 }
 
 /// Notes a target, if one is named.
-fn note_target(sets: &mut Vec<Loss>, target: Option<usize>) -> Result<(), NoMemory> {
+fn note_target(sets: &mut Vec<Loss>, target: Option<u32>) -> Result<(), NoMemory> {
     if let Some(number) = target {
-        sets.push(Loss::Target(number))?;
+        sets.push(Loss::Target(number as usize))?;
     }
     Ok(())
 }

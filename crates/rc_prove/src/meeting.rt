@@ -105,25 +105,25 @@ pub(crate) fn give_exit(
 }
 
 /// Keeps of a frame what the working set has, if one is named.
-pub(crate) fn meet(frames: &mut [FactSet], at: Option<usize>, work: &FactSet) -> bool
+pub(crate) fn meet(frames: &mut [FactSet], at: Option<u32>, work: &FactSet) -> bool
     requires { IfSome at (λ r. (r < length frames.old) × ((get_or frames.old r no_set).variables ≡ work.now.variables)) }
     ensures { Loses result frames.old frames.new (FrameGives at work.now) }
 {
     match at {
         None => false,
-        Some(number) => lose(frames, number, work),
+        Some(number) => lose(frames, number as usize, work),
     }
 }
 
 /// Takes what follows from a frame, if one is named.
-pub fn restart(work: &mut FactSet, frames: &[FactSet], at: Option<usize>)
+pub fn restart(work: &mut FactSet, frames: &[FactSet], at: Option<u32>)
     requires { IfSome at (λ r. (r < length frames.now) × ((get_or frames.now r no_set).variables ≡ work.old.variables)) }
     ensures variables { work.new.variables ≡ work.old.variables }
     ensures kept { at ≡ None → work.new ≡ work.old }
     ensures whole { (r : ℕ) → at ≡ Some r → (fact : Fact) → IsTrue (holds work.new fact) ↔ Derivable work.old.variables (set_at frames.now r) fact }
 {
     if let Some(number) = at {
-        work.copy(&frames[number]);
+        work.copy(&frames[number as usize]);
         work.close();
     }
 }

@@ -64,7 +64,7 @@ fn lower_behind(
     alloc: Global,
     route: &Route,
     at: usize,
-    target: usize,
+    target: u32,
     entries: &mut [FactSet],
     exits: &mut [FactSet],
     frames: &mut [Vec<FactSet>],

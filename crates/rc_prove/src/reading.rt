@@ -37,9 +37,11 @@ fn add_row(all: &mut Vec<Fact>, x: u32, count: u32) -> Result<(), NoMemory>
 
 /// All facts on variables below a number.
 fn every(alloc: Global, count: u32) -> Result<Vec<Fact>, NoMemory>
+    requires { count ≤ 128 }
     ensures { IfOk result (λ all. all.items ≡ every_fact count) }
 {
-    let mut all = Vec::new(alloc);
+    let width = count as usize;
+    let mut all = Vec::with_capacity(alloc, 2 * width * (width + 1))?;
     for x in 0..count {
         add_row(&mut all, x, count)?;
     }

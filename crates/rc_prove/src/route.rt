@@ -8,5 +8,5 @@ use crate::spot::{Place, Spot};
 pub struct Route {
     pub place: Place,
     pub spots: Vec<Spot>,
-    pub first: Option<usize>,
+    pub first: Option<u32>,
 }

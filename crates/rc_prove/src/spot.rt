@@ -14,11 +14,11 @@ pub struct Spot {
     /// Whether the function ends there.
     pub returns: bool,
     /// The set of the target that it names and goes to, by its number among those of the function.
-    pub jumped: Option<usize>,
+    pub jumped: Option<u32>,
     /// The set of the next instruction, if that is a target and the run may go on there.
-    pub fallen: Option<usize>,
+    pub fallen: Option<u32>,
     /// The set of the next instruction, if that is a target.
-    pub next: Option<usize>,
+    pub next: Option<u32>,
 }
 
 /// A function, and the numbers of its variables.

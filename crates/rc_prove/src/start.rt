@@ -7,7 +7,6 @@ ghost use Rattle.rc_prove.specs.declared.start.Counts.{Counts as AnyCounts};
 ghost use Rattle.rc_prove.specs.Family.{family_of};
 ghost use Rattle.rc_prove.specs.Starting.{AreFull, CountsFit, IsBegun, IsFull, Pushed};
 
-use crate::lower::widen;
 use rc_base::NoMemory;
 use rc_facts::FactSet;
 use std::alloc::Global;
@@ -36,14 +35,26 @@ pub struct Claims {
     pub frames: Vec<Vec<FactSet>>,
 }
 
+/// Drops the facts that name a variable behind the first `count` of them, from the last one down.
+fn forget_behind(set: &mut FactSet, count: u32, variables: u32)
+    requires room { count ≤ variables }
+    requires full { IsFull variables variables set.old }
+    ensures { IsFull count variables set.new }
+{
+    for gone in 0..variables - count {
+        set.forget(variables - 1 - gone);
+    }
+}
+
 /// All facts on the first of some variables.
 fn all_over(alloc: Global, count: u32, variables: u32) -> Result<FactSet, NoMemory>
     requires room { count ≤ variables }
     requires few { variables ≤ 128 }
     ensures { IfOk result (IsFull count variables) }
 {
-    let full = FactSet::full(alloc, count)?;
-    widen(alloc, &full, count, variables)
+    let mut set = FactSet::full(alloc, variables)?;
+    forget_behind(&mut set, count, variables);
+    Ok(set)
 }
 
 /// As many such sets.
@@ -51,7 +62,7 @@ fn frames_of(alloc: Global, counts: Counts) -> Result<Vec<FactSet>, NoMemory>
     requires { CountsFit counts }
     ensures { IfOk result (λ all. AreFull counts.locals counts.variables counts.targets all.items) }
 {
-    let mut all = Vec::new(alloc);
+    let mut all = Vec::with_capacity(alloc, counts.targets)?;
     for _target in 0..counts.targets {
         let set = all_over(alloc, counts.locals, counts.variables)?;
         all.push(set)?;
@@ -79,9 +90,9 @@ pub(crate) fn full(alloc: Global, counts: &[Counts]) -> Result<Claims, NoMemory>
     ensures { IfOk result (λ claims. IsBegun counts.now (length counts.now) (family_of claims.entries.items claims.exits.items claims.frames.items)) }
 {
     let mut claims = Claims {
-        entries: Vec::new(alloc),
-        exits: Vec::new(alloc),
-        frames: Vec::new(alloc),
+        entries: Vec::with_capacity(alloc, counts.len())?,
+        exits: Vec::with_capacity(alloc, counts.len())?,
+        frames: Vec::with_capacity(alloc, counts.len())?,
     };
     for at in 0..counts.len() {
         push_full(alloc, &mut claims, counts[at])?;

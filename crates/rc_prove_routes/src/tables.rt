@@ -40,7 +40,7 @@ pub(crate) fn count_of(targets: &[bool]) -> usize
 }
 
 /// The set of the first instruction, if that is a target: it is the first one of the function's.
-pub(crate) fn first_of(targets: &[bool]) -> Option<usize>
+pub(crate) fn first_of(targets: &[bool]) -> Option<u32>
     ensures { MatchOption result (get_or targets.now 0 false ≡ false) (λ r. (get_or targets.now 0 false ≡ true) × (r ≡ 0)) }
 {
     match targets.get(0) {

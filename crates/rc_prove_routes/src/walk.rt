@@ -11,5 +11,5 @@ pub(crate) struct Walk<'a> {
     /// For each instruction whether a jump leads to it.
     pub(crate) targets: &'a [bool],
     /// For each instruction how many targets stand before it.
-    pub(crate) ranks: &'a [usize],
+    pub(crate) ranks: &'a [u32],
 }

@@ -14,15 +14,15 @@ use rc_code::Instruction;
 #[derive(Clone, Copy)]
 pub struct Leads {
     /// Of the target that the instruction names and goes to.
-    pub jumped: Option<usize>,
+    pub jumped: Option<u32>,
     /// Of the next instruction, if that is a target and the run may go on there.
-    pub fallen: Option<usize>,
+    pub fallen: Option<u32>,
     /// Of the next instruction, if that is a target.
-    pub next: Option<usize>,
+    pub next: Option<u32>,
 }
 
 /// The set of the target that an instruction names.
-fn jumped_from(instruction: &Instruction, targets: &[bool], ranks: &[usize]) -> Option<usize>
+fn jumped_from(instruction: &Instruction, targets: &[bool], ranks: &[u32]) -> Option<u32>
     requires { AreRanks targets.now ranks.now }
     ensures { IsJumped targets.now instruction.now result }
 {
@@ -33,7 +33,7 @@ fn jumped_from(instruction: &Instruction, targets: &[bool], ranks: &[usize]) -> 
 }
 
 /// The sets to which an instruction of that number leads.
-pub fn leads_at(instruction: &Instruction, at: usize, targets: &[bool], ranks: &[usize]) -> Leads
+pub fn leads_at(instruction: &Instruction, at: usize, targets: &[bool], ranks: &[u32]) -> Leads
     requires ranks { AreRanks targets.now ranks.now }
     requires small { at < 2 ^ 32 }
     ensures { (image : Reading) (g : ℕ) → AreTargets (function_at image g) targets.now → instruction.now ≡ instruction_at (function_at image g) at → LeadsFrom image g at result.jumped result.fallen result.next }

@@ -17,7 +17,7 @@ fn is_marked(targets: &[bool], at: usize) -> bool
     }
 }
 
-fn put(out: &mut Vec<usize>, number: usize) -> Result<(), NoMemory>
+fn put(out: &mut Vec<u32>, number: u32) -> Result<(), NoMemory>
     ensures { OnOk result (out.new.items ≡ out.old.items ++ number ∷ []) }
 {
     out.push(number)?;
@@ -25,9 +25,9 @@ fn put(out: &mut Vec<usize>, number: usize) -> Result<(), NoMemory>
 }
 
 /// One more, if so.
-fn count_on(count: usize, so: bool, at: usize) -> usize
+fn count_on(count: u32, so: bool, at: usize) -> u32
     requires few { count ≤ at }
-    requires small { at < 2 ^ 32 }
+    requires small { at + 1 < 2 ^ 32 }
     ensures { result ≡ count + one_if so }
 {
     if so { count + 1 } else { count }
@@ -38,7 +38,7 @@ fn count_on(count: usize, so: bool, at: usize) -> usize
 /// # Errors
 ///
 /// Out of memory.
-pub fn ranks_of(alloc: Global, targets: &[bool]) -> Result<Vec<usize>, NoMemory>
+pub fn ranks_of(alloc: Global, targets: &[bool]) -> Result<Vec<u32>, NoMemory>
     requires { length targets.now < 2 ^ 32 }
     ensures { IfOk result (λ ranks. AreRanks targets.now ranks.items) }
 {
@@ -53,7 +53,7 @@ pub fn ranks_of(alloc: Global, targets: &[bool]) -> Result<Vec<usize>, NoMemory>
 }
 
 /// The number of the set of that instruction, if so, and if it is a target.
-pub(crate) fn set_of(targets: &[bool], ranks: &[usize], so: bool, at: usize) -> Option<usize>
+pub(crate) fn set_of(targets: &[bool], ranks: &[u32], so: bool, at: usize) -> Option<u32>
     requires { AreRanks targets.now ranks.now }
     ensures { IsSetOf targets.now so at result }
 {
