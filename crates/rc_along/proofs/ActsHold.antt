@@ -1,5 +1,5 @@
 -- Facts hold along acts.
-use Rattle.std.proofs.Common.{◌≡◌, ℕ, zero, suc, ◌+◌, ◌<◌, Bool, true, false, ◌||◌, nat_eq, List, [], ◌∷◌, ◌++◌, length, map, Option, Some, None, inl, inr, refl, sym, ap, ◌∙◌, subst, arith}
+use Rattle.std.proofs.Common.{◌≡◌, ℕ, zero, suc, ◌+◌, ◌<◌, Bool, true, false, ◌||◌, nat_eq, List, [], ◌∷◌, ◌++◌, length, map, replicate, Option, Some, None, inl, inr, refl, sym, ap, ◌∙◌, subst, arith}
 use Rattle.std.specs.Prelude.{slice_get}
 use Rattle.std.proofs.lemmas.Bool.{or_cases, eqb-true}
 use Rattle.rc_core.specs.declared.ty.Note.{Note}
@@ -18,7 +18,7 @@ use Rattle.rc_rlang.specs.RegionCode as Code
 use Rattle.rc_rlang.specs.RegionPoints.{act_points}
 use Rattle.rc_core.specs.Execution.{with_local}
 use Rattle.rc_rlang.specs.RegionRuns.{new_value, cells_moved, kept_cell, convert_value, right_number, Way, Next, Broke, Continued, Returned, returned, act_run, kept, held, Temporaries, temporary, set_kind, cell_kind, with_cell, changed_at, target_at, operation_value}
-use Rattle.rc_rlang.specs.RegionFlow.{Effect, nothing, moved, beside, loaded, looked_at, stored, called, going, is_regional, is_regional_cell, note_in, one_of, first_of, copies, local_variable, result_variable, variables, regional_arguments, Ends, act_nodes, returning, returned_variable, in_line, change_effects, cell_effects, numbers_below}
+use Rattle.rc_rlang.specs.RegionFlow.{Effect, nothing, moved, beside, loaded, looked_at, stored, called, going, is_regional, is_regional_cell, note_in, one_of, first_of, copies, local_variable, result_variable, variables, regional_arguments, Ends, act_nodes, returning, returned_variable, in_line, change_effects, cell_effects}
 use Rattle.rc_annotations.specs.Annotations.{renamed, returned_facts}
 use Rattle.rc_annotations.specs.Holding.{is_present, region_in, Holds, AllHold}
 use Rattle.rc_annotations.specs.Effects.{Says}
@@ -27,7 +27,7 @@ use Rattle.rc_annotations.specs.Worlds.{Grown, Made, Sane, Stays, note_at, Besid
 use Rattle.rc_along.specs.Along.{Named, GivesBack, Stand, Whole, MadeResult, Called, RightAct, ActMeets, MoveMeets}
 use Rattle.rc_annotations.proofs.Truths.{derivable_holds, holds_same}
 use Rattle.rc_annotations.proofs.Effects.{changed_there, changed_else, not_eq, with_name}
-use Rattle.std.specs.Prelude.{◌*◌, drop as cut}
+use Rattle.std.specs.Prelude.{◌*◌, ◌-◌}
 use Rattle.rc_core.specs.declared.ty.NumberType.{NumberType}
 use Rattle.rc_core.specs.declared.ty.NumberType.TheVariants.{Int, Unsigned, Char}
 use Rattle.rc_core.specs.declared.ty.Signedness.TheVariants.{Signed, Unsigned as Wrapping}
@@ -215,14 +215,14 @@ module _ (frame : Setting) (around : Calling frame) where
   leave_good line result here k live env t w st right meets good = gives (GoodWay k) (Returned (returned source deleting f.locals result t)) w (left_at result right here env t w st good)
 
   -- an update of a number: the cell is looked at, numbers are computed, and the cell is looked at again
-  pub line_good : (ns : List ℕ) (here next : ℕ) (env : List Value) (s : Temporaries) (w : World) → Stand (all frame) here (in_line (map (λ _. nothing) ns ++ looked_at (temp_at frame 0) ∷ []) here next) → is_present (s.regions 0) → At frame here env s w → At frame next env s w
-  line_good [] here next env s w st p good = cross frame here next (looked_at (temp_at frame 0)) env env s s w w (leads frame here _ next st.0) good (stays_itself w good.sane) refl (λ u. refl) refl (subst is_present (sym (V.temp_value f copied whole env s.regions 0)) p)
-  line_good (x ∷ []) here next env s w st p good = line_good [] (suc here) next env s w st.1 p (cross frame here (suc here) nothing env env s s w w (leads frame here _ (suc here) st.0) good (stays_itself w good.sane) refl (λ u. refl) refl tt)
-  line_good (x ∷ y ∷ ns) here next env s w st p good = line_good (y ∷ ns) (suc here) next env s w st.1 p (cross frame here (suc here) nothing env env s s w w (leads frame here _ (suc here) st.0) good (stays_itself w good.sane) refl (λ u. refl) refl tt)
+  pub line_good : (n here next : ℕ) (env : List Value) (s : Temporaries) (w : World) → Stand (all frame) here (in_line (replicate n nothing ++ looked_at (temp_at frame 0) ∷ []) here next) → is_present (s.regions 0) → At frame here env s w → At frame next env s w
+  line_good zero here next env s w st p good = cross frame here next (looked_at (temp_at frame 0)) env env s s w w (leads frame here _ next st.0) good (stays_itself w good.sane) refl (λ u. refl) refl (subst is_present (sym (V.temp_value f copied whole env s.regions 0)) p)
+  line_good (suc zero) here next env s w st p good = line_good zero (suc here) next env s w st.1 p (cross frame here (suc here) nothing env env s s w w (leads frame here _ (suc here) st.0) good (stays_itself w good.sane) refl (λ u. refl) refl tt)
+  line_good (suc (suc n)) here next env s w st p good = line_good (suc n) (suc here) next env s w st.1 p (cross frame here (suc here) nothing env env s s w w (leads frame here _ (suc here) st.0) good (stays_itself w good.sane) refl (λ u. refl) refl tt)
 
-  pub number_good : (ns : List ℕ) (here next : ℕ) (env : List Value) (s : Temporaries) (w w1 : World) → Stand (all frame) here (in_line (looked_at (temp_at frame 0) ∷ (map (λ _. nothing) ns ++ looked_at (temp_at frame 0) ∷ [])) here next) → is_present (s.regions 0) → Stays w w1 → At frame here env s w → At frame next env s w1
-  number_good [] here next env s w w1 st p stays good = line_good [] (suc here) next env s w1 st.1 p (cross frame here (suc here) (looked_at (temp_at frame 0)) env env s s w w1 (leads frame here _ (suc here) st.0) good stays refl (λ u. refl) refl (subst is_present (sym (V.temp_value f copied whole env s.regions 0)) p))
-  number_good (x ∷ ns) here next env s w w1 st p stays good = line_good (x ∷ ns) (suc here) next env s w1 st.1 p (cross frame here (suc here) (looked_at (temp_at frame 0)) env env s s w w1 (leads frame here _ (suc here) st.0) good stays refl (λ u. refl) refl (subst is_present (sym (V.temp_value f copied whole env s.regions 0)) p))
+  pub number_good : (n here next : ℕ) (env : List Value) (s : Temporaries) (w w1 : World) → Stand (all frame) here (in_line (looked_at (temp_at frame 0) ∷ (replicate n nothing ++ looked_at (temp_at frame 0) ∷ [])) here next) → is_present (s.regions 0) → Stays w w1 → At frame here env s w → At frame next env s w1
+  number_good zero here next env s w w1 st p stays good = line_good zero (suc here) next env s w1 st.1 p (cross frame here (suc here) (looked_at (temp_at frame 0)) env env s s w w1 (leads frame here _ (suc here) st.0) good stays refl (λ u. refl) refl (subst is_present (sym (V.temp_value f copied whole env s.regions 0)) p))
+  number_good (suc n) here next env s w w1 st p stays good = line_good (suc n) (suc here) next env s w1 st.1 p (cross frame here (suc here) (looked_at (temp_at frame 0)) env env s s w w1 (leads frame here _ (suc here) st.0) good stays refl (λ u. refl) refl (subst is_present (sym (V.temp_value f copied whole env s.regions 0)) p))
 
   pub number_says : (line : ℕ) (from : NumberType) (operator : Operator) (sign : Signedness) (ty : Ty) (old v : Value) (w : World) → Sane w → Goes (Only frame w) (new_value source deleting f.locals line (Compute from operator sign) ty old v w)
   number_says line from operator sign ty old v w sane = by (calculate operator sign (number_in (convert_value from (type_of sign) old)) (right_number operator ty v))
@@ -244,7 +244,7 @@ module _ (frame : Setting) (around : Calling frame) where
       goes_bind (Loaded w tg) (GoodWay k) (source.load line tg w) (λ old w1. bind (next old w1) (λ new w2. finish new w2)) (load_says line tg w good.sane) (λ old w1 q1.
       goes_bind (Only frame w1) (GoodWay k) (next old w1) finish (number_says line from operator sign ty old (temporary ty t (width acc)) w1 q1.0.sane) (λ new w2 q2.
       goes_bind (Stored w2 tg (kept acc.cell new)) (GoodWay k) (source.store line tg (kept acc.cell new) w2) (λ _ w3. Go (Next env (left new)) w3) (store_says line tg (kept acc.cell new) w2 q2.sane) (λ u w3 q3.
-      gives (GoodWay k) (Next env (left new)) w3 (again frame k.next env t (left new) w3 (λ u. refl) (number_good (cut 2 (numbers_below (change_points (Compute from operator sign)))) here k.next env t w w3 st (subst is_present at_s q1.2) (stays_trans w w1 w3 q1.0 (stays_trans w1 w2 w3 q2 q3.0)) (subst (λ p. At frame p env t w) (compute_first from operator sign here k.next) good))))))
+      gives (GoodWay k) (Next env (left new)) w3 (again frame k.next env t (left new) w3 (λ u. refl) (number_good (change_points (Compute from operator sign) - 2) here k.next env t w w3 st (subst is_present at_s q1.2) (stays_trans w w1 w3 q1.0 (stays_trans w1 w2 w3 q2 q3.0)) (subst (λ p. At frame p env t w) (compute_first from operator sign here k.next) good))))))
     where
       tg : Target
       tg = target_at acc t 0

@@ -1,6 +1,6 @@
 -- What a run comes to stands where the facts of its point hold.
-use Rattle.std.proofs.Common.{◌≡◌, ℕ, zero, suc, ◌+◌, ◌*◌, ◌<◌, ◌≤◌, Bool, true, false, ◌||◌, List, [], ◌∷◌, ◌++◌, length, map, Option, Some, None, refl, sym, ap, ◌∙◌, subst, arith}
-use Rattle.std.specs.Prelude.{slice_get, take, drop as cut}
+use Rattle.std.proofs.Common.{◌≡◌, ℕ, zero, suc, ◌+◌, ◌*◌, ◌<◌, ◌≤◌, Bool, true, false, ◌||◌, List, [], ◌∷◌, ◌++◌, length, map, replicate, Option, Some, None, refl, sym, ap, ◌∙◌, subst, arith}
+use Rattle.std.specs.Prelude.{◌-◌, slice_get, take}
 use Rattle.rc_core.specs.declared.ty.NumberType.{NumberType}
 use Rattle.rc_core.specs.declared.ty.Signedness.{Signedness}
 use Rattle.rc_core.specs.declared.ty.Signedness.TheVariants.{Signed, Unsigned as Wrapping}
@@ -20,7 +20,7 @@ use Rattle.rc_rlang.specs.Points.{change_points}
 use Rattle.rc_rlang.specs.RegionRuns as R
 use Rattle.rc_rlang.specs.RegionCode.{regional, Access, width, Operation, call, Step, set, fork, Steps, none, more, Act, Test, Code, Codes, Routine, Rlang}
 use Rattle.rc_rlang.specs.RegionCode as Code
-use Rattle.rc_rlang.specs.RegionFlow.{nothing, looked_at, stored, called, Node, going, is_regional, is_regional_cell, one_of, first_of, copies, yes_effect, no_effect, step_nodes, steps_nodes, regional_arguments, in_line, cell_effects, numbers_below, Ends, act_nodes, test_nodes, code_nodes, codes_nodes, end_nodes, routine_nodes}
+use Rattle.rc_rlang.specs.RegionFlow.{nothing, looked_at, stored, called, Node, going, is_regional, is_regional_cell, one_of, first_of, copies, yes_effect, no_effect, step_nodes, steps_nodes, regional_arguments, in_line, cell_effects, Ends, act_nodes, test_nodes, code_nodes, codes_nodes, end_nodes, routine_nodes}
 use Rattle.rc_rlang.specs.RegionLive.{before_steps, before_act, before_code, before_codes}
 use Rattle.rc_rlang.specs.RegionPoints.{step_points, steps_points, act_points, branch_points, code_points, codes_points}
 use Rattle.rc_rlang.specs.RegionRuns.{Temporaries, temporary, temporaries_from, with_temporary, set_kind, cell_kind, with_cell, blank_temporaries, kept_all, holds, held, sized, target_at, test_value, Way, Next, Broke, Continued, Returned, step_run, steps_run, code_run, deletes, calls_within}
@@ -323,24 +323,24 @@ module _ (r : Rlang) (temporaries : ℕ → ℕ) (a : Annotation) (cons : Consis
       passes_on c fine.under 0 int k tys live env t w here fine.ends.next None fine.right fine.meets fine.stand.0 (act_first c (Code.perform line k tys) here live env t w fine (omega arith))
 
   -- between a number's load and its store nothing happens to regions
-  between : (F : Setting) (ns : List ℕ) (here next i : ℕ) (env : List Value) (t : Temporaries) (w : World) → Stand (all F) here (in_line (map (λ _. nothing) ns ++ looked_at (temp_at F 0) ∷ []) here next) → i ≤ length ns → Good_at F here env t w → Good_at F (here + i) env t w
-  between F ns here next zero env t w st le good = subst (λ p. Good_at F p env t w) (let e : here ≡ here + 0 = omega arith in e) good
-  between F [] here next (suc i) env t w st le good = absurd (omega (arith, le))
-  between F (x ∷ []) here next (suc i) env t w st le good = subst (λ p. Good_at F p env t w) (let e : suc here + i ≡ here + suc i = omega arith in e) (between F [] (suc here) next i env t w st.1 (omega (arith, le)) (go_on_at F here (suc here) env t w st.0 good))
+  between : (F : Setting) (n here next i : ℕ) (env : List Value) (t : Temporaries) (w : World) → Stand (all F) here (in_line (replicate n nothing ++ looked_at (temp_at F 0) ∷ []) here next) → i ≤ n → Good_at F here env t w → Good_at F (here + i) env t w
+  between F n here next zero env t w st le good = subst (λ p. Good_at F p env t w) (let e : here ≡ here + 0 = omega arith in e) good
+  between F zero here next (suc i) env t w st le good = absurd (omega (arith, le))
+  between F (suc zero) here next (suc i) env t w st le good = subst (λ p. Good_at F p env t w) (let e : suc here + i ≡ here + suc i = omega arith in e) (between F zero (suc here) next i env t w st.1 (omega (arith, le)) (go_on_at F here (suc here) env t w st.0 good))
     where
       go_on_at : (F : Setting) (here to : ℕ) (env : List Value) (t : Temporaries) (w : World) → slice_get (all F) here ≡ Some (going nothing to) → Good_at F here env t w → Good_at F to env t w
       go_on_at F here to env t w q good = cross F here to nothing env env t t w w (leads F here nothing to q) good (stays_itself w good.sane) refl (λ u. refl) refl tt
-  between F (x ∷ y ∷ ns) here next (suc i) env t w st le good = subst (λ p. Good_at F p env t w) (let e : suc here + i ≡ here + suc i = omega arith in e) (between F (y ∷ ns) (suc here) next i env t w st.1 (omega (arith, le)) (go_on_at F here (suc here) env t w st.0 good))
+  between F (suc (suc n)) here next (suc i) env t w st le good = subst (λ p. Good_at F p env t w) (let e : suc here + i ≡ here + suc i = omega arith in e) (between F (suc n) (suc here) next i env t w st.1 (omega (arith, le)) (go_on_at F here (suc here) env t w st.0 good))
     where
       go_on_at : (F : Setting) (here to : ℕ) (env : List Value) (t : Temporaries) (w : World) → slice_get (all F) here ≡ Some (going nothing to) → Good_at F here env t w → Good_at F to env t w
       go_on_at F here to env t w q good = cross F here to nothing env env t t w w (leads F here nothing to q) good (stays_itself w good.sane) refl (λ u. refl) refl tt
 
-  behind_look : (F : Setting) (ns : List ℕ) (here next : ℕ) (env : List Value) (t : Temporaries) (w w1 : World) → Stand (all F) here (in_line (looked_at (temp_at F 0) ∷ (map (λ _. nothing) ns ++ looked_at (temp_at F 0) ∷ [])) here next) → is_present (t.regions 0) → Stays w w1 → Good_at F here env t w
-      → Good_at F (suc here) env t w1 × Stand (all F) (suc here) (in_line (map (λ _. nothing) ns ++ looked_at (temp_at F 0) ∷ []) (suc here) next)
-  behind_look F [] here next env t w w1 st p stays good = (cross F here (suc here) (looked_at (temp_at F 0)) env env t t w w1 (leads F here _ (suc here) st.0) good stays refl (λ u. refl) refl (subst is_present (sym (V.temp_value F.f F.copied F.whole env t.regions 0)) p), st.1)
-  behind_look F (x ∷ ns) here next env t w w1 st p stays good = (cross F here (suc here) (looked_at (temp_at F 0)) env env t t w w1 (leads F here _ (suc here) st.0) good stays refl (λ u. refl) refl (subst is_present (sym (V.temp_value F.f F.copied F.whole env t.regions 0)) p), st.1)
+  behind_look : (F : Setting) (n here next : ℕ) (env : List Value) (t : Temporaries) (w w1 : World) → Stand (all F) here (in_line (looked_at (temp_at F 0) ∷ (replicate n nothing ++ looked_at (temp_at F 0) ∷ [])) here next) → is_present (t.regions 0) → Stays w w1 → Good_at F here env t w
+      → Good_at F (suc here) env t w1 × Stand (all F) (suc here) (in_line (replicate n nothing ++ looked_at (temp_at F 0) ∷ []) (suc here) next)
+  behind_look F zero here next env t w w1 st p stays good = (cross F here (suc here) (looked_at (temp_at F 0)) env env t t w w1 (leads F here _ (suc here) st.0) good stays refl (λ u. refl) refl (subst is_present (sym (V.temp_value F.f F.copied F.whole env t.regions 0)) p), st.1)
+  behind_look F (suc n) here next env t w w1 st p stays good = (cross F here (suc here) (looked_at (temp_at F 0)) env env t t w w1 (leads F here _ (suc here) st.0) good stays refl (λ u. refl) refl (subst is_present (sym (V.temp_value F.f F.copied F.whole env t.regions 0)) p), st.1)
 
-  idle_length : (from : NumberType) (operator : Operator) (sign : Signedness) → suc (length (cut 2 (numbers_below (change_points (Compute from operator sign))))) ≡ before_store (Compute from operator sign)
+  idle_length : (from : NumberType) (operator : Operator) (sign : Signedness) → suc (change_points (Compute from operator sign) - 2) ≡ before_store (Compute from operator sign)
   idle_length Int operator Signed = refl
   idle_length Int operator Wrapping = refl
   idle_length Unsigned operator Signed = refl
@@ -356,11 +356,11 @@ module _ (r : Rlang) (temporaries : ℕ → ℕ) (a : Annotation) (cons : Consis
       → source.load line (target_at acc t 0) w ≡ Go old w1 → Stays w1 w2 → suc j ≤ before_store (Compute from operator sign) → AllHold (a.before c.function (here + suc j)) (seen c env t) w2.heap
   number_between c line acc from operator sign ty here live env t w old w1 w2 j fine e stays le =
       let F = frame c fine.under in
-      let ns = cut 2 (numbers_below (change_points (Compute from operator sign))) in
+      let n = change_points (Compute from operator sign) - 2 in
       let good : Good_at F here env t w = subst (λ p. Good_at F p env t w) (compute_first F (around c fine.under) from operator sign here fine.ends.next) fine.good in
       let q = came (load_says line (target_at acc t 0) w good.sane) e in
-      let first = behind_look F ns here fine.ends.next env t w w2 fine.stand (subst is_present (target_pointer F acc t 0) q.2) (stays_trans w w1 w2 q.0 stays) good in
-      at_same c.function (suc here + j) (here + suc j) (seen c env t) w2.heap (omega arith) (between F ns (suc here) fine.ends.next j env t w2 first.1 (let k = idle_length from operator sign in omega (arith, k, le)) first.0).facts
+      let first = behind_look F n here fine.ends.next env t w w2 fine.stand (subst is_present (target_pointer F acc t 0) q.2) (stays_trans w w1 w2 q.0 stays) good in
+      at_same c.function (suc here + j) (here + suc j) (seen c env t) w2.heap (omega arith) (between F n (suc here) fine.ends.next j env t w2 first.1 (let k = idle_length from operator sign in omega (arith, k, le)) first.0).facts
 
   in_update_fine : (c : Activation) (line : ℕ) (acc : Access) (change : Change) (ty : Ty) (here : ℕ) (live : ℕ → Bool) (env : List Value) (t : Temporaries) (w : World) (old : Value) (w1 : World) (i : ℕ) → ActFine c (Code.update line acc change ty) here live env t w
       → source.load line (target_at acc t 0) w ≡ Go old w1 → 0 < i → i ≤ operation_place change → AllHold (a.before c.function (here + i)) (seen c env (set_kind (R.change_kind change) t (suc (width acc)) old)) w1.heap

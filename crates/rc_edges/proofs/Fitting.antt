@@ -1,6 +1,6 @@
 -- Calls of region code fit the functions that they call, and returns give temporaries.
-use Rattle.std.proofs.Common.{◌≡◌, ℕ, zero, suc, ◌+◌, ◌≤◌, Bool, true, false, cond, List, [], ◌∷◌, ◌++◌, map, length, Option, Some, None, refl, sym, ap, ◌∙◌, subst, arith}
-use Rattle.std.specs.Prelude.{slice_get, count_by, drop as behind}
+use Rattle.std.proofs.Common.{◌≡◌, ℕ, zero, suc, ◌+◌, ◌≤◌, Bool, true, false, cond, List, [], ◌∷◌, ◌++◌, map, replicate, length, Option, Some, None, refl, sym, ap, ◌∙◌, subst, arith}
+use Rattle.std.specs.Prelude.{◌-◌, slice_get, count_by}
 use Rattle.rc_core.specs.declared.stmt.Change.{Change}
 use Rattle.rc_core.specs.declared.stmt.Change.TheVariants.{Compute, Step as Stepping}
 use Rattle.rc_core.specs.Types.{Ty}
@@ -10,7 +10,7 @@ use Rattle.rc_rlang.specs.RegionCode.{Access, width, Operation, constant, null, 
 use Rattle.rc_rlang.specs.IsRlang.{IsRlang}
 use Rattle.rc_rlang.specs.RegionNames.{IsCalled, OperationStands, StepStands, StepsStand, ActStands, CodeStands, CodesStand}
 use Rattle.rc_rlang.specs.RegionPoints.{step_points, steps_points, act_points, branch_points, code_points, codes_points}
-use Rattle.rc_rlang.specs.RegionFlow.{Effect, nothing, nulled, moved, loaded, looked_at, stored, present, absent, called, Edge, Node, Ends, going, forking, one_of, is_regional, is_regional_cell, note_in, if_regional, first_of, in_line, numbers_below, local_variable, temporary_variable, regional_arguments, operation_effect, yes_effect, no_effect, step_nodes, steps_nodes, stored_value, change_effects, cell_effects, returned_variable, act_nodes, test_nodes, code_nodes, codes_nodes, end_nodes, routine_nodes}
+use Rattle.rc_rlang.specs.RegionFlow.{Effect, nothing, nulled, moved, loaded, looked_at, stored, present, absent, called, Edge, Node, Ends, going, forking, one_of, is_regional, is_regional_cell, note_in, if_regional, first_of, in_line, local_variable, temporary_variable, regional_arguments, operation_effect, yes_effect, no_effect, step_nodes, steps_nodes, stored_value, change_effects, cell_effects, returned_variable, act_nodes, test_nodes, code_nodes, codes_nodes, end_nodes, routine_nodes}
 use Rattle.rc_annotations.proofs.Variables.{count_first}
 use Rattle.rc_edges.specs.Calls.{CallOf, CallsFit, ReturnsFit}
 
@@ -116,12 +116,12 @@ module _ (r : Rlang) (f : Routine) where
   line_fits (e ∷ []) here next b = one_edge e next b.0
   line_fits (e ∷ d ∷ es) here next b = (((b.0, tt {0}), tt {0}), line_fits (d ∷ es) (suc here) next b.1)
 
-  idle_fit : {A : Type 0} (xs : List A) (e : Effect) → EffectFits e → AllEffects (map (λ _. nothing) xs ++ e ∷ [])
-  idle_fit [] e b = (b, tt {0})
-  idle_fit (x ∷ xs) e b = (tt {0}, idle_fit xs e b)
+  idle_fit : (n : ℕ) (e : Effect) → EffectFits e → AllEffects (replicate n nothing ++ e ∷ [])
+  idle_fit zero e b = (b, tt {0})
+  idle_fit (suc n) e b = (tt {0}, idle_fit n e b)
 
   change_fits : (a : Access) (change : Change) → AllEffects (change_effects f a change)
-  change_fits a (Compute from operator s) = (tt {0}, idle_fit (behind 2 (numbers_below (change_points (Compute from operator s)))) (looked_at (temporary_variable f 0)) (tt {0}))
+  change_fits a (Compute from operator s) = (tt {0}, idle_fit (change_points (Compute from operator s) - 2) (looked_at (temporary_variable f 0)) (tt {0}))
   change_fits a (Stepping direction) = (
     either_fits (is_regional a.cell) (loaded (temporary_variable f (suc (width a))) (temporary_variable f 0) (note_in a.cell)) (looked_at (temporary_variable f 0)) (tt {0}) (tt {0}),
     (tt {0}, (either_fits (is_regional a.cell) (stored (temporary_variable f (suc (width a))) (temporary_variable f 0) (note_in a.cell)) (looked_at (temporary_variable f 0)) (tt {0}) (tt {0}), tt {0})),

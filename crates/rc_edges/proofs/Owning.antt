@@ -1,8 +1,7 @@
 -- The nodes of a function whose parts fit together lead to its points, and their effects speak of its own variables.
-use Rattle.std.proofs.Common.{◌≡◌, ℕ, zero, suc, ◌+◌, ◌-◌, ◌<◌, ◌≤◌, Bool, true, false, cond, List, [], ◌∷◌, ◌++◌, map, length, take, get_or, Option, Some, None, IfSome, refl, sym, ap, ◌∙◌, subst, arith}
+use Rattle.std.proofs.Common.{◌≡◌, ℕ, zero, suc, ◌+◌, ◌*◌, ◌-◌, ◌<◌, ◌≤◌, Bool, true, false, cond, List, [], ◌∷◌, ◌++◌, map, replicate, length, take, get_or, Option, Some, None, IfSome, refl, sym, ap, ◌∙◌, subst, arith}
 use Rattle.std.specs.Prelude.{slice_get, count_by, drop as behind}
 use Rattle.std.proofs.lemmas.List.{length-map, length-append}
-use Rattle.std.proofs.lemmas.List.Sums.{sum_by-cons}
 use Rattle.rc_core.specs.declared.stmt.Change.{Change}
 use Rattle.rc_core.specs.declared.stmt.Change.TheVariants.{Compute, Step as Stepping}
 use Rattle.rc_core.specs.declared.ty.Signedness.{Signedness}
@@ -10,7 +9,7 @@ use Rattle.rc_core.specs.Types.{Ty, int, unsigned, char, region, struct, pointer
 use Rattle.rc_core.specs.Layout.{Layout, note_of}
 use Rattle.rc_core.specs.Typing.{value_type}
 use Rattle.rc_rlang.specs.Points.{change_points, end_points}
-use Rattle.rc_rlang.specs.Variables.{end_temporaries, is_reference}
+use Rattle.rc_rlang.specs.Variables.{end_temporaries}
 use Rattle.rc_rlang.specs.RegionCode.{Access, Index, shift_width, width, Operation, constant, null, static, copy, load, step, step_from, unary, binary, convert, not_zero, truth, is_null, same, call, new_region, new_subregion, region_of, allocate, allocate_array, putchar, getchar, Step, set, fork, Steps, none, more, Act, drop, perform, assign, store, update, move, delete, leave, Test, Code, simple, clear, block, branch, loop, repeat, break, continue, Codes, done, then, Routine, Rlang}
 use Rattle.rc_rlang.specs.IsRlang.{IsRlang, RoutineFits}
 use Rattle.rc_rlang.specs.RegionNames.{object_type, result_type, OperationStands, StepStands, StepsStand, ActStands, CodeStands, CodesStand}
@@ -18,7 +17,7 @@ use Rattle.rc_rlang.specs.RegionPoints.{step_points, steps_points, act_points, b
 use Rattle.rc_rlang.specs.RegionVariables.{step_temporaries, steps_temporaries, act_temporaries, code_temporaries, codes_temporaries, routine_temporaries, routine_variables}
 use Rattle.rc_rlang.specs.RegionFits.{operands, pushed, dropped, step_types, steps_types, index_types, shift_types, place_types, test_types, StepFits, StepsFit, ActFits, CodeFits, CodesFit}
 use Rattle.rc_rlang.specs.RegionKinds.{kind_ty, OperationKinded, StepKinded, StepsKinded, CodeKinded, CodesKinded}
-use Rattle.rc_rlang.specs.RegionFlow.{Effect, nothing, nulled, moved, loaded, looked_at, stored, present, absent, called, entered, Edge, Node, Ends, going, forking, one_of, is_regional, is_regional_cell, note_in, if_regional, first_of, in_line, numbers_below, local_variable, temporary_variable, regional_arguments, operation_effect, yes_effect, no_effect, step_nodes, steps_nodes, stored_value, loaded_value, change_effects, cell_effects, act_nodes, test_nodes, code_nodes, codes_nodes, entry_pairs, end_nodes, routine_nodes, variables}
+use Rattle.rc_rlang.specs.RegionFlow.{Effect, nothing, nulled, moved, loaded, looked_at, stored, present, absent, called, entered, Edge, Node, Ends, going, forking, one_of, is_regional, is_regional_cell, note_in, if_regional, first_of, in_line, local_variable, temporary_variable, regional_arguments, operation_effect, yes_effect, no_effect, step_nodes, steps_nodes, stored_value, loaded_value, change_effects, cell_effects, act_nodes, test_nodes, code_nodes, codes_nodes, entry_pairs, end_nodes, routine_nodes, variables}
 use Rattle.rc_annotations.specs.Heights.{temporaries_in, temporaries_of}
 use Rattle.rc_annotations.proofs.Nodes.{act_count, nodes_are_points}
 use Rattle.rc_annotations.proofs.Variables.{count_first}
@@ -217,9 +216,9 @@ module _ (f : Routine) (temporaries points : ℕ) where
     line_fine (e ∷ []) here next b n o = one_edge e next o b.0
     line_fine (e ∷ d ∷ es) here next b n o = ((one_edge e (suc here) (omega (arith, n)) b.0).0, line_fine (d ∷ es) (suc here) next b.1 (omega (arith, n)) o)
 
-    idle_effects : {A : Type 0} (xs : List A) (e : Effect) → EffectBelow top e → AllEffects (map (λ _. nothing) xs ++ e ∷ [])
-    idle_effects [] e b = (b, tt {0})
-    idle_effects (x ∷ xs) e b = (tt {0}, idle_effects xs e b)
+    idle_effects : (n : ℕ) (e : Effect) → EffectBelow top e → AllEffects (replicate n nothing ++ e ∷ [])
+    idle_effects zero e b = (b, tt {0})
+    idle_effects (suc n) e b = (tt {0}, idle_effects n e b)
 
     loaded_below : (cell : Ty) (value holder : ℕ) → value < temporaries → holder < temporaries → EffectBelow top (loaded_value f cell value holder)
     loaded_below cell v h l m = either_below (is_regional cell) (loaded (temporary_variable f v) (temporary_variable f h) (note_in cell)) (looked_at (temporary_variable f h)) (temporary_less v l, temporary_less h m) (temporary_less h m)
@@ -228,7 +227,7 @@ module _ (f : Routine) (temporaries points : ℕ) where
     stored_below cell v h l m = either_below (is_regional cell) (stored (temporary_variable f v) (temporary_variable f h) (note_in cell)) (looked_at (temporary_variable f h)) (temporary_less v l, temporary_less h m) (temporary_less h m)
 
     change_below : (a : Access) (change : Change) → suc (suc (width a)) ≤ temporaries → AllEffects (change_effects f a change)
-    change_below a (Compute from operator s) l = (temporary_less 0 (omega (arith, l)), idle_effects (behind 2 (numbers_below (change_points (Compute from operator s)))) (looked_at (temporary_variable f 0)) (temporary_less 0 (omega (arith, l))))
+    change_below a (Compute from operator s) l = (temporary_less 0 (omega (arith, l)), idle_effects (change_points (Compute from operator s) - 2) (looked_at (temporary_variable f 0)) (temporary_less 0 (omega (arith, l))))
     change_below a (Stepping direction) l =
         let w : suc (width a) < temporaries = omega (arith, l) in
         let z : 0 < temporaries = omega (arith, l) in
@@ -413,24 +412,11 @@ split_count zero tys = let e : 0 + count_by is_regional tys ≡ count_by is_regi
 split_count (suc n) [] = refl
 split_count (suc n) (t ∷ tys) = let h = split_count n tys in let c = count_first tys t in let d = count_first (take n tys) t in omega (arith, h, c, d)
 
-reference_regional : (t : Ty) → is_reference t ≡ is_regional t
-reference_regional int = refl
-reference_regional unsigned = refl
-reference_regional char = refl
-reference_regional region = refl
-reference_regional (struct k) = refl
-reference_regional (pointer note target) = refl
-
-same_count : (tys : List Ty) → count_by is_reference tys ≡ count_by is_regional tys
-same_count [] = refl
-same_count (t ∷ tys) = sum_by-cons (λ x. cond (is_reference x) 1 0) t tys ∙ ap (λ b. cond b 1 0 + count_by is_reference tys) (reference_regional t) ∙ ap (λ n. cond (is_regional t) 1 0 + n) (same_count tys) ∙ sym (count_first tys t)
-
 pub few_variables : (f : Routine) → routine_variables f ≤ 128 → variables f (routine_temporaries f) ≤ 128
 few_variables f l =
-    let a = same_count (take f.parameters f.locals) in
-    let b = same_count (behind f.parameters f.locals) in
+    let a : 2 * count_by is_regional (take f.parameters f.locals) + count_by is_regional (behind f.parameters f.locals) + routine_temporaries f + 2 ≤ 128 = l in
     let c = split_count f.parameters f.locals in
-    omega (arith, l, a, b, c)
+    omega (arith, a, c)
 
 -- by their numbers
 pub functions_own : (r : Rlang) → IsRlang r → (g : ℕ) (f : Routine) → slice_get r.functions g ≡ Some f → Owned r (temporaries_of r) g f

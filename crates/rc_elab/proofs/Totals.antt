@@ -12,7 +12,8 @@ use Rattle.rc_core.specs.declared.ty.Ty.{Ty}
 use Rattle.rc_core.specs.Programs.{Struct}
 use Rattle.rc_core.specs.Shapes.{expr_of, path_of, arguments_of, stmt_of, stmts_of, ty_of, function_of}
 use Rattle.rc_rlang.specs.Points.{points, arguments_points, path_points, statement_points, body_points}
-use Rattle.rc_rlang.specs.Variables.{is_reference, statement_temporaries, end_temporaries, function_temporaries, region_variables}
+use Rattle.rc_core.specs.Typing.{is_reference}
+use Rattle.rc_rlang.specs.Variables.{statement_temporaries, end_temporaries, function_temporaries, region_variables}
 
 pub total_step : {X : Type 0} (one : X → ℕ) (total : List X → ℕ) → ((x : X) (xs : List X) → total (x ∷ xs) ≡ one x + total xs) → (xs : List X) (i : ℕ) (x : X) → i < length xs → x ≡ get_or xs i x → total (drop i xs) ≡ one x + total (drop (i + 1) xs)
 total_step one total unfolds xs i x h e =

@@ -3,7 +3,8 @@ ghost use Rattle.std.specs.Prelude.{◌≡◌, ◌<◌, ◌≤◌, ◌+◌, ◌*
 ghost use Rattle.rc_base.specs.Limits.{most_variables};
 ghost use Rattle.rc_core.specs.Shapes.{expr_of, stmt_of, stmts_of, ty_of, function_of};
 ghost use Rattle.rc_rlang.specs.Bounds.{IsNarrow};
-ghost use Rattle.rc_rlang.specs.Variables.{temporaries, optional_temporaries, statement_temporaries, body_temporaries, end_temporaries, function_temporaries, is_reference, region_variables};
+ghost use Rattle.rc_core.specs.Typing.{is_reference};
+ghost use Rattle.rc_rlang.specs.Variables.{temporaries, optional_temporaries, statement_temporaries, body_temporaries, end_temporaries, function_temporaries, region_variables};
 
 use crate::budget::spend;
 use crate::temporaries::{expression, place};

@@ -1,3 +1,4 @@
 pub mod OneMask
 pub mod Removing
 pub mod Unmarked
+pub mod Checked

@@ -1,5 +1,5 @@
 -- Which stores make no check. A mask has a bit for each point of each function; it is set where the check of the store there may go.
-use Rattle.std.specs.Prelude.{◌≡◌, ◌↔◌, ℕ, Bool, true, false, List, [], length, map, get_or, replicate, slice_get, Option, Some, None}
+use Rattle.std.specs.Prelude.{◌≡◌, ◌↔◌, ℕ, Bool, true, false, List, [], length, map, get_or, replicate, slice_get, Option, Some, None, is_some}
 use Rattle.std.specs.declared.vec.Vec.{Vec}
 use Rattle.std.specs.declared.alloc.Global.{Global}
 use Rattle.rc_rlang.specs.RegionCode.{Routine, Rlang}
@@ -22,6 +22,18 @@ unmarked f = replicate (routine_points f) false
 
 abbrev pub no_marks : Rlang → List (List Bool)
 no_marks r = map unmarked r.functions
+
+-- a store to an annotated cell stands there, whose check asks for a fact
+abbrev pub asks : Option Node → Bool
+asks None = false
+asks (Some node) = is_some (asked_by node)
+
+abbrev pub asks_in : Option Routine → (point : ℕ) → Bool
+asks_in None p = false
+asks_in (Some f) p = asks (slice_get (routine_nodes f) p)
+
+abbrev pub has_check : Rlang → (function point : ℕ) → Bool
+has_check r g p = asks_in (slice_get r.functions g) p
 
 -- there is a bit for each point
 pub record HasPoints (r : Rlang) (rows : List (List Bool)) : Type 0 where

@@ -1,11 +1,11 @@
 // What the check of a store asks.
-ghost use Rattle.std.specs.Prelude.{◌≡◌, IfOk, length, get_or, slice_get, Some, ℕ};
+ghost use Rattle.std.specs.Prelude.{◌≡◌, IfOk, length, get_or, option_map, slice_get, Some, ℕ};
 ghost use Rattle.rc_rlang.specs.RegionFlow.{Node as RegionNode};
 ghost use Rattle.rc_annotations.specs.Annotations.{asked, asked_by, asked_of};
 ghost use Rattle.rc_facts.specs.Facts.{holds};
 ghost use Rattle.rc_flow.specs.Flow.{no_set};
 ghost use Rattle.rc_graph.specs.Nodes.{effect_of, node_of, nodes_of};
-ghost use Rattle.rc_elim.specs.Masks.{is_proven};
+ghost use Rattle.rc_elim.specs.Masks.{asks, is_proven};
 ghost use Rattle.rc_elim.specs.Asking.{AsksOver, bits_of};
 
 use rc_base::NoMemory;
@@ -44,6 +44,16 @@ fn asked_by(node: &Node) -> Option<Fact>
         Node::Go { effect, .. } => asked_of(effect),
         Node::Fork { left, .. } => asked_of(left),
         Node::Return { .. } => None,
+    }
+}
+
+/// Whether a node is there whose check asks for a fact.
+pub(crate) fn asks(nodes: &[Node], point: usize) -> bool
+    ensures { result ≡ asks (option_map node_of (slice_get nodes.now point)) }
+{
+    match nodes.get(point) {
+        None => false,
+        Some(node) => asked_by(node).is_some(),
     }
 }
 

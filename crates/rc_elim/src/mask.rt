@@ -1,14 +1,17 @@
 // Marks at stores.
-ghost use Rattle.std.specs.Prelude.{◌≡◌, ◌<◌, ◌||◌, ℕ, List, [], false, get_or, length, map, nat_eq, ◌&&◌, replicate, slice_set, true, IfOk};
+ghost use Rattle.std.specs.Prelude.{◌≡◌, ◌<◌, ◌||◌, ℕ, List, [], false, get_or, length, map, nat_eq, ◌&&◌, replicate, true, IfOk, OnOk, OnErr, slice_set};
 ghost use Rattle.rc_core.specs.Laid.{AreLaidOut};
 ghost use Rattle.rc_core.specs.Programs.{Struct};
 ghost use Rattle.rc_core.specs.Shapes.{struct_of};
+ghost use Rattle.rc_rlang.specs.Counted.{AreLayouts};
 ghost use Rattle.rc_rlang.specs.RegionCode.{Rlang as RegionCode};
 ghost use Rattle.rc_rlang.specs.Shapes.{rlang_of, routine_in};
-ghost use Rattle.rc_elim.specs.Masks.{HasPoints, marks_in, no_marks, rows_of, unmarked};
+ghost use Rattle.rc_elim.specs.Masks.{HasPoints, has_check, marks_in, no_marks, rows_of, unmarked};
 
+use crate::asking::asks;
 use rc_base::NoMemory;
 use rc_core::Layouts;
+use rc_graph::graph_of;
 use rc_rlang::code::{RegionParts, Routine};
 use rc_rlang::rlang::Rlang;
 use rc_rlang::{code_points, points_behind};
@@ -33,9 +36,12 @@ impl Model for Mask {
 
 /// For each point of a function that it isn't marked.
 fn unmarked(alloc: Global, layouts: &Layouts, routine: &Routine) -> Result<Vec<bool>, NoMemory>
+    requires laid { AreLayouts layouts.now }
     ensures { (structs : List Struct) → AreLaidOut structs layouts.now → IfOk result (λ bits. bits.items ≡ unmarked (routine_in structs routine.now)) }
 {
-    let body = code_points(layouts, &routine.body)?;
+    let Some(body) = code_points(layouts, &routine.body) else {
+        return Err(NoMemory);
+    };
     let points = 1 + body as usize + points_behind(&routine.result) as usize;
     Ok(Vec::from_elem(alloc, false, points)?)
 }
@@ -54,6 +60,19 @@ fn no_marks(
         rows.push(unmarked(alloc, layouts, routine)?)?;
     }
     Ok(rows)
+}
+
+/// Whether a store to an annotated cell stands at a point of the code.
+fn has_check(alloc: Global, code: &Rlang, function: u32, point: u32) -> Result<bool, NoMemory>
+    ensures { IfOk result (λ there. there ≡ has_check (rlang_of code.now) function point) }
+{
+    let parts = code.parts();
+    let Some(routine) = parts.functions.get(function as usize) else {
+        return Ok(false);
+    };
+    let layouts = Layouts::new(alloc, parts.structs.as_slice())?;
+    let graph = graph_of(alloc, &layouts, routine)?;
+    Ok(asks(graph.nodes.as_slice(), point as usize))
 }
 
 /// Sets a bit.
@@ -90,16 +109,40 @@ impl Mask {
         }
     }
 
-    /// Marks a point that is there, and changes nothing else: all others are marked as before, and each
-    /// function has as many. It is not asked what stands at the point; a mark where no store to an annotated
-    /// cell stands is never read.
-    pub fn remove(&mut self, function: u32, point: u32)
+    /// Marks a point that is there, and changes nothing else.
+    fn mark(&mut self, function: u32, point: u32)
         requires { point < length (get_or self.old function []) }
-        ensures rows { self.new ≡ slice_set self.old function (slice_set (get_or self.old function []) point true) }
         ensures points { (r : RegionCode) → HasPoints r self.old → HasPoints r self.new }
         ensures marks { (g p : ℕ) → marks_in self.new g p ≡ (nat_eq g function && nat_eq p point || marks_in self.old g p) }
     {
         set(&mut self.rows[function as usize], point as usize);
+    }
+
+    /// Marks the store to an annotated cell that stands at a point of the code, and answers whether one
+    /// does. Every other point is marked as before, and where no such store stands this one too.
+    ///
+    /// # Errors
+    ///
+    /// Out of memory: then nothing is changed.
+    pub fn remove(
+        &mut self,
+        alloc: Global,
+        code: &Rlang,
+        function: u32,
+        point: u32,
+    ) -> Result<bool, NoMemory>
+        requires { HasPoints (rlang_of code.now) self.old }
+        ensures store { IfOk result (λ there. there ≡ has_check (rlang_of code.now) function point) }
+        ensures points { HasPoints (rlang_of code.now) self.new }
+        ensures marks { OnOk result ((g p : ℕ) → marks_in self.new g p ≡ (has_check (rlang_of code.now) function point && (nat_eq g function && nat_eq p point) || marks_in self.old g p)) }
+        ensures kept { OnErr result (self.new ≡ self.old) }
+    {
+        let there = has_check(alloc, code, function, point)?;
+        if !there {
+            return Ok(false);
+        }
+        self.mark(function, point);
+        Ok(true)
     }
 
     /// Whether a point is marked. One that isn't there is not.

@@ -1,8 +1,8 @@
 -- Nodes of parts of code, one behind another.
-use Rattle.std.proofs.Common.{◌≡◌, ◌<◌, ◌≤◌, ◌-◌, ◌+◌, ℕ, zero, suc, Bool, true, false, List, [], ◌∷◌, ◌++◌, length, map, take, drop, refl, sym, ap, ◌∙◌, arith, append_assoc, nat_eq, nat_lt}
-use Rattle.std.specs.Prelude.{Option, Some, Result, Ok, Err, OnOk, slice_get}
+use Rattle.std.proofs.Common.{◌≡◌, ◌<◌, ◌≤◌, ◌-◌, ◌+◌, ℕ, zero, suc, Bool, true, false, List, [], ◌∷◌, ◌++◌, length, map, replicate, take, drop, refl, sym, ap, ◌∙◌, arith, append_assoc, nat_eq, nat_lt}
+use Rattle.std.specs.Prelude.{Option, Some, None, MatchOption, Result, Ok, Err, OnOk, slice_get}
 use Rattle.std.proofs.lemmas.Bool.{eqb-true, eq-eqb, ltb-true, ltb-false}
-use Rattle.std.proofs.lemmas.List.{length-drop}
+use Rattle.std.proofs.lemmas.Option.{same_Some}
 use Rattle.rc_core.specs.Programs.{Struct}
 use Rattle.rc_rlang.specs.declared.steps.Step.{Step as CodeStep}
 use Rattle.rc_rlang.specs.Shapes.{step_of, steps_of}
@@ -10,7 +10,7 @@ use Rattle.rc_core.specs.Types.{Ty}
 use Rattle.rc_core.specs.Layout.{Layout, note_of}
 use Rattle.rc_rlang.specs.RegionCode.{Step, set, fork, Steps, more, Act, Test, Code, simple, branch, loop, repeat, Codes, then, Routine}
 use Rattle.rc_rlang.specs.RegionPoints.{steps_points, step_points, code_points, codes_points}
-use Rattle.rc_rlang.specs.RegionFlow.{Node, Effect, nulled, if_regional, returned_variable, returning, entered, entry_pairs, end_nodes, routine_nodes, one_of, numbers_below, nothing, looked_at, is_regional_cell, loading, storing, going, forking, yes_effect, no_effect, Ends, first_of, step_nodes, steps_nodes, act_nodes, test_nodes, code_nodes, codes_nodes, in_line, cell_effects, temporary_variable}
+use Rattle.rc_rlang.specs.RegionFlow.{Node, Effect, nulled, if_regional, returned_variable, returning, entered, entry_pairs, end_nodes, routine_nodes, one_of, nothing, looked_at, is_regional_cell, loading, storing, going, forking, yes_effect, no_effect, Ends, first_of, step_nodes, steps_nodes, act_nodes, test_nodes, code_nodes, codes_nodes, in_line, cell_effects, temporary_variable}
 use Rattle.rc_plans.specs.declared.plans.ForkPlan.{ForkPlan}
 use Rattle.rc_plans.specs.declared.plans.ActPlan.{ActPlan}
 use Rattle.rc_plans.specs.declared.plans.BranchPlan.{BranchPlan}
@@ -31,6 +31,11 @@ four old m1 m2 m3 new a b c d e g h i = two old m1 new a (b ++ (c ++ d)) e (thre
 
 five : {A : Type 0} (old m1 m2 m3 m4 new a b c d e : List A) → m1 ≡ old ++ a → m2 ≡ m1 ++ b → m3 ≡ m2 ++ c → m4 ≡ m3 ++ d → new ≡ m4 ++ e → new ≡ old ++ (a ++ (b ++ (c ++ (d ++ e))))
 five old m1 m2 m3 m4 new a b c d e h i j k l = two old m1 new a (b ++ (c ++ (d ++ e))) h (four m1 m2 m3 m4 new b c d e i j k l)
+
+-- what is there is what it should be
+pub from_plan : {A : Type 0} (o : Option A) (known it : A) (P : Type 0) → o ≡ Some known → MatchOption o P (λ x. x ≡ it) → known ≡ it
+from_plan (Some x) known it P e h = sym (same_Some x known e) ∙ h
+from_plan None known it P e h = cc
 
 -- the point behind, or the next one where nothing is left
 abbrev pub last_or : {A : Type 0} → List A → (next behind : ℕ) → ℕ
@@ -112,10 +117,10 @@ pub idle_last : (n here : ℕ) → idle_nodes (suc n) here ≡ idle_nodes n here
 idle_last zero here = ap (λ x. going nothing (suc x) ∷ []) (let e : here ≡ here + 0 = omega arith in e)
 idle_last (suc n) here = ap (λ x. going nothing (suc here) ∷ x) (idle_last n (suc here) ∙ ap (λ x. idle_nodes n (suc here) ++ going nothing (suc x) ∷ []) (let e : suc here + n ≡ here + suc n = omega arith in e))
 
-pub idle_line : {A : Type 0} (xs : List A) (e : Effect) (here next : ℕ) → in_line (map (λ _. nothing) xs ++ e ∷ []) here next ≡ idle_nodes (length xs) here ++ going e next ∷ []
-idle_line [] e here next = refl
-idle_line (x ∷ []) e here next = refl
-idle_line (x ∷ y ∷ ys) e here next = ap (λ z. going nothing (suc here) ∷ z) (idle_line (y ∷ ys) e (suc here) next)
+pub idle_line : (n : ℕ) (e : Effect) (here next : ℕ) → in_line (replicate n nothing ++ e ∷ []) here next ≡ idle_nodes n here ++ going e next ∷ []
+idle_line zero e here next = refl
+idle_line (suc zero) e here next = refl
+idle_line (suc (suc n)) e here next = ap (λ z. going nothing (suc here) ∷ z) (idle_line (suc n) e (suc here) next)
 
 -- where a part leads that stands before others
 
@@ -170,25 +175,19 @@ split_at (x ∷ xs) (suc i) l = let r = split_at xs i (omega (arith, l)) in reco
 
 -- the points of an update of a number
 
-numbers_length : (n : ℕ) → length (numbers_below n) ≡ n
-numbers_length zero = refl
-numbers_length (suc n) = ap suc (numbers_length n)
-
-line_more : {A : Type 0} (e : Effect) (xs : List A) (d : Effect) (here next : ℕ) → in_line (e ∷ (map (λ _. nothing) xs ++ d ∷ [])) here next ≡ going e (suc here) ∷ in_line (map (λ _. nothing) xs ++ d ∷ []) (suc here) next
-line_more e [] d here next = refl
-line_more e (x ∷ xs) d here next = refl
+line_more : (e : Effect) (n : ℕ) (d : Effect) (here next : ℕ) → in_line (e ∷ (replicate n nothing ++ d ∷ [])) here next ≡ going e (suc here) ∷ in_line (replicate n nothing ++ d ∷ []) (suc here) next
+line_more e zero d here next = refl
+line_more e (suc n) d here next = refl
 
 pub compute_done : (holder points count here second next : ℕ) (old m1 m2 new : List Node) → count ≡ points - 2 → second ≡ here + 1 → m1 ≡ old ++ going (looked_at holder) second ∷ [] → m2 ≡ m1 ++ idle_nodes count second →
-    new ≡ m2 ++ going (looked_at holder) next ∷ [] → new ≡ old ++ in_line (looked_at holder ∷ (map (λ _. nothing) (drop 2 (numbers_below points)) ++ looked_at holder ∷ [])) here next
+    new ≡ m2 ++ going (looked_at holder) next ∷ [] → new ≡ old ++ in_line (looked_at holder ∷ (replicate (points - 2) nothing ++ looked_at holder ∷ [])) here next
 compute_done holder points count here second next old m1 m2 new k s one mid last =
-    let xs = drop 2 (numbers_below points) in
     let at : second ≡ suc here = omega (arith, s) in
-    let many : count ≡ length xs = k ∙ ap (λ n. n - 2) (sym (numbers_length points)) ∙ sym (length-drop 2 (numbers_below points)) in
     three old m1 m2 new (going (looked_at holder) second ∷ []) (idle_nodes count second) (going (looked_at holder) next ∷ []) one mid last
     ∙ ap (λ n. old ++ (going (looked_at holder) n ∷ (idle_nodes count n ++ going (looked_at holder) next ∷ []))) at
-    ∙ ap (λ n. old ++ (going (looked_at holder) (suc here) ∷ (idle_nodes n (suc here) ++ going (looked_at holder) next ∷ []))) many
-    ∙ ap (λ ys. old ++ (going (looked_at holder) (suc here) ∷ ys)) (sym (idle_line xs (looked_at holder) (suc here) next))
-    ∙ ap (λ ys. old ++ ys) (sym (line_more (looked_at holder) xs (looked_at holder) here next))
+    ∙ ap (λ n. old ++ (going (looked_at holder) (suc here) ∷ (idle_nodes n (suc here) ++ going (looked_at holder) next ∷ []))) k
+    ∙ ap (λ ys. old ++ (going (looked_at holder) (suc here) ∷ ys)) (sym (idle_line (points - 2) (looked_at holder) (suc here) next))
+    ∙ ap (λ ys. old ++ ys) (sym (line_more (looked_at holder) (points - 2) (looked_at holder) here next))
 
 pub points_done : (l d s x y : Effect) (here second third next : ℕ) (old m1 m2 new : List Node) → second ≡ here + 1 → third ≡ second + 1 → x ≡ l → y ≡ s → m1 ≡ old ++ going x second ∷ [] → m2 ≡ m1 ++ going d third ∷ [] → new ≡ m2 ++ going y next ∷ [] →
     new ≡ old ++ (going l (suc here) ∷ going d (suc (suc here)) ∷ going s next ∷ [])

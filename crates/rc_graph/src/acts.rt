@@ -1,12 +1,12 @@
 // The nodes of what is done with values.
-ghost use Rattle.std.specs.Prelude.{◌≡◌, ◌++◌, ◌∷◌, [], ◌+◌, ℕ, suc, Some, None, List, OnOk, IfOk, drop as behind, length, option_map, map, slice_get};
+ghost use Rattle.std.specs.Prelude.{◌≡◌, ◌++◌, ◌∷◌, [], ◌+◌, ◌-◌, ℕ, suc, Some, None, List, OnOk, IfOk, drop, length, option_map, map, replicate, slice_get};
 ghost use Rattle.rc_core.specs.Programs.{Struct};
 ghost use Rattle.rc_core.specs.Shapes.{ty_of};
 ghost use Rattle.rc_core.specs.Layout.{Layout, note_of, cells as cells_of_type};
 ghost use Rattle.rc_core.specs.Types.{CellKind, struct};
 ghost use Rattle.rc_core.specs.Laid.{kind_of};
 ghost use Rattle.rc_rlang.specs.RegionCode.{Routine, width};
-ghost use Rattle.rc_rlang.specs.RegionFlow.{act_nodes, cell_effects, change_effects, in_line, if_regional, nothing, beside, looked_at, moved, numbers_below, one_of, is_regional as is_regional_type, is_regional_cell, loading, storing, loaded_value, stored_value, local_variable, returned_variable, returning, temporary_variable};
+ghost use Rattle.rc_rlang.specs.RegionFlow.{act_nodes, cell_effects, change_effects, in_line, if_regional, nothing, beside, looked_at, moved, one_of, is_regional as is_regional_type, is_regional_cell, loading, storing, loaded_value, stored_value, local_variable, returned_variable, returning, temporary_variable};
 ghost use Rattle.rc_rlang.specs.Points.{change_points};
 ghost use Rattle.rc_rlang.specs.Shapes.{access_of, act_of};
 ghost use Rattle.rc_graph.specs.Nodes.{Serves, effect_of, nodes_of, idle_nodes};
@@ -21,7 +21,7 @@ use rc_core::stmt::Change;
 use rc_core::ty::{Note, Ty};
 use rc_plans::{add, width_of};
 use rc_rlang::access::Access;
-use rc_rlang::act_points;
+use rc_rlang::change_points;
 use rc_rlang::code::Act;
 
 /// The variables of a struct copy: of the cell's value, and of the two pointers.
@@ -54,7 +54,7 @@ fn compute(
     here: u32,
     next: u32,
 ) -> Result<(), NoMemory>
-    ensures { OnOk result (nodes_of out.new.items ≡ nodes_of out.old.items ++ in_line (looked_at holder ∷ (map (λ _. nothing) (behind 2 (numbers_below points)) ++ looked_at holder ∷ [])) here next) }
+    ensures { OnOk result (nodes_of out.new.items ≡ nodes_of out.old.items ++ in_line (looked_at holder ∷ (replicate (points - 2) nothing ++ looked_at holder ∷ [])) here next) }
 {
     let second = add(here, 1)?;
     go(out, Effect::LookedAt(holder), second)?;
@@ -261,10 +261,7 @@ pub(crate) fn act(
             access,
             change: way,
             ..
-        } => {
-            let points = act_points(context.layouts, act)?;
-            update(context, access, *way, points, here, next, out)
-        }
+        } => { update(context, access, *way, change_points(*way), here, next, out) }
         Act::Move {
             structure,
             left,

@@ -3,6 +3,7 @@ ghost use Rattle.std.specs.Prelude.{◌≡◌, ◌≤◌, ◌+◌, ◌++◌, ◌
 ghost use Rattle.rc_core.specs.Programs.{Struct};
 ghost use Rattle.rc_core.specs.Laid.{AreLaidOut};
 ghost use Rattle.rc_core.specs.Shapes.{ty_of};
+ghost use Rattle.rc_rlang.specs.Counted.{AreLayouts};
 ghost use Rattle.rc_rlang.specs.RegionCode.{Routine as RegionRoutine};
 ghost use Rattle.rc_rlang.specs.RegionFlow.{entered, entry_pairs, end_nodes, routine_nodes, nulled, if_regional, temporary_variable};
 ghost use Rattle.rc_rlang.specs.Shapes.{code_of, routine_in};
@@ -12,7 +13,7 @@ ghost use Rattle.rc_plans.specs.Plans.{routine_plan};
 use crate::acts::given;
 use crate::names::{Names, is_regional, number};
 use crate::node::{Effect, Entry, Node};
-use crate::output::{Context, Ways, go, leave};
+use crate::output::{Context, Ways, go, known, leave};
 use crate::walk::code;
 use rc_base::NoMemory;
 use rc_core::Layouts;
@@ -98,9 +99,10 @@ fn end(
 
 /// The nodes of a function, from its entry on.
 fn nodes(context: &Context, routine: &Routine, out: &mut Vec<Node>) -> Result<(), NoMemory>
+    requires laid { AreLayouts context.now.layouts.now }
     ensures { (structs : List Struct) → Serves context.now structs (routine_in structs routine.now) → OnOk result (nodes_of out.new.items ≡ nodes_of out.old.items ++ routine_nodes (routine_in structs routine.now)) }
 {
-    let plan = plan_routine(context.layouts, &routine.body)?;
+    let plan = known(plan_routine(context.layouts, &routine.body))?;
     let entries = entries(context.alloc, context.names, parameters(routine))?;
     go(out, Effect::Entered { entries }, plan.first)?;
     let ways = Ways {
@@ -118,6 +120,7 @@ fn nodes(context: &Context, routine: &Routine, out: &mut Vec<Node>) -> Result<()
 ///
 /// Out of memory, which is also said where a number is no `u32`.
 pub fn graph_of(alloc: Global, layouts: &Layouts, routine: &Routine) -> Result<Graph, NoMemory>
+    requires laid { AreLayouts layouts.now }
     ensures { (structs : List Struct) → AreLaidOut structs layouts.now → IfOk result (IsGraph (routine_in structs routine.now)) }
 {
     let names = number(alloc, routine.parameters, routine.locals.as_slice())?;

@@ -1,5 +1,5 @@
 // Nodes one behind another.
-ghost use Rattle.std.specs.Prelude.{◌≡◌, ◌++◌, ◌∷◌, [], OnOk};
+ghost use Rattle.std.specs.Prelude.{◌≡◌, ◌++◌, ◌∷◌, [], Some, IfOk, OnOk};
 ghost use Rattle.rc_rlang.specs.RegionFlow.{going, forking, returning, one_of};
 ghost use Rattle.rc_graph.specs.Nodes.{effect_of, nodes_of};
 
@@ -55,6 +55,16 @@ pub(crate) fn either(so: bool, first: u32, second: u32) -> u32
     ensures { result ≡ one_of so first second }
 {
     if so { first } else { second }
+}
+
+/// What is there, as it is but where a point is no `u32`.
+pub(crate) fn known<T>(it: Option<T>) -> Result<T, NoMemory>
+    ensures { IfOk result (λ known. it ≡ Some known) }
+{
+    match it {
+        Some(known) => Ok(known),
+        None => Err(NoMemory),
+    }
 }
 
 /// Puts a point with one way on behind the others.

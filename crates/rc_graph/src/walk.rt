@@ -2,6 +2,7 @@
 ghost use Rattle.std.specs.Prelude.{◌≡◌, ◌<◌, ◌≤◌, ◌+◌, ◌++◌, ◌∷◌, [], ℕ, suc, zero, Option, Some, List, IfOk, OnOk, drop, length, option_map, map};
 ghost use Rattle.rc_core.specs.Programs.{Struct};
 ghost use Rattle.rc_core.specs.Shapes.{ty_of};
+ghost use Rattle.rc_rlang.specs.Counted.{AreLayouts};
 ghost use Rattle.rc_rlang.specs.RegionCode.{Routine};
 ghost use Rattle.rc_rlang.specs.RegionFlow.{if_regional, nulled, step_nodes, steps_nodes, act_nodes, test_nodes, code_nodes, codes_nodes, local_variable};
 ghost use Rattle.rc_rlang.specs.Shapes.{step_of, steps_of, act_of, test_of, code_of, codes_of};
@@ -11,7 +12,7 @@ use crate::acts::act;
 use crate::names::is_regional;
 use crate::node::{Effect, Node};
 use crate::operations::{found_false, found_true, operation};
-use crate::output::{Context, Ways, either, fork, go};
+use crate::output::{Context, Ways, either, fork, go, known};
 use rc_base::NoMemory;
 use rc_core::ty::Ty;
 use rc_plans::{
@@ -45,7 +46,7 @@ fn step(
             no,
             ..
         } => {
-            let plan = plan_fork(yes.as_slice(), no.as_slice(), here, next)?;
+            let plan = known(plan_fork(yes.as_slice(), no.as_slice(), here, next))?;
             let variable = context.names.temporary(*temporary)?;
             let truth = found_true(test, variable);
             let falsehood = found_false(test, variable);
@@ -70,7 +71,7 @@ fn steps(
     let mut at = here;
     for i in 0..steps.len() {
         let one = &steps[i];
-        let behind = past_step(one, at)?;
+        let behind = known(past_step(one, at))?;
         let to = either(i + 1 == steps.len(), next, behind);
         step(context, one, at, to, out)?;
         at = behind;
@@ -136,6 +137,7 @@ pub(crate) fn code(
     ways: &Ways,
     out: &mut Vec<Node>,
 ) -> Result<(), NoMemory>
+    requires laid { AreLayouts context.now.layouts.now }
     ensures { (structs : List Struct) (f : Routine) → Serves context.now structs f → OnOk result (nodes_of out.new.items ≡ nodes_of out.old.items ++ code_nodes f (code_of structs code.now) here (ends_of ways.now)) }
 {
     match code {
@@ -143,7 +145,7 @@ pub(crate) fn code(
             steps: all,
             act: last,
         } => {
-            let plan = plan_act(context.layouts, all.as_slice(), last, here, ways.next)?;
+            let plan = known(plan_act(context.layouts, all.as_slice(), last, here, ways.next))?;
             steps(context, all.as_slice(), here, plan.behind, out)?;
             act(context, last, plan.at_act, ways.next, out)
         }
@@ -155,7 +157,14 @@ pub(crate) fn code(
             yes,
             no,
         } => {
-            let plan = plan_branch(context.layouts, all.as_slice(), yes, no, here, ways.next)?;
+            let plan = known(plan_branch(
+                context.layouts,
+                all.as_slice(),
+                yes,
+                no,
+                here,
+                ways.next,
+            ))?;
             steps(context, all.as_slice(), here, plan.at_test, out)?;
             branch(context, test, plan.taken, plan.past, out)?;
             self::code(context, yes, plan.at_yes, ways, out)?;
@@ -168,7 +177,7 @@ pub(crate) fn code(
             body,
             ..
         } => {
-            let plan = plan_loop(context.layouts, all.as_slice(), test, third, body, here)?;
+            let plan = known(plan_loop(context.layouts, all.as_slice(), test, third, body, here))?;
             go(out, Effect::Nothing, plan.entry)?;
             steps(context, all.as_slice(), plan.first, plan.at_test, out)?;
             condition(context, test, plan.inside, ways.next, out)?;
@@ -181,7 +190,7 @@ pub(crate) fn code(
             test,
             ..
         } => {
-            let plan = plan_repeat(context.layouts, body, all.as_slice(), here)?;
+            let plan = known(plan_repeat(context.layouts, body, all.as_slice(), here))?;
             go(out, Effect::Nothing, plan.entry)?;
             self::code(context, body, plan.first, &ways.round(plan.tail), out)?;
             steps(context, all.as_slice(), plan.at_tail, plan.at_test, out)?;
@@ -201,13 +210,14 @@ fn codes(
     ways: &Ways,
     out: &mut Vec<Node>,
 ) -> Result<(), NoMemory>
+    requires laid { AreLayouts context.now.layouts.now }
     ensures { (structs : List Struct) (f : Routine) → Serves context.now structs f → OnOk result (nodes_of out.new.items ≡ nodes_of out.old.items ++ codes_nodes f (codes_of structs body.now) here (ends_of ways.now)) }
 {
-    let last = busy(context.layouts, body)?;
+    let last = busy(context.layouts, body);
     let mut at = here;
     for i in 0..body.len() {
         let one = &body[i];
-        let behind = past_code(context.layouts, one, at)?;
+        let behind = known(past_code(context.layouts, one, at))?;
         let to = either(i + 1 < last, behind, ways.next);
         code(context, one, at, &ways.then(to), out)?;
         at = behind;

@@ -8,7 +8,7 @@ use Rattle.rc_core.specs.WellTyped.{IsVariable}
 use Rattle.rc_rlang.specs.RegionCode.{Routine}
 use Rattle.rc_rlang.specs.RegionRuns.{pins_from}
 use Rattle.rc_rlang.specs.RegionVariables.{routine_variables}
-use Rattle.rc_rlang.specs.Variables.{is_reference}
+use Rattle.rc_core.specs.Typing.{is_reference}
 use Rattle.rc_live.specs.Rows.{numbered}
 
 numbered_from : (structs : List Struct) (types : List Ty) (base : ℕ) → ((x : ℕ) (ty : Ty) → slice_get types x ≡ Some ty → IsVariable structs ty) → length (pins_from types base (λ x. true)) ≡ count_by is_reference types

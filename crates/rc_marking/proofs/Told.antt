@@ -11,7 +11,7 @@ use Rattle.rc_marks.specs.Marked.{Stored}
 use Rattle.rc_marks.specs.Counted.{Placed, in_function, placed_from, all_sites, stored}
 use Rattle.rc_marks.proofs.Counted.{stores_are_sites}
 use Rattle.rc_reports.specs.declared.entry.Entry.{Entry}
-use Rattle.rc_reports.specs.Listed.{listed, all_listed}
+use Rattle.rc_reports.specs.Listed.{listed}
 use Rattle.rc_reports.specs.Reports.{entry_of, entries_from, entries}
 use Rattle.rc_reports.proofs.One.{one_report}
 use Rattle.rc_marking.specs.Told.{ReportTellsOfImage}
@@ -54,10 +54,10 @@ module _ (test : Site → Bool) where
     in_code (break line) here = refl
     in_code (continue line) here = refl
 
-    in_codes : (cs : Codes) (here : ℕ) → count_by test (all_listed cs here) ≡ count_by test (codes_sites cs here)
+    in_codes : (cs : Codes) (here : ℕ) → count_by test (listed (block cs) here) ≡ count_by test (codes_sites cs here)
     in_codes done here = refl
     in_codes (then c rest) here =
-        both test (listed c here) (all_listed rest (here + code_points c)) (code_sites c here) (codes_sites rest (here + code_points c)) (in_code c here) (in_codes rest (here + code_points c))
+        both test (listed c here) (listed (block rest) (here + code_points c)) (code_sites c here) (codes_sites rest (here + code_points c)) (in_code c here) (in_codes rest (here + code_points c))
 
 module _ (passes : (line : ℕ) → Note → Bool → Bool) (marks : (function point : ℕ) → Bool) where
   abbrev of_entry : Entry → Bool

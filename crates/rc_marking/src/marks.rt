@@ -3,6 +3,7 @@ ghost use Rattle.std.specs.Prelude.{◌≡◌, ◌++◌, List, IfOk, OnOk};
 ghost use Rattle.rc_core.specs.Laid.{AreLaidOut};
 ghost use Rattle.rc_core.specs.Programs.{Struct};
 ghost use Rattle.rc_elim.specs.Masks.{marks_in};
+ghost use Rattle.rc_rlang.specs.Counted.{AreLayouts};
 ghost use Rattle.rc_rlang.specs.Shapes.{rlang_of, routine_in};
 ghost use Rattle.rc_marks.specs.InOrder.{marks_in_order, routine_marks};
 
@@ -23,6 +24,7 @@ fn add_marks(
     routine: &Routine,
     out: &mut Vec<bool>,
 ) -> Result<(), NoMemory>
+    requires laid { AreLayouts layouts.now }
     ensures { (structs : List Struct) → AreLaidOut structs layouts.now → OnOk result (out.new.items ≡ out.old.items ++ routine_marks (marks_in mask.now function) (routine_in structs routine.now)) }
 {
     for site in sites_by_points(alloc, layouts, routine)?.as_slice() {

@@ -8,12 +8,10 @@ use Rattle.rc_rlang.specs.Sites.{Site, code_sites}
 use Rattle.rc_annotations.specs.Annotations.{Removable}
 use Rattle.rc_annotations.specs.Heights.{temporaries_of}
 use Rattle.rc_marks.specs.InOrder.{routine_marks, functions_marks, marks_in_order, mask_of}
-use Rattle.rc_marks.specs.Stores.{Store, stores}
+use Rattle.rc_marks.specs.Stores.{Store, store_of}
 use Rattle.rc_marks.specs.Marked.{Stored, image_stores, with_bits, marked_image}
 use Rattle.rc_marks.proofs.MarksCounted.{has_its_marks}
 use Rattle.rc_marks.specs.Counted.{Placed, in_function, placed_from, all_sites, stored, is_stored, same_note, same_bit, StoresAreSites, ImagesHaveAsMany}
-use Rattle.rc_marks.proofs.SitedBy.{store_of}
-use Rattle.rc_marks.proofs.Sited.{sites_stored}
 
 store_at : Placed → Store
 store_at s = record { line = s.line; note = s.note }
@@ -65,7 +63,7 @@ module _ (marks : (function point : ℕ) → Bool) where
 pub stores_are_sites : StoresAreSites
 stores_are_sites r numberable marks =
     has_its_marks r (mask_of marks r) numberable
-    ∙ ap (with_bits (mask_of marks r) 0) (sym (sites_stored r) ∙ stores_placed marks 0 r.functions)
+    ∙ ap (with_bits (mask_of marks r) 0) (stores_placed marks 0 r.functions)
     ∙ ap (λ bs. with_bits (λ n. get_or bs n false) 0 (map store_at (all_sites r))) (marks_placed marks 0 r.functions)
     ∙ zipped marks [] (all_sites r)
 

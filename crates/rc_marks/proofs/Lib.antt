@@ -1,6 +1,6 @@
 pub mod Written
 pub mod MarksCounted
-pub mod SitedBy
+pub mod CodeStores
 pub mod Sited
 pub mod Counted
 pub mod Bare

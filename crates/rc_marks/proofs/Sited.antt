@@ -5,12 +5,12 @@ use Rattle.rc_core.specs.declared.ty.Note.{Note}
 use Rattle.rc_core.specs.declared.ty.Note.TheVariants.{Plain, SameRegion, ParentPtr, Traditional}
 use Rattle.rc_core.specs.Types.{Ty, int, unsigned, char, region, struct, pointer}
 use Rattle.rc_core.specs.Layout.{Layout, note_of}
-use Rattle.rc_rlang.specs.RegionCode.{Act, store, update, move, Code, simple, clear, block, branch, loop, repeat, break, continue, Codes, done, then, Routine, Rlang}
+use Rattle.rc_rlang.specs.RegionCode.{Act, store, update, move, Code, simple, clear, block, branch, loop, repeat, break, continue, Codes, done, then, Routine}
 use Rattle.rc_rlang.specs.RegionFlow.{note_in}
 use Rattle.rc_rlang.specs.RegionPoints.{steps_points, branch_points, code_points}
 use Rattle.rc_rlang.specs.Sites.{Site, store_sites, cells_sites, act_sites, code_sites, codes_sites, before_store}
-use Rattle.rc_marks.specs.Stores.{Store, note_on, annotated, cells_stores, act_stores, code_stores, codes_stores}
-use Rattle.rc_marks.proofs.SitedBy.{store_of, SitesAreStores}
+use Rattle.rc_marks.specs.Stores.{Store, note_on, annotated, store_of}
+use Rattle.rc_marks.proofs.CodeStores.{cells_stores, act_stores, code_stores, codes_stores}
 
 same_note : (ty : Ty) → note_in ty ≡ note_on ty
 same_note int = refl
@@ -61,9 +61,6 @@ mutual
   codes_sited (then c rest) here =
       joined (code_sites c here) (codes_sites rest (here + code_points c)) (code_stores c) (codes_stores rest) (code_sited c here) (codes_sited rest (here + code_points c))
 
-functions_sited : (fs : List Routine) → flat_map (λ (f : Routine). map store_of (code_sites f.body 1)) fs ≡ flat_map (λ (f : Routine). code_stores f.body) fs
+pub functions_sited : (fs : List Routine) → flat_map (λ (f : Routine). map store_of (code_sites f.body 1)) fs ≡ flat_map (λ (f : Routine). code_stores f.body) fs
 functions_sited [] = refl
 functions_sited (f ∷ fs) = λ k. code_sited f.body 1 k ++ functions_sited fs k
-
-pub sites_stored : (r : Rlang) → SitesAreStores r
-sites_stored r = functions_sited r.functions

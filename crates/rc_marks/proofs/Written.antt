@@ -24,7 +24,9 @@ use Rattle.rc_emission.specs.OperationCode.{line_of, at, zero_test, test_code, w
 use Rattle.rc_emission.specs.StatementCode.{Place, zero_code, cell_type, further, exit_test, exit_lines, set_code, gets, steps_lines, step_lines, change_code, cells_code, pops, last_line, act_lines, code_lines, codes_lines, end_lines}
 use Rattle.rc_emission.specs.KeptOperands.{slots_of}
 use Rattle.rc_numbering.specs.Names.{stack_of}
-use Rattle.rc_marks.specs.Stores.{Store, note_on, annotated, cells_stores, act_stores, code_stores, codes_stores, written_one, written, WritesItsStores}
+use Rattle.rc_marks.specs.Stores.{Store, note_on, annotated, written_one, written, WritesItsStores}
+use Rattle.rc_marks.proofs.CodeStores.{cells_stores, act_stores, code_stores, codes_stores}
+use Rattle.rc_marks.proofs.Sited.{functions_sited}
 
 written_append : (a b : List Line) → written (a ++ b) ≡ written a ++ written b
 written_append [] b = refl
@@ -275,7 +277,7 @@ function_written r f =
     ∙ append_none (code_stores f.body)
 
 pub stores_written : (r : Rlang) → WritesItsStores r
-stores_written r = by r.functions
+stores_written r = by r.functions ∙ sym (functions_sited r.functions)
   where
     by : (fs : List Routine) → flat_map (λ (f : Routine). written (stack_of r f).code) fs ≡ flat_map (λ (f : Routine). code_stores f.body) fs
     by [] = refl

@@ -1,5 +1,5 @@
 -- Where the parts of code stand, and where they lead.
-use Rattle.std.specs.Prelude.{◌≡◌, ℕ, suc, ◌+◌, ◌<◌, ◌≤◌, List, drop, Option}
+use Rattle.std.specs.Prelude.{◌≡◌, ℕ, suc, ◌+◌, ◌^◌, ◌<◌, ◌≤◌, List, drop, Option, MatchOption}
 use Rattle.rc_core.specs.Programs.{Struct}
 use Rattle.rc_rlang.specs.declared.code.Code.{Code as CodeCode}
 use Rattle.rc_rlang.specs.RegionCode.{Steps, Act, Test, Code}
@@ -12,6 +12,10 @@ use Rattle.rc_plans.specs.declared.plans.BranchPlan.{BranchPlan}
 use Rattle.rc_plans.specs.declared.plans.LoopPlan.{LoopPlan}
 use Rattle.rc_plans.specs.declared.plans.RepeatPlan.{RepeatPlan}
 use Rattle.rc_plans.specs.declared.plans.RoutinePlan.{RoutinePlan}
+
+-- it is the plan; there is none only where the point behind is no `u32`
+abbrev pub Planned : {A : Type 0} → Option A → (behind : ℕ) → A → Type 0
+Planned result behind plan = MatchOption result (2 ^ 32 ≤ behind) (λ p. p ≡ plan)
 
 abbrev pub fork_plan : (yes no : Steps) → (here next : ℕ) → ForkPlan
 fork_plan a b here next = record {

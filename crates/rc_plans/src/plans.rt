@@ -1,14 +1,13 @@
 // Where the parts of code stand, and where they lead.
-ghost use Rattle.std.specs.Prelude.{◌≡◌, ◌+◌, List, IfOk, drop, length, option_map};
+ghost use Rattle.std.specs.Prelude.{◌≡◌, ◌+◌, suc, nat_eq, List, drop, length, option_map};
 ghost use Rattle.rc_core.specs.Programs.{Struct};
 ghost use Rattle.rc_core.specs.Laid.{AreLaidOut};
-ghost use Rattle.rc_rlang.specs.RegionPoints.{step_points, code_points};
+ghost use Rattle.rc_rlang.specs.Counted.{AreLayouts, Counted};
+ghost use Rattle.rc_rlang.specs.RegionPoints.{step_points, steps_points, act_points, branch_points, code_points};
 ghost use Rattle.rc_rlang.specs.RegionFlow.{first_of as first_point};
 ghost use Rattle.rc_rlang.specs.Shapes.{step_of, steps_of, act_of, test_of, code_of};
-ghost use Rattle.rc_plans.specs.Plans.{fork_plan, act_plan, branch_plan, loop_plan, repeat_plan, routine_plan, EndsBusy};
+ghost use Rattle.rc_plans.specs.Plans.{Planned, fork_plan, act_plan, branch_plan, loop_plan, repeat_plan, routine_plan, EndsBusy};
 
-use crate::sums::add;
-use rc_base::NoMemory;
 use rc_core::Layouts;
 use rc_rlang::code::{Act, Code, Test};
 use rc_rlang::steps::Step;
@@ -71,58 +70,62 @@ pub struct RoutinePlan {
     pub at_end: u32,
 }
 
+/// The sum of two numbers of points: none where it is no `u32`.
+fn sum(a: u32, b: u32) -> Option<u32>
+    ensures { Counted result (a + b) }
+{
+    a.checked_add(b)
+}
+
 /// Where something with so many points begins, or what comes behind it where it has none.
 fn first_of(points: u32, here: u32, next: u32) -> u32
     ensures { result ≡ first_point points here next }
 {
     if points == 0 { next } else { here }
 }
-/// The plan of a fork that stands at a point, and behind which a next one comes.
-///
-/// # Errors
-///
-/// Out of memory, which is said where a number is no `u32`.
-pub fn plan_fork(yes: &[Step], no: &[Step], here: u32, next: u32) -> Result<ForkPlan, NoMemory>
-    ensures { (structs : List Struct) → IfOk result (λ p. p ≡ fork_plan (steps_of structs yes.now) (steps_of structs no.now) here next) }
+
+/// The plan of a fork that stands at a point, and behind which a next one comes: none only where the
+/// point behind it is no `u32`.
+pub fn plan_fork(yes: &[Step], no: &[Step], here: u32, next: u32) -> Option<ForkPlan>
+    ensures { (structs : List Struct) → Planned result (suc here + steps_points (steps_of structs yes.now) + steps_points (steps_of structs no.now)) (fork_plan (steps_of structs yes.now) (steps_of structs no.now) here next) }
 {
     let left = steps_points(yes)?;
     let right = steps_points(no)?;
-    let at_yes = add(1, here)?;
-    let at_no = add(at_yes, left)?;
-    Ok(ForkPlan {
+    let at_yes = sum(1, here)?;
+    let at_no = sum(at_yes, left)?;
+    sum(at_no, right)?;
+    Some(ForkPlan {
         at_yes,
         at_no,
         yes: first_of(left, at_yes, next),
         no: first_of(right, at_no, next),
     })
 }
-/// The plan of steps that stand at a point, and of the act behind them.
-///
-/// # Errors
-///
-/// Out of memory, which is said where a number is no `u32`.
+
+/// The plan of steps that stand at a point, and of the act behind them: none only where the point behind
+/// it is no `u32`.
 pub fn plan_act(
     layouts: &Layouts,
     steps: &[Step],
     act: &Act,
     here: u32,
     next: u32,
-) -> Result<ActPlan, NoMemory>
-    ensures { (structs : List Struct) → AreLaidOut structs layouts.now → IfOk result (λ p. p ≡ act_plan (steps_of structs steps.now) (act_of structs act.now) here next) }
+) -> Option<ActPlan>
+    requires laid { AreLayouts layouts.now }
+    ensures { (structs : List Struct) → AreLaidOut structs layouts.now → Planned result (here + steps_points (steps_of structs steps.now) + act_points (act_of structs act.now)) (act_plan (steps_of structs steps.now) (act_of structs act.now) here next) }
 {
     let before = steps_points(steps)?;
     let own = act_points(layouts, act)?;
-    let at_act = add(here, before)?;
-    Ok(ActPlan {
+    let at_act = sum(here, before)?;
+    sum(at_act, own)?;
+    Some(ActPlan {
         at_act,
         behind: first_of(own, at_act, next),
     })
 }
-/// The plan of a branch whose steps stand at a point, and behind which a next one comes.
-///
-/// # Errors
-///
-/// Out of memory, which is said where a number is no `u32`.
+
+/// The plan of a branch whose steps stand at a point, and behind which a next one comes: none only where
+/// the point behind it is no `u32`.
 pub fn plan_branch(
     layouts: &Layouts,
     steps: &[Step],
@@ -130,16 +133,18 @@ pub fn plan_branch(
     no: &Code,
     here: u32,
     next: u32,
-) -> Result<BranchPlan, NoMemory>
-    ensures { (structs : List Struct) → AreLaidOut structs layouts.now → IfOk result (λ p. p ≡ branch_plan (steps_of structs steps.now) (code_of structs yes.now) (code_of structs no.now) here next) }
+) -> Option<BranchPlan>
+    requires laid { AreLayouts layouts.now }
+    ensures { (structs : List Struct) → AreLaidOut structs layouts.now → Planned result (suc (here + steps_points (steps_of structs steps.now)) + code_points (code_of structs yes.now) + code_points (code_of structs no.now)) (branch_plan (steps_of structs steps.now) (code_of structs yes.now) (code_of structs no.now) here next) }
 {
     let before = steps_points(steps)?;
     let left = code_points(layouts, yes)?;
     let right = code_points(layouts, no)?;
-    let at_test = add(here, before)?;
-    let at_yes = add(1, at_test)?;
-    let at_no = add(at_yes, left)?;
-    Ok(BranchPlan {
+    let at_test = sum(here, before)?;
+    let at_yes = sum(1, at_test)?;
+    let at_no = sum(at_yes, left)?;
+    sum(at_no, right)?;
+    Some(BranchPlan {
         at_test,
         at_yes,
         at_no,
@@ -147,11 +152,8 @@ pub fn plan_branch(
         past: first_of(right, at_no, next),
     })
 }
-/// The plan of a loop that stands at a point.
-///
-/// # Errors
-///
-/// Out of memory, which is said where a number is no `u32`.
+
+/// The plan of a loop that stands at a point: none only where the point behind it is no `u32`.
 pub fn plan_loop(
     layouts: &Layouts,
     steps: &[Step],
@@ -159,49 +161,46 @@ pub fn plan_loop(
     third: &Code,
     body: &Code,
     here: u32,
-) -> Result<LoopPlan, NoMemory>
-    ensures { (structs : List Struct) → AreLaidOut structs layouts.now → IfOk result (λ p. p ≡ loop_plan (steps_of structs steps.now) (option_map test_of test.now) (code_of structs third.now) (code_of structs body.now) here) }
+) -> Option<LoopPlan>
+    requires laid { AreLayouts layouts.now }
+    ensures { (structs : List Struct) → AreLaidOut structs layouts.now → Planned result (suc here + steps_points (steps_of structs steps.now) + branch_points (option_map test_of test.now) + code_points (code_of structs body.now) + code_points (code_of structs third.now)) (loop_plan (steps_of structs steps.now) (option_map test_of test.now) (code_of structs third.now) (code_of structs body.now) here) }
 {
     let before = steps_points(steps)?;
     let tests = branch_points(test);
     let inner = code_points(layouts, body)?;
     let after = code_points(layouts, third)?;
-    let first = add(1, here)?;
-    let at_test = add(first, before)?;
-    let at_body = add(at_test, tests)?;
-    let at_third = add(at_body, inner)?;
+    let first = sum(1, here)?;
+    let at_test = sum(first, before)?;
+    let at_body = sum(at_test, tests)?;
+    let at_third = sum(at_body, inner)?;
+    sum(at_third, after)?;
     let back = first_of(after, at_third, here);
     let inside = first_of(inner, at_body, back);
-    Ok(LoopPlan {
+    Some(LoopPlan {
         first,
         at_test,
         at_body,
         at_third,
         back,
         inside,
-        entry: first_of(add(before, tests)?, first, inside),
+        entry: first_of(sum(before, tests)?, first, inside),
     })
 }
-/// The plan of a loop that stands at a point, and whose condition stands behind its body.
-///
-/// # Errors
-///
-/// Out of memory, which is said where a number is no `u32`.
-pub fn plan_repeat(
-    layouts: &Layouts,
-    body: &Code,
-    steps: &[Step],
-    here: u32,
-) -> Result<RepeatPlan, NoMemory>
-    ensures { (structs : List Struct) → AreLaidOut structs layouts.now → IfOk result (λ p. p ≡ repeat_plan (code_of structs body.now) (steps_of structs steps.now) here) }
+
+/// The plan of a loop that stands at a point, and whose condition stands behind its body: none only where
+/// the point behind it is no `u32`.
+pub fn plan_repeat(layouts: &Layouts, body: &Code, steps: &[Step], here: u32) -> Option<RepeatPlan>
+    requires laid { AreLayouts layouts.now }
+    ensures { (structs : List Struct) → AreLaidOut structs layouts.now → Planned result (suc here + code_points (code_of structs body.now) + steps_points (steps_of structs steps.now) + 1) (repeat_plan (code_of structs body.now) (steps_of structs steps.now) here) }
 {
     let inner = code_points(layouts, body)?;
     let before = steps_points(steps)?;
-    let first = add(1, here)?;
-    let at_tail = add(first, inner)?;
-    let at_test = add(at_tail, before)?;
+    let first = sum(1, here)?;
+    let at_tail = sum(first, inner)?;
+    let at_test = sum(at_tail, before)?;
+    sum(at_test, 1)?;
     let tail = first_of(before, at_tail, at_test);
-    Ok(RepeatPlan {
+    Some(RepeatPlan {
         first,
         at_tail,
         at_test,
@@ -209,57 +208,57 @@ pub fn plan_repeat(
         entry: first_of(inner, first, tail),
     })
 }
-/// The plan of a function with this body. Its entry is the point 0.
-///
-/// # Errors
-///
-/// Out of memory, which is said where a number is no `u32`.
-pub fn plan_routine(layouts: &Layouts, body: &Code) -> Result<RoutinePlan, NoMemory>
-    ensures { (structs : List Struct) → AreLaidOut structs layouts.now → IfOk result (λ p. p ≡ routine_plan (code_of structs body.now)) }
+
+/// The plan of a function with this body: none only where the point behind that is no `u32`. Its entry is
+/// the point 0.
+pub fn plan_routine(layouts: &Layouts, body: &Code) -> Option<RoutinePlan>
+    requires laid { AreLayouts layouts.now }
+    ensures { (structs : List Struct) → AreLaidOut structs layouts.now → Planned result (suc (code_points (code_of structs body.now))) (routine_plan (code_of structs body.now)) }
 {
     let inner = code_points(layouts, body)?;
-    let at_end = add(1, inner)?;
-    Ok(RoutinePlan {
+    let at_end = sum(1, inner)?;
+    Some(RoutinePlan {
         first: first_of(inner, 1, at_end),
         at_end,
     })
 }
 
-/// The point behind a step that stands at a point.
-///
-/// # Errors
-///
-/// Out of memory, which is said where a number is no `u32`.
-pub fn past_step(step: &Step, here: u32) -> Result<u32, NoMemory>
-    ensures { (structs : List Struct) → IfOk result (λ n. n ≡ here + step_points (step_of structs step.now)) }
+/// The point behind a step that stands at a point: none where it is no `u32`.
+pub fn past_step(step: &Step, here: u32) -> Option<u32>
+    ensures { (structs : List Struct) → Counted result (here + step_points (step_of structs step.now)) }
 {
-    add(here, steps_points(slice::from_ref(step))?)
+    sum(here, steps_points(slice::from_ref(step))?)
 }
 
-/// The point behind the code of a statement that stands at a point.
-///
-/// # Errors
-///
-/// Out of memory, which is said where a number is no `u32`.
-pub fn past_code(layouts: &Layouts, code: &Code, here: u32) -> Result<u32, NoMemory>
-    ensures { (structs : List Struct) → AreLaidOut structs layouts.now → IfOk result (λ n. n ≡ here + code_points (code_of structs code.now)) }
+/// The point behind the code of a statement that stands at a point: none where it is no `u32`.
+pub fn past_code(layouts: &Layouts, code: &Code, here: u32) -> Option<u32>
+    requires laid { AreLayouts layouts.now }
+    ensures { (structs : List Struct) → AreLaidOut structs layouts.now → Counted result (here + code_points (code_of structs code.now)) }
 {
-    add(here, code_points(layouts, code)?)
+    sum(here, code_points(layouts, code)?)
+}
+
+/// Whether the code of a statement has no point.
+fn is_idle(layouts: &Layouts, code: &Code) -> bool
+    requires laid { AreLayouts layouts.now }
+    ensures { (structs : List Struct) → AreLaidOut structs layouts.now → result ≡ nat_eq (code_points (code_of structs code.now)) 0 }
+{
+    match code_points(layouts, code) {
+        Some(points) => points == 0,
+        None => false,
+    }
 }
 
 /// How many statements there are up to the last one that has a point.
-///
-/// # Errors
-///
-/// Out of memory, which is said where a number is no `u32`.
-pub fn busy(layouts: &Layouts, body: &[Code]) -> Result<usize, NoMemory>
-    ensures { (structs : List Struct) → AreLaidOut structs layouts.now → IfOk result (EndsBusy structs body.now) }
+pub fn busy(layouts: &Layouts, body: &[Code]) -> usize
+    requires laid { AreLayouts layouts.now }
+    ensures { (structs : List Struct) → AreLaidOut structs layouts.now → EndsBusy structs body.now result }
 {
     for i in (0..body.len()).rev() {
-        let own = code_points(layouts, &body[i])?;
-        if own != 0 {
-            return Ok(i + 1);
+        let idle = is_idle(layouts, &body[i]);
+        if !idle {
+            return i + 1;
         }
     }
-    Ok(0)
+    0
 }

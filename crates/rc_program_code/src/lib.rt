@@ -12,6 +12,7 @@ mod entering;
 mod fronts;
 mod leads;
 mod pieces;
+mod points;
 mod program;
 mod table;
 

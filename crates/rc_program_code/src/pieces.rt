@@ -12,12 +12,12 @@ ghost use Rattle.rc_program_code.specs.Onward.{onward};
 ghost use Rattle.rc_program_code.specs.Placed.{StepsHeld, StepsReady, CodeHeld, CodeReady};
 
 use crate::fronts::{before, distance, put, put_piece};
+use crate::points::{act_points, steps_points};
 use rc_base::NoMemory;
 use rc_core::ty::Ty;
 use rc_lines::{Body, Instruction, Line, act_on, exit_test, push, steps, zero};
 use rc_rlang::code::{Act, Test};
 use rc_rlang::steps::Step;
-use rc_rlang::{act_points, steps_points};
 
 /// The line of a step.
 fn line_of(step: &Step) -> u32

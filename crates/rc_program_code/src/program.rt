@@ -9,6 +9,7 @@ ghost use Rattle.rc_lines.specs.ProgramCode.{IsFunctionCode, IsProgramCode};
 ghost use Rattle.rc_program_code.specs.Listing.{structs_of, routine_of, HeldBefore};
 
 use crate::bodies::body_code;
+use crate::points::code_points;
 use crate::table::{kept_by, local_types};
 use rc_base::NoMemory;
 use rc_core::Layouts;
@@ -16,8 +17,8 @@ use rc_lines::{Body, FunctionCode};
 use rc_liveness::lists_are_maps;
 use rc_rlang::code::{RegionParts, Routine};
 use rc_rlang::live_map::LiveMap;
+use rc_rlang::points_behind;
 use rc_rlang::rlang::Rlang;
-use rc_rlang::{code_points, points_behind};
 use std::alloc::Global;
 
 /// What the code of functions is made over.

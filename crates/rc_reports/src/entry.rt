@@ -3,6 +3,7 @@ ghost use Rattle.std.specs.Prelude.{◌≡◌, ◌++◌, List, IfOk, OnOk, map};
 ghost use Rattle.rc_core.specs.Laid.{AreLaidOut};
 ghost use Rattle.rc_core.specs.Programs.{Struct};
 ghost use Rattle.rc_elim.specs.Masks.{marks_in};
+ghost use Rattle.rc_rlang.specs.Counted.{AreLayouts};
 ghost use Rattle.rc_rlang.specs.Shapes.{rlang_of, routine_in};
 ghost use Rattle.rc_reports.specs.Listed.{listed};
 ghost use Rattle.rc_reports.specs.Reports.{entries, entry_of};
@@ -33,6 +34,7 @@ fn add_entries(
     routine: &Routine,
     out: &mut Vec<Entry>,
 ) -> Result<(), NoMemory>
+    requires laid { AreLayouts layouts.now }
     ensures { (structs : List Struct) → AreLaidOut structs layouts.now → OnOk result (out.new.items ≡ out.old.items ++ map (entry_of (marks_in mask.now function)) (listed (routine_in structs routine.now).body 1)) }
 {
     for site in sites(alloc, layouts, routine)?.as_slice() {

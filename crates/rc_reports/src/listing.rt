@@ -1,8 +1,9 @@
 // The stores of a function to annotated cells, in the order of the text or of their points.
-ghost use Rattle.std.specs.Prelude.{◌≡◌, ◌++◌, ◌+◌, List, IfOk, OnOk, map, drop};
+ghost use Rattle.std.specs.Prelude.{◌≡◌, ◌++◌, ◌+◌, ℕ, List, IfOk, OnOk, map, drop};
 ghost use Rattle.rc_core.specs.Laid.{AreLaidOut, kind_of};
 ghost use Rattle.rc_core.specs.Layout.{Layout};
 ghost use Rattle.rc_core.specs.Programs.{Struct};
+ghost use Rattle.rc_rlang.specs.Counted.{AreLayouts, Counted};
 ghost use Rattle.rc_rlang.specs.Shapes.{act_of, code_of, codes_of, routine_in};
 ghost use Rattle.rc_rlang.specs.RegionPoints.{code_points, codes_points};
 ghost use Rattle.rc_rlang.specs.Sites.{act_sites, cells_sites, code_sites, store_sites};
@@ -15,7 +16,7 @@ use rc_core::ty::{Note, Ty};
 use rc_core::{Kind, Layouts};
 use rc_graph::{cell_note, note_in};
 use rc_rlang::code::{Act, Code, Routine};
-use rc_rlang::{act_points, branch_points, steps_points};
+use rc_rlang::{act_points, branch_points, change_points, steps_points};
 use std::alloc::Global;
 
 /// An order of stores. The two differ at loops alone: the third part of a loop's head stands before its
@@ -35,6 +36,20 @@ fn sum(a: u32, b: u32) -> Result<u32, NoMemory>
     ensures { IfOk result (λ n. n ≡ a + b) }
 {
     a.checked_add(b).ok_or(NoMemory)
+}
+
+/// The point behind so many, which are counted.
+///
+/// # Errors
+///
+/// Out of memory, which is said where a number is no `u32`.
+fn past(here: u32, points: Option<u32>) -> Result<u32, NoMemory>
+    ensures { (n : ℕ) → Counted points n → IfOk result (λ behind. behind ≡ here + n) }
+{
+    match points {
+        Some(points) => sum(here, points),
+        None => Err(NoMemory),
+    }
 }
 
 /// Lists a store to a cell with this annotation, if it has one.
@@ -69,8 +84,13 @@ fn list_act(layouts: &Layouts, act: &Act, here: u32, out: &mut Vec<Site>) -> Res
 {
     match act {
         Act::Store { line, access } => list(out, note_in(&access.cell), *line, here),
-        Act::Update { line, access, .. } => {
-            let last = act_points(layouts, act)?.checked_sub(1).ok_or(NoMemory)?;
+        Act::Update {
+            line,
+            access,
+            change,
+            ..
+        } => {
+            let last = change_points(*change) - 1;
             list(out, note_in(&access.cell), *line, sum(here, last)?)
         }
         Act::Move {
@@ -100,18 +120,19 @@ fn list_code(
     here: u32,
     out: &mut Vec<Site>,
 ) -> Result<u32, NoMemory>
+    requires laid { AreLayouts layouts.now }
     ensures sites { (structs : List Struct) → AreLaidOut structs layouts.now → OnOk result (sites_of out.new.items ≡ sites_of out.old.items ++ ordered order (code_of structs code.now) here) }
     ensures behind { (structs : List Struct) → AreLaidOut structs layouts.now → IfOk result (λ n. n ≡ here + code_points (code_of structs code.now)) }
 {
     match code {
         Code::Simple { steps, act } => {
-            let at_act = sum(here, steps_points(steps.as_slice())?)?;
+            let at_act = past(here, steps_points(steps.as_slice()))?;
             list_act(layouts, act, at_act, out)?;
-            sum(at_act, act_points(layouts, act)?)
+            past(at_act, act_points(layouts, act))
         }
         Code::Block { body } => list_codes(alloc, layouts, order, body.as_slice(), here, out),
         Code::Branch { steps, yes, no, .. } => {
-            let at_yes = sum(sum(1, here)?, steps_points(steps.as_slice())?)?;
+            let at_yes = past(sum(1, here)?, steps_points(steps.as_slice()))?;
             let at_no = list_code(alloc, layouts, order, yes, at_yes, out)?;
             list_code(alloc, layouts, order, no, at_no, out)
         }
@@ -122,7 +143,7 @@ fn list_code(
             body,
             ..
         } => {
-            let at_test = sum(sum(1, here)?, steps_points(steps.as_slice())?)?;
+            let at_test = past(sum(1, here)?, steps_points(steps.as_slice()))?;
             let at_body = sum(at_test, branch_points(test))?;
             match order {
                 Order::Points => {
@@ -141,7 +162,7 @@ fn list_code(
         }
         Code::Repeat { body, steps, .. } => {
             let at_steps = list_code(alloc, layouts, order, body, sum(1, here)?, out)?;
-            let at_test = sum(at_steps, steps_points(steps.as_slice())?)?;
+            let at_test = past(at_steps, steps_points(steps.as_slice()))?;
             sum(at_test, 1)
         }
         Code::Clear { .. } => sum(here, 1),
@@ -160,6 +181,7 @@ fn list_codes(
     here: u32,
     out: &mut Vec<Site>,
 ) -> Result<u32, NoMemory>
+    requires laid { AreLayouts layouts.now }
     ensures sites { (structs : List Struct) → AreLaidOut structs layouts.now → OnOk result (sites_of out.new.items ≡ sites_of out.old.items ++ all_ordered order (codes_of structs body.now) here) }
     ensures behind { (structs : List Struct) → AreLaidOut structs layouts.now → IfOk result (λ n. n ≡ here + codes_points (codes_of structs body.now)) }
 {
@@ -176,6 +198,7 @@ fn list_codes(
 ///
 /// Out of memory.
 pub fn sites(alloc: Global, layouts: &Layouts, routine: &Routine) -> Result<Vec<Site>, NoMemory>
+    requires laid { AreLayouts layouts.now }
     ensures { (structs : List Struct) → AreLaidOut structs layouts.now → IfOk result (λ all. sites_of all.items ≡ listed (routine_in structs routine.now).body 1) }
 {
     let mut all = Vec::new(alloc);
@@ -193,6 +216,7 @@ pub fn sites_by_points(
     layouts: &Layouts,
     routine: &Routine,
 ) -> Result<Vec<Site>, NoMemory>
+    requires laid { AreLayouts layouts.now }
     ensures { (structs : List Struct) → AreLaidOut structs layouts.now → IfOk result (λ all. sites_of all.items ≡ code_sites (routine_in structs routine.now).body 1) }
 {
     let mut all = Vec::new(alloc);

@@ -2,4 +2,4 @@ pub mod Searching
 pub mod KindLaws
 pub mod CodeRows
 pub mod ShapeRows
-pub mod Sums
+pub mod Totals

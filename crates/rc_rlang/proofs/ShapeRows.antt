@@ -1,5 +1,5 @@
 -- What a node with a list of children stands for: the shape of its row is that of its list; and what a list with one more stands for.
-use Rattle.std.proofs.Common.{◌≡◌, ℕ, refl, sym, ap, ◌∙◌, List, [], ◌∷◌, ◌++◌, map}
+use Rattle.std.proofs.Common.{◌≡◌, ℕ, refl, ap, ◌∙◌, List, [], ◌∷◌, ◌++◌}
 use Rattle.std.specs.declared.vec.Vec.{Vec}
 use Rattle.std.specs.declared.alloc.Global.{Global as Alloc}
 use Rattle.rc_core.specs.declared.ty.Ty.{Ty as CodeTy}
@@ -9,8 +9,8 @@ use Rattle.rc_rlang.specs.declared.steps.Step.{Step as CodeStep, Fork, Row_of-St
 use Rattle.rc_rlang.specs.declared.steps.Step.TheBlock.{hidden-the_row-Step-0}
 use Rattle.rc_rlang.specs.declared.code.Code.{Code as CodeCode, Block, Row_of-Code, end_of-Code, more_of-Code, items-the_row-Code, items_hidden-the_row-Code-0}
 use Rattle.rc_rlang.specs.declared.code.Code.TheBlock.{hidden-the_row-Code-0}
-use Rattle.rc_rlang.specs.RegionCode.{Steps, none, more, both, one, fork, Code, Codes, done, then, block}
-use Rattle.rc_rlang.specs.Shapes.{step_of, row_steps, steps_listed, steps_of, code_of, row_codes, codes_listed, codes_of}
+use Rattle.rc_rlang.specs.RegionCode.{more, both, one, fork, then, block}
+use Rattle.rc_rlang.specs.Shapes.{step_of, row_steps, steps_of, code_of, row_codes, codes_of}
 
 module _ (structs : List Struct) where
   pub row_steps-list : {m : _} (r : Row_of-Step m) → row_steps structs r ≡ steps_of structs (items-the_row-Step m r)

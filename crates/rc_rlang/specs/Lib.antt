@@ -5,6 +5,7 @@ pub mod RegionCode
 pub mod RegionLive
 pub mod RegionRuns
 pub mod RegionPoints
+pub mod Counted
 pub mod RegionFits
 pub mod RegionFlow
 pub mod Touches

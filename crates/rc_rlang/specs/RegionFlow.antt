@@ -4,12 +4,13 @@
 -- assigned; its locals that are regions or pointers; its temporaries; its result; and one more, the scratch variable, which is free.
 -- Where an edge assigns a variable, it is the first that the effect names. A branch has its effect on each edge, the step back of a loop
 -- leads to the loop's point, and a part without a point leads to what comes behind it.
-use Rattle.std.specs.Prelude.{ℕ, zero, suc, ◌+◌, Bool, true, false, List, [], ◌∷◌, ◌++◌, map, take, drop as behind, count_by, Option, Some, None}
+use Rattle.std.specs.Prelude.{ℕ, zero, suc, ◌+◌, Bool, true, false, List, [], ◌∷◌, ◌++◌, ◌-◌, replicate, take, count_by, Option, Some, None}
 use Rattle.rc_core.specs.declared.ty.Note.{Note}
 use Rattle.rc_core.specs.declared.ty.Note.TheVariants.{Plain}
 use Rattle.rc_core.specs.declared.stmt.Change.{Change}
 use Rattle.rc_core.specs.declared.stmt.Change.TheVariants.{Compute, Step as Stepping}
 use Rattle.rc_core.specs.Types.{Ty, int, unsigned, char, region, struct, pointer, CellKind, int_cell, unsigned_cell, char_cell, region_cell, pointer_cell}
+use Rattle.rc_core.specs.Typing.{is_reference}
 use Rattle.rc_core.specs.Layout.{Layout, note_of}
 use Rattle.rc_rlang.specs.Points.{change_points}
 use Rattle.rc_rlang.specs.RegionCode.{Access, width, Operation, null, static, copy, load, step, step_from, call, new_region, new_subregion, region_of, allocate, allocate_array, Step, set, fork, Steps, none, more, Act, drop, perform, assign, store, update, move, delete, leave, Test, Code, simple, clear, block, branch, loop, repeat, break, continue, Codes, done, then, Routine}
@@ -75,13 +76,9 @@ forking e d to_yes to_no = record { edges = record { effect = e; to = to_yes } �
 abbrev pub returning : Option ℕ → Node
 returning given = record { edges = []; returns = Some given }
 
+-- a region variable has a value of such a type
 abbrev pub is_regional : Ty → Bool
-is_regional int = false
-is_regional unsigned = false
-is_regional char = false
-is_regional region = true
-is_regional (struct k) = false
-is_regional (pointer note target) = true
+is_regional ty = is_reference ty
 
 abbrev pub is_regional_cell : CellKind → Bool
 is_regional_cell int_cell = false
@@ -122,10 +119,6 @@ abbrev pub in_line : List Effect → (here next : ℕ) → List Node
 in_line [] here next = []
 in_line (e ∷ []) here next = going e next ∷ []
 in_line (e ∷ d ∷ rest) here next = going e (suc here) ∷ in_line (d ∷ rest) (suc here) next
-
-abbrev pub numbers_below : ℕ → List ℕ
-numbers_below zero = []
-numbers_below (suc n) = n ∷ numbers_below n
 
 module _ (f : Routine) where
   -- the numbers of the variables
@@ -205,7 +198,7 @@ module _ (f : Routine) where
   -- a place's old value comes behind the operand, and so does its new one
   abbrev pub change_effects : Access → Change → List Effect
   change_effects a (Compute from operator s) =
-      looked_at (temporary_variable 0) ∷ (map (λ _. nothing) (behind 2 (numbers_below (change_points (Compute from operator s)))) ++ looked_at (temporary_variable 0) ∷ [])
+      looked_at (temporary_variable 0) ∷ (replicate (change_points (Compute from operator s) - 2) nothing ++ looked_at (temporary_variable 0) ∷ [])
   change_effects a (Stepping direction) =
       loaded_value a.cell (suc (width a)) 0 ∷ beside (temporary_variable (suc (width a))) (temporary_variable (suc (width a))) ∷ stored_value a.cell (suc (width a)) 0 ∷ []
 

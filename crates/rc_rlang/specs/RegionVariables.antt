@@ -3,8 +3,9 @@
 -- update puts the old value, and a struct copy a cell, behind the operands that stand there. The translation of a program has as many as
 -- `Variables` counts on the program.
 use Rattle.std.specs.Prelude.{ℕ, suc, ◌+◌, ◌*◌, max, take, drop as behind, count_by}
+use Rattle.rc_core.specs.Typing.{is_reference}
 use Rattle.rc_rlang.specs.RegionCode.{width, Step, set, fork, Steps, none, more, Act, drop, perform, assign, store, update, move, delete, leave, Code, simple, clear, block, branch, loop, repeat, break, continue, Codes, done, then, Routine}
-use Rattle.rc_rlang.specs.Variables.{end_temporaries, is_reference}
+use Rattle.rc_rlang.specs.Variables.{end_temporaries}
 
 abbrev mutual
   pub step_temporaries : Step → ℕ

@@ -1,8 +1,9 @@
 -- The region variables of a function in the region language: a copy of each region or pointer parameter, the region and
 -- pointer locals, one for each temporary, one for a result and one more. An expression whose value comes into temporary h uses
 -- h and greater ones; what is counted is one more than the greatest.
-use Rattle.std.specs.Prelude.{ℕ, suc, ◌+◌, ◌*◌, max, Bool, true, false, take, drop, count_by, Option, Some, None}
-use Rattle.rc_core.specs.Types.{Ty, int, unsigned, char, region, struct, pointer}
+use Rattle.std.specs.Prelude.{ℕ, suc, ◌+◌, ◌*◌, max, take, drop, count_by, Option, Some, None}
+use Rattle.rc_core.specs.Types.{Ty}
+use Rattle.rc_core.specs.Typing.{is_reference}
 use Rattle.rc_core.specs.Programs.{Expr, constant, null, string, local, read, address, step, step_from, unary, binary, convert, not_zero, and, or, choose, is_null, same, call, new_region, new_subregion, region_of, allocate, allocate_array, putchar, getchar, Arguments, none, more, Place, global, pointed, indexed, Path, here, field, element, Stmt, block, declare, assign, store, update, copy, evaluate, delete, branch, while, repeat, for, break, continue, return, Stmts, done, then, Function}
 
 -- the temporary behind those of a place that begins at h: the pointer's, and one for each index
@@ -96,14 +97,6 @@ end_temporaries (Some ty) = 1
 
 abbrev pub function_temporaries : Function → ℕ
 function_temporaries f = max (statement_temporaries f.body) (end_temporaries f.result)
-
-abbrev pub is_reference : Ty → Bool
-is_reference int = false
-is_reference unsigned = false
-is_reference char = false
-is_reference region = true
-is_reference (struct number) = false
-is_reference (pointer note target) = true
 
 abbrev pub region_variables : Function → ℕ
 region_variables f =

@@ -19,4 +19,6 @@ mod points;
 pub mod rlang;
 pub mod steps;
 
-pub use points::{act_points, branch_points, code_points, points_behind, steps_points};
+pub use points::{
+    act_points, branch_points, change_points, code_points, points_behind, steps_points,
+};

@@ -1,33 +1,33 @@
 // How many points region code has.
-ghost use Rattle.std.specs.Prelude.{◌≡◌, ◌+◌, List, map, option_map, IfOk};
+ghost use Rattle.std.specs.Prelude.{◌≡◌, ◌+◌, List, option_map};
 ghost use Rattle.rc_core.specs.Laid.{AreLaidOut};
 ghost use Rattle.rc_core.specs.Programs.{Struct};
 ghost use Rattle.rc_core.specs.Shapes.{ty_of};
+ghost use Rattle.rc_rlang.specs.Counted.{AreLayouts, Counted};
 ghost use Rattle.rc_rlang.specs.Points.{change_points, conversion_points, end_points};
 ghost use Rattle.rc_rlang.specs.RegionPoints.{step_points, steps_points, act_points, branch_points, code_points, codes_points};
 ghost use Rattle.rc_rlang.specs.Shapes.{step_of, steps_of, act_of, test_of, code_of, codes_of};
 
 use crate::code::{Act, Code, Test};
 use crate::steps::Step;
-use rc_base::NoMemory;
 use rc_core::stmt::Change;
 use rc_core::ty::{NumberType, Ty};
 use rc_core::{Layouts, type_of};
 
-/// The sum of two numbers of points.
-fn sum(a: u32, b: u32) -> Result<u32, NoMemory>
-    ensures { IfOk result (λ r. r ≡ a + b) }
+/// The sum of two numbers of points: none where it is no `u32`.
+fn sum(a: u32, b: u32) -> Option<u32>
+    ensures { Counted result (a + b) }
 {
-    Ok(a.checked_add(b).ok_or(NoMemory)?)
+    a.checked_add(b)
 }
 
-/// The points of a step.
+/// The points of a step: none where a `u32` counts no such number.
 #[cycle(steps)]
-fn step_points(step: &Step) -> Result<u32, NoMemory>
-    ensures { (structs : List Struct) → IfOk result (λ n. n ≡ step_points (step_of structs step.now)) }
+fn step_points(step: &Step) -> Option<u32>
+    ensures { (structs : List Struct) → Counted result (step_points (step_of structs step.now)) }
 {
     match step {
-        Step::Set { .. } => Ok(1),
+        Step::Set { .. } => Some(1),
         Step::Fork { yes, no, .. } => {
             let first = steps_points(yes.as_slice())?;
             let second = steps_points(no.as_slice())?;
@@ -36,16 +36,17 @@ fn step_points(step: &Step) -> Result<u32, NoMemory>
     }
 }
 
-/// The points of steps, those of each fork's ways among them.
+/// The points of steps, those of each fork's ways among them: none where a `u32` counts no such number.
 #[cycle(steps)]
-pub fn steps_points(steps: &[Step]) -> Result<u32, NoMemory>
-    ensures { (structs : List Struct) → IfOk result (λ n. n ≡ steps_points (steps_of structs steps.now)) }
+#[tactic(auto, using(crate::proofs::Totals::steps_step, crate::proofs::Totals::steps_end))]
+pub fn steps_points(steps: &[Step]) -> Option<u32>
+    ensures { (structs : List Struct) → Counted result (steps_points (steps_of structs steps.now)) }
 {
-    let mut count = 0;
-    for i in (0..steps.len()).rev() {
-        count = sum(step_points(&steps[i])?, count)?;
+    let mut count = 0u32;
+    for step in steps {
+        count = sum(count, step_points(step)?)?;
     }
-    Ok(count)
+    Some(count)
 }
 
 fn conversion_points(from: NumberType, to: NumberType) -> u32
@@ -59,8 +60,9 @@ fn conversion_points(from: NumberType, to: NumberType) -> u32
     }
 }
 
-fn change_points(change: Change) -> Result<u32, NoMemory>
-    ensures { IfOk result (λ n. n ≡ change_points change) }
+/// The points of a change of a cell.
+pub fn change_points(change: Change) -> u32
+    ensures { result ≡ change_points change }
 {
     match change {
         Change::Compute {
@@ -69,31 +71,29 @@ fn change_points(change: Change) -> Result<u32, NoMemory>
             ..
         } => {
             let own = type_of(signedness);
-            sum(
-                sum(3, conversion_points(from, own))?,
-                conversion_points(own, from),
-            )
+            3 + conversion_points(from, own) + conversion_points(own, from)
         }
-        Change::Step { .. } => Ok(3),
+        Change::Step { .. } => 3,
     }
 }
 
-/// The points of an act. A struct copy has two for each cell.
-pub fn act_points(layouts: &Layouts, act: &Act) -> Result<u32, NoMemory>
-    ensures { (structs : List Struct) → AreLaidOut structs layouts.now → IfOk result (λ n. n ≡ act_points (act_of structs act.now)) }
+/// The points of an act: none where a `u32` counts no such number. A struct copy has two for each cell.
+pub fn act_points(layouts: &Layouts, act: &Act) -> Option<u32>
+    requires laid { AreLayouts layouts.now }
+    ensures { (structs : List Struct) → AreLaidOut structs layouts.now → Counted result (act_points (act_of structs act.now)) }
 {
     match act {
-        Act::Drop => Ok(0),
-        Act::Perform { .. } => Ok(1),
-        Act::Assign { .. } => Ok(1),
-        Act::Store { .. } => Ok(1),
-        Act::Update { change, .. } => change_points(*change),
+        Act::Drop => Some(0),
+        Act::Perform { .. } => Some(1),
+        Act::Assign { .. } => Some(1),
+        Act::Store { .. } => Some(1),
+        Act::Update { change, .. } => Some(change_points(*change)),
         Act::Move { structure, .. } => {
-            let cells = u32::try_from(layouts.size_of(*structure)).map_err(|_| NoMemory)?;
+            let cells = u32::try_from(layouts.size_of(*structure)).ok()?;
             sum(cells, cells)
         }
-        Act::Delete { .. } => Ok(1),
-        Act::Leave { .. } => Ok(1),
+        Act::Delete { .. } => Some(1),
+        Act::Leave { .. } => Some(1),
     }
 }
 
@@ -107,18 +107,19 @@ pub fn branch_points(test: &Option<Test>) -> u32
     }
 }
 
-/// The points of the code of a statement.
+/// The points of the code of a statement: none where a `u32` counts no such number.
 #[cycle(code)]
 #[tactic(auto, using(crate::proofs::CodeRows::block_is))]
-pub fn code_points(layouts: &Layouts, code: &Code) -> Result<u32, NoMemory>
-    ensures { (structs : List Struct) → AreLaidOut structs layouts.now → IfOk result (λ n. n ≡ code_points (code_of structs code.now)) }
+pub fn code_points(layouts: &Layouts, code: &Code) -> Option<u32>
+    requires laid { AreLayouts layouts.now }
+    ensures { (structs : List Struct) → AreLaidOut structs layouts.now → Counted result (code_points (code_of structs code.now)) }
 {
     match code {
         Code::Simple { steps, act } => {
             let first = steps_points(steps.as_slice())?;
             sum(first, act_points(layouts, act)?)
         }
-        Code::Clear { .. } => Ok(1),
+        Code::Clear { .. } => Some(1),
         Code::Block { body } => codes_points(layouts, body.as_slice()),
         Code::Branch { steps, yes, no, .. } => {
             let head = sum(steps_points(steps.as_slice())?, 1)?;
@@ -144,20 +145,22 @@ pub fn code_points(layouts: &Layouts, code: &Code) -> Result<u32, NoMemory>
             let tail = steps_points(steps.as_slice())?;
             sum(sum(inside, tail)?, 1)
         }
-        Code::Break { .. } => Ok(1),
-        Code::Continue { .. } => Ok(1),
+        Code::Break { .. } => Some(1),
+        Code::Continue { .. } => Some(1),
     }
 }
 
 #[cycle(code)]
-fn codes_points(layouts: &Layouts, body: &[Code]) -> Result<u32, NoMemory>
-    ensures { (structs : List Struct) → AreLaidOut structs layouts.now → IfOk result (λ n. n ≡ codes_points (codes_of structs body.now)) }
+#[tactic(auto, using(crate::proofs::Totals::codes_step, crate::proofs::Totals::codes_end))]
+fn codes_points(layouts: &Layouts, body: &[Code]) -> Option<u32>
+    requires laid { AreLayouts layouts.now }
+    ensures { (structs : List Struct) → AreLaidOut structs layouts.now → Counted result (codes_points (codes_of structs body.now)) }
 {
-    let mut count = 0;
-    for i in (0..body.len()).rev() {
-        count = sum(code_points(layouts, &body[i])?, count)?;
+    let mut count = 0u32;
+    for code in body {
+        count = sum(count, code_points(layouts, code)?)?;
     }
-    Ok(count)
+    Some(count)
 }
 
 /// The points behind a function's body: the return, and the result where it has one.

@@ -13,12 +13,10 @@ use std::test::Fail;
 const TEXT: &[u8] =
     b"struct s { struct s *sameregion next; }; int main(void) { struct s *p = ralloc(newregion(), struct s); struct s *q = ralloc(newregion(), struct s); q->next = p; p->next = q; return 0; }";
 
-/// The mask with a mark at this point of the first function, where it has that point.
+/// The mask with a mark at this point of the first function, where a store to an annotated cell stands.
 fn marked_at(alloc: Global, code: &Rlang, point: u32) -> Result<Mask, NoMemory> {
     let mut mask = Mask::none(alloc, code)?;
-    if (point as usize) < mask.points(0) {
-        mask.remove(0, point);
-    }
+    mask.remove(alloc, code, 0, point)?;
     Ok(mask)
 }
 
@@ -27,24 +25,26 @@ fn removed(alloc: Global, code: &Rlang, mask: &Mask) -> Result<u64, NoMemory> {
     Ok(removed_count(entries(alloc, code, mask)?.as_slice()))
 }
 
-/// Whether of the first points, so many, this one is marked alone.
+/// Whether of the first points, so many, this one alone may be marked.
 fn is_alone(mask: &Mask, point: u32, points: u32) -> bool {
     for other in 0..points {
-        if mask.removed(0, other) != (other == point) {
+        if other != point && mask.removed(0, other) {
             return false;
         }
     }
     true
 }
 
-/// At how many points of the first function a mark alone removes one check, where none removes more.
+/// At how many points of the first function a store stands that a mark removes the check of, where no mark
+/// removes another.
 fn telling_points(alloc: Global, code: &Rlang) -> Result<Option<u64>, NoMemory> {
     let points = u32::try_from(Mask::none(alloc, code)?.points(0)).map_err(|_| NoMemory)?;
     let mut telling = 0u64;
     for point in 0..points {
         let mask = marked_at(alloc, code, point)?;
         let checks = removed(alloc, code, &mask)?;
-        if checks > 1 || !is_alone(&mask, point, points) {
+        let tells = mask.removed(0, point) == (checks == 1);
+        if checks > 1 || !tells || !is_alone(&mask, point, points) {
             return Ok(None);
         }
         telling = telling.wrapping_add(checks);

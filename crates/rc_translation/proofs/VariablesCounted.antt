@@ -8,7 +8,8 @@ use Rattle.rc_core.specs.Programs.{Expr, constant, null, string, local, read, ad
 use Rattle.rc_rlang.specs.RegionCode as To
 use Rattle.rc_rlang.specs.RegionCode.{Index, Access, Steps, width, both, one}
 use Rattle.rc_rlang.specs.RegionVariables.{steps_temporaries, code_temporaries, codes_temporaries}
-use Rattle.rc_rlang.specs.Variables.{path_next, place_next, temporaries, arguments_temporaries, place_temporaries, path_temporaries, statement_temporaries, body_temporaries, end_temporaries, is_reference}
+use Rattle.rc_core.specs.Typing.{is_reference}
+use Rattle.rc_rlang.specs.Variables.{path_next, place_next, temporaries, arguments_temporaries, place_temporaries, path_temporaries, statement_temporaries, body_temporaries, end_temporaries}
 use Rattle.rc_translation.specs.Translation.{expression_type, signedness, parameter_types, argument_types, path_access, access, expression_code, arguments_code, place_code, path_code, has_result, one_of, condition_code, evaluate_code, statement_code, body_code}
 use Rattle.rc_translation.specs.Keeps.{HasItsVariables}
 

@@ -1,7 +1,7 @@
 use Rattle.std.proofs.Common.{◌≡◌, ◌+◌, ◌*◌, drop, map}
 use Rattle.std.specs.Prelude.{count_by}
 use Rattle.rc_core.specs.Shapes.{ty_of}
-use Rattle.rc_rlang.specs.Variables.{is_reference}
+use Rattle.rc_core.specs.Typing.{is_reference}
 use Rattle.rc_elab.proofs.variables.locals.Given as goal
 
 abbrev pub invariant-loop-ty : goal.invariant-loop-ty

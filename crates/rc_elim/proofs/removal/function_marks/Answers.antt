@@ -30,3 +30,6 @@ returns c =
     let graph = c.in_ok-graph.ensures (map struct_of c.args.parts.now.structs.items) c.requires.laid in
     marked_if c.args.parts.now c.args.facts.now c.requires.code c.requires.shaped c.args.function c.index.result.now c.index-2.result.now c.requires.there c.index.ensures c.index-2.ensures
     c.proven.result (nodes_of c.as_slice.result.now) c.as_slice-2.result.now (ap nodes_of c.as_slice.ensures.value ∙ graph.nodes) c.as_slice-2.ensures.value c.proven.ensures
+
+pub graph_of-requires : goal.graph_of-requires
+graph_of-requires c = record { laid = record { structs = map struct_of c.args.parts.now.structs.items; laid = c.requires.laid } }

@@ -5,7 +5,7 @@ use Rattle.rc_rlang.specs.Shapes.{steps_of, act_of, test_of, code_of, codes_of}
 use Rattle.rc_rlang.proofs.CodeRows.{block_is}
 use Rattle.rc_graph.specs.Nodes.{nodes_of, ends_of}
 use Rattle.rc_plans.specs.Plans.{act_plan, branch_plan, loop_plan, repeat_plan}
-use Rattle.rc_graph.proofs.Walking.{simple_done, branch_done, loop_done, repeat_done, on_ok}
+use Rattle.rc_graph.proofs.Walking.{from_plan, simple_done, branch_done, loop_done, repeat_done, on_ok}
 use Rattle.rc_graph.proofs.walk.+code.Goals as goal
 
 pub code-returns-in_ok-steps-in-Simple : goal.code-returns-in_ok-steps-in-Simple
@@ -18,7 +18,7 @@ code-returns-in_ok-steps-in-Simple t c structs f s =
     let last = act_of structs i.last in
     on_ok c.act.result _ _
     (λ d. simple_done f (steps_of structs i.all.items) last here k plan old (nodes_of c.steps.new.out.items) (nodes_of c.act.new.out.items)
-    (c.in_ok-plan-in-Simple.ensures structs s.laid ∙ ap (λ xs. act_plan (steps_of structs xs) last here k.next) c.as_slice.ensures.value)
+    (from_plan c.plan_act.result _ _ _ c.in_ok-plan-in-Simple.ensures (c.plan_act.ensures structs s.laid) ∙ ap (λ xs. act_plan (steps_of structs xs) last here k.next) c.as_slice.ensures.value)
     (c.in_ok-steps-in-Simple.ensures structs f s ∙ ap (λ xs. old ++ steps_nodes f (steps_of structs xs) here plan.behind) c.as_slice-in-Simple.ensures.value) d
     ∙ ap (λ one. old ++ code_nodes f one here k) (sym (ap (code_of structs) i.is)))
     (c.act.ensures structs f s)
@@ -42,7 +42,7 @@ code-returns-in_ok-code-in-Branch t c structs f s =
     let all = steps_of structs i.all.items in
     let yes' = code_of structs i.yes.value in
     let no' = code_of structs i.no.value in
-    let planned = c.in_ok-plan-in-Branch.ensures structs s.laid ∙ ap (λ xs. branch_plan (steps_of structs xs) (code_of structs c.deref.result.now) (code_of structs c.deref-in-Branch.result.now) here k.next) c.as_slice-in-Branch.ensures.value
+    let planned = from_plan c.plan_branch.result _ _ _ c.in_ok-plan-in-Branch.ensures (c.plan_branch.ensures structs s.laid) ∙ ap (λ xs. branch_plan (steps_of structs xs) (code_of structs c.deref.result.now) (code_of structs c.deref-in-Branch.result.now) here k.next) c.as_slice-in-Branch.ensures.value
     ∙ ap (λ x. branch_plan all (code_of structs x) (code_of structs c.deref-in-Branch.result.now) here k.next) c.deref.ensures ∙ ap (λ x. branch_plan all yes' (code_of structs x) here k.next) c.deref-in-Branch.ensures in
     on_ok c.code-in-Branch.result _ _
     (λ d. branch_done f all (test_of i.test) yes' no' here k plan old (nodes_of c.steps-in-Branch.new.out.items) (nodes_of c.branch-context.new.out.items) (nodes_of c.code.new.out.items) (nodes_of c.code-in-Branch.new.out.items) planned
@@ -64,7 +64,7 @@ code-returns-in_ok-code-in-Loop t c structs f s =
     let test = option_map test_of i.test in
     let third = code_of structs i.third.value in
     let body = code_of structs i.body.value in
-    let planned = c.in_ok-plan-in-Loop.ensures structs s.laid ∙ ap (λ xs. loop_plan (steps_of structs xs) test (code_of structs c.deref-in-Loop.result.now) (code_of structs c.deref-in-Loop-2.result.now) here) c.as_slice-in-Loop.ensures.value
+    let planned = from_plan c.plan_loop.result _ _ _ c.in_ok-plan-in-Loop.ensures (c.plan_loop.ensures structs s.laid) ∙ ap (λ xs. loop_plan (steps_of structs xs) test (code_of structs c.deref-in-Loop.result.now) (code_of structs c.deref-in-Loop-2.result.now) here) c.as_slice-in-Loop.ensures.value
     ∙ ap (λ x. loop_plan all test (code_of structs x) (code_of structs c.deref-in-Loop-2.result.now) here) c.deref-in-Loop.ensures ∙ ap (λ x. loop_plan all test third (code_of structs x) here) c.deref-in-Loop-2.ensures in
     let m1 = nodes_of c.go-in-Loop.new.out.items in
     let m3 = nodes_of c.condition.new.out.items in
@@ -88,7 +88,7 @@ code-returns-in_ok-steps-in-Repeat t c structs f s =
     let plan = c.in_ok-plan-in-Repeat.plan in
     let all = steps_of structs i.all.items in
     let body = code_of structs i.body.value in
-    let planned = c.in_ok-plan-in-Repeat.ensures structs s.laid ∙ ap (λ x. repeat_plan (code_of structs x) (steps_of structs c.as_slice-in-Repeat.result.now) here) c.deref-in-Repeat.ensures
+    let planned = from_plan c.plan_repeat.result _ _ _ c.in_ok-plan-in-Repeat.ensures (c.plan_repeat.ensures structs s.laid) ∙ ap (λ x. repeat_plan (code_of structs x) (steps_of structs c.as_slice-in-Repeat.result.now) here) c.deref-in-Repeat.ensures
     ∙ ap (λ xs. repeat_plan body (steps_of structs xs) here) c.as_slice-in-Repeat.ensures.value in
     let m1 = nodes_of c.go-in-Repeat.new.out.items in
     let m2 = nodes_of c.code-in-Repeat.new.out.items in

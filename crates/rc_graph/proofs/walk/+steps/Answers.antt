@@ -7,7 +7,7 @@ use Rattle.rc_rlang.proofs.CodeRows.{fork_is}
 use Rattle.rc_graph.specs.Nodes.{effect_of, nodes_of}
 use Rattle.rc_plans.specs.Plans.{fork_plan}
 use Rattle.rc_plans.proofs.Counting.{steps_from}
-use Rattle.rc_graph.proofs.Walking.{fork_done, steps_more, last_step, on_ok}
+use Rattle.rc_graph.proofs.Walking.{from_plan, fork_done, steps_more, last_step, on_ok}
 use Rattle.rc_graph.proofs.walk.+steps.Goals as goal
 
 pub step-returns-in_ok-steps-in-Fork : goal.step-returns-in_ok-steps-in-Fork
@@ -18,7 +18,7 @@ step-returns-in_ok-steps-in-Fork t c structs f s =
     let plan = c.in_ok-plan-in-Fork.plan in
     let a = steps_of structs i.yes.items in
     let b = steps_of structs i.no.items in
-    let planned = c.in_ok-plan-in-Fork.ensures structs ∙ ap (λ xs. fork_plan (steps_of structs xs) (steps_of structs c.as_slice-in-Fork.result.now) here next) c.as_slice.ensures.value ∙ ap (λ xs. fork_plan a (steps_of structs xs) here next) c.as_slice-in-Fork.ensures.value in
+    let planned = from_plan c.plan_fork.result _ _ _ c.in_ok-plan-in-Fork.ensures (c.plan_fork.ensures structs) ∙ ap (λ xs. fork_plan (steps_of structs xs) (steps_of structs c.as_slice-in-Fork.result.now) here next) c.as_slice.ensures.value ∙ ap (λ xs. fork_plan a (steps_of structs xs) here next) c.as_slice-in-Fork.ensures.value in
     let variable = c.in_ok-variable-in-Fork.ensures f s.numbers in
     let first = c.in_ok-steps-in-Fork.ensures structs f s ∙ ap (λ xs. nodes_of c.fork.new.out.items ++ steps_nodes f (steps_of structs xs) plan.at_yes next) c.as_slice-in-Fork-2.ensures.value in
     on_ok c.steps-in-Fork.result _ _
@@ -42,5 +42,5 @@ steps-loop-i-preserved t c structs f s =
     let to = c.either-to.ensures ∙ last_step structs (drop (suc i) xs) (i + 1) (length xs) behind next (omega (arith, short)) (omega (arith, within)) in
     let j : suc i ≡ i + 1 = omega arith in
     steps_more f (step_of structs one) later l.at c.either-to.result behind next (nodes_of c.args.out.now.items ++ steps_nodes f (steps_of structs xs) c.args.here next) (nodes_of c.args.out.now.items) (nodes_of l.out.items) (nodes_of c.step.new.out.items)
-    (l.invariant structs f s ∙ ap (λ ys. nodes_of l.out.items ++ steps_nodes f ys l.at next) (steps_from structs xs i one within c.index-steps-i.is)) (c.in_ok-behind.ensures structs) to (c.in_ok-step.ensures structs f s)
+    (l.invariant structs f s ∙ ap (λ ys. nodes_of l.out.items ++ steps_nodes f ys l.at next) (steps_from structs xs i one within c.index-steps-i.is)) (from_plan c.past_step.result _ _ _ c.in_ok-behind.ensures (c.past_step.ensures structs)) to (c.in_ok-step.ensures structs f s)
     ∙ ap (λ k. nodes_of c.step.new.out.items ++ steps_nodes f (steps_of structs (drop k xs)) behind next) j

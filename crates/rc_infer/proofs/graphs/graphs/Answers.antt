@@ -31,3 +31,6 @@ returns c =
     let top = c.loop-g.auto.g-end in
     let all : c.loop-g.g ≡ length r.functions = omega (arith, test, top, end, room, same, long) in
     subst (λ k. AreGraphs r k c.loop-g.all.items) all c.loop-g.invariant
+
+pub graph_of-requires : goal.graph_of-requires
+graph_of-requires c = record { laid = record { structs = (rlang_of c.args.code.now).structs; laid = c.requires } }

@@ -72,3 +72,6 @@ returns c =
     let top = c.loop-g.auto.g-end in
     let all : c.loop-g.g ≡ length r.functions = omega (arith, test, top, end, room, same, long) in
     started_all r (family_of c.loop-g.facts) (subst (λ k. Started r k (family_of c.loop-g.facts)) all c.loop-g.invariant)
+
+pub graph_of-requires : goal.graph_of-requires
+graph_of-requires c = record { laid = record { structs = (rlang_of c.args.code.now).structs; laid = c.requires } }

@@ -60,3 +60,6 @@ returns c = λ f' there'. (
       | then-called w ↦ subst (Visited r g f m m3) (ap (λ b. b || c.in_ok-left.left) w.if-called.true ∙ (sym w.if-called.true ∙ sym w.result-is)) all
       | else-called w ↦ subst (Visited r g f m m3) (ap (λ b. b || c.in_ok-left.left) w.if-called.false ∙ sym w.result-is) all
     ]))
+
+pub graph_of-requires : goal.graph_of-requires
+graph_of-requires c = record { laid = record { structs = (rlang_of c.args.code.now).structs; laid = c.requires.laid } }

@@ -56,3 +56,6 @@ returns-clause-lines c total k p held =
     let made = e2 ∙ ap (λ ls. ls ++ bare_code 0 second) e1 ∙ sym (bare_append first second) in
     let still = joins_lines total first second (steps_still total slot (deleting_in b) (types_in b) s [] [] (before_act act k.next)) (act_still total slot (deleting_in b) (types_in b) (last_line s) act (steps_types s []) k.next) in
     c.in_ok-put_piece.ensures ∙ ap (λ ls. ls ++ onward c.args.out.now.items) (made ∙ sym still)
+
+pub act_points-requires : goal.act_points-requires
+act_points-requires c = record { laid = record { structs = structs_in c.args.body.now; laid = c.requires.laid } }

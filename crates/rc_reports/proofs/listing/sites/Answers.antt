@@ -3,10 +3,9 @@ use Rattle.rc_rlang.specs.Shapes.{code_of}
 use Rattle.rc_reports.specs.declared.listing.Order.TheVariants.{Text}
 use Rattle.rc_reports.specs.Listed.{sites_of}
 use Rattle.rc_reports.specs.Ordered.{ordered}
-use Rattle.rc_reports.proofs.InOrder.{in_text}
 use Rattle.rc_reports.proofs.listing.sites.Goals as goal
 
 pub returns : goal.returns
 returns c structs laid =
     let body = code_of structs c.args.routine.now.body in
-    c.in_ok-list_code.ensures.sites structs laid ∙ ap (λ all. sites_of all ++ ordered Text body 1) c.new-all.ensures.items ∙ in_text body 1
+    c.in_ok-list_code.ensures.sites structs laid ∙ ap (λ all. sites_of all ++ ordered Text body 1) c.new-all.ensures.items

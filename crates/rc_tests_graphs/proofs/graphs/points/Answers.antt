@@ -5,3 +5,6 @@ use Rattle.rc_tests_graphs.proofs.graphs.points.Goals as goal
 
 pub new-requires : goal.new-requires
 new-requires c = subst (λ ss. StructsFit (map struct_of ss)) (sym (c.as_slice.ensures.value ∙ ap (λ p. p.structs.items) c.parts-parts.ensures.parts)) c.parts-parts.ensures.fits.structs
+
+pub graph_of-requires : goal.graph_of-requires
+graph_of-requires c = record { laid = record { structs = map struct_of c.as_slice.result.now; laid = c.in_ok-layouts.ensures } }

@@ -1,42 +1,16 @@
-use Rattle.std.proofs.Common.{◌≡◌, ◌∙◌, [], Bool, length, get_or, set, true, sym, ap, subst}
-use Rattle.std.proofs.lemmas.List.{map-set, with_items_is}
-use Rattle.std.specs.declared.vec.Vec.{Vec}
-use Rattle.std.specs.declared.alloc.Global.{Global as Alloc}
-use Rattle.rc_elim.specs.Masks.{HasPoints, marks_in, rows_of}
-use Rattle.rc_elim.proofs.Unmarked.{long_set, marked_too, row_read, same_points}
+use Rattle.std.proofs.Common.{sym, ◌∙◌}
+use Rattle.rc_rlang.specs.Shapes.{rlang_of}
+use Rattle.rc_elim.specs.Masks.{has_check}
+use Rattle.rc_elim.proofs.Checked.{check_within, marked_where}
 use Rattle.rc_elim.proofs.mask.Mask.remove.Goals as goal
 
-pub returns-clause-rows : goal.returns-clause-rows
-returns-clause-rows c =
-    let rows = c.self.inside.rows.items in
-    let m = c.args.self.now in
-    let h = c.args.function in
-    let row = c.index_mut.result.now in
-    let read : row.items ≡ get_or m h [] = row_read rows h c.args.point row c.index_mut.ensures.value m c.self.view_is c.requires in
-    let bits : c.set.new.bits ≡ set (get_or m h []) c.args.point true = c.set.ensures ∙ ap (λ bs. set bs c.args.point true) (c.deref_mut.ensures.value ∙ read) in
-    let kept = with_items_is row c.set.new.bits (ap length c.set.ensures ∙ long_set c.deref_mut.result.now c.args.point ∙ c.deref_mut.ensures.len) in
-    map-set (λ (v : Vec Bool Alloc). v.items) rows h (Rattle.std.specs.Vec.with_items row c.set.new.bits) ∙ ap (set (rows_of rows) h) (kept ∙ bits) ∙ ap (λ x. set x h (set (get_or m h []) c.args.point true)) c.self.view_is
+pub mark-requires : goal.mark-requires
+mark-requires c = check_within (rlang_of c.args.code.now) c.args.self.now c.args.function c.args.point c.requires (sym c.in_ok-there.ensures ∙ c.if-not-there.false)
 
 pub returns-clause-points : goal.returns-clause-points
-returns-clause-points c r has =
-    let rows = c.self.inside.rows.items in
-    let m = c.args.self.now in
-    let h = c.args.function in
-    let row = c.index_mut.result.now in
-    let read : row.items ≡ get_or m h [] = row_read rows h c.args.point row c.index_mut.ensures.value m c.self.view_is c.requires in
-    let bits : c.set.new.bits ≡ set (get_or m h []) c.args.point true = c.set.ensures ∙ ap (λ bs. set bs c.args.point true) (c.deref_mut.ensures.value ∙ read) in
-    let kept = with_items_is row c.set.new.bits (ap length c.set.ensures ∙ long_set c.deref_mut.result.now c.args.point ∙ c.deref_mut.ensures.len) in
-    let view = map-set (λ (v : Vec Bool Alloc). v.items) rows h (Rattle.std.specs.Vec.with_items row c.set.new.bits) ∙ ap (set (rows_of rows) h) (kept ∙ bits) ∙ ap (λ x. set x h (set (get_or m h []) c.args.point true)) c.self.view_is in
-    subst (HasPoints r) (sym view) (same_points c.args.point r m h c.requires has)
+returns-clause-points c = c.mark.ensures.points (rlang_of c.args.code.now) c.requires
 
 pub returns-clause-marks : goal.returns-clause-marks
-returns-clause-marks c g p =
-    let rows = c.self.inside.rows.items in
-    let m = c.args.self.now in
-    let h = c.args.function in
-    let row = c.index_mut.result.now in
-    let read : row.items ≡ get_or m h [] = row_read rows h c.args.point row c.index_mut.ensures.value m c.self.view_is c.requires in
-    let bits : c.set.new.bits ≡ set (get_or m h []) c.args.point true = c.set.ensures ∙ ap (λ bs. set bs c.args.point true) (c.deref_mut.ensures.value ∙ read) in
-    let kept = with_items_is row c.set.new.bits (ap length c.set.ensures ∙ long_set c.deref_mut.result.now c.args.point ∙ c.deref_mut.ensures.len) in
-    let view = map-set (λ (v : Vec Bool Alloc). v.items) rows h (Rattle.std.specs.Vec.with_items row c.set.new.bits) ∙ ap (set (rows_of rows) h) (kept ∙ bits) ∙ ap (λ x. set x h (set (get_or m h []) c.args.point true)) c.self.view_is in
-    ap (λ x. marks_in x g p) view ∙ marked_too c.args.point m h g p c.requires
+returns-clause-marks c h q =
+    let there = has_check (rlang_of c.args.code.now) c.args.function c.args.point in
+    marked_where there c.mark.new.self c.args.self.now c.args.function c.args.point h q (sym c.in_ok-there.ensures ∙ c.if-not-there.false) (c.mark.ensures.marks h q)

@@ -1,0 +1,34 @@
+use Rattle.std.proofs.Common.{◌≡◌, ◌∙◌, List, Some, length, ap, sym, subst, map}
+use Rattle.std.specs.Prelude.{slice_get, option_map}
+use Rattle.std.proofs.lemmas.Bool.{ltb-true}
+use Rattle.std.proofs.lemmas.Option.{slice_get-get_or}
+use Rattle.rc_core.specs.Shapes.{struct_of}
+use Rattle.rc_core.specs.WellTyped.{StructsFit}
+use Rattle.rc_rlang.specs.RegionFlow.{routine_nodes}
+use Rattle.rc_rlang.specs.Shapes.{rlang_of, routine_in}
+use Rattle.rc_rlang.specs.declared.code.RegionParts.{RegionParts}
+use Rattle.rc_rlang.specs.declared.code.Routine.{Routine as CodeRoutine}
+use Rattle.rc_graph.specs.declared.node.Node.{Node as CodeNode}
+use Rattle.rc_graph.specs.Nodes.{node_of, nodes_of}
+use Rattle.rc_elim.specs.Masks.{asks, has_check}
+use Rattle.rc_elim.proofs.Checked.{asked_there}
+use Rattle.rc_elim.proofs.mask.has_check.Goals as goal
+
+pub new-requires : goal.new-requires
+new-requires c = subst (λ ss. StructsFit (map struct_of ss)) (sym (c.as_slice.ensures.value ∙ ap (λ p. p.structs.items) c.parts-parts.ensures.parts)) c.parts-parts.ensures.fits.structs
+
+pub graph_of-requires : goal.graph_of-requires
+graph_of-requires c = record { laid = record { structs = map struct_of c.as_slice.result.now; laid = c.in_ok-layouts.ensures } }
+
+pub returns : goal.returns
+returns c =
+    let parts = c.parts-parts.result.now in
+    let routine = c.in-Some.routine.now in
+    let lookup = c.in-Some.ensures.lookup in
+    let found : slice_get c.deref.result.now c.args.function ≡ Some routine = slice_get-get_or c.deref.result.now c.args.function routine (ltb-true c.args.function (length c.deref.result.now) (sym lookup.0)) ∙ ap Some (sym lookup.1) in
+    let there : slice_get parts.functions.items c.args.function ≡ Some routine = ap (λ (fs : List CodeRoutine). slice_get fs c.args.function) (sym c.deref.ensures.value) ∙ found in
+    let graph = c.in_ok-graph.ensures (map struct_of c.as_slice.result.now) c.in_ok-layouts.ensures in
+    let nodes : nodes_of c.in_ok-graph.graph.nodes.items ≡ routine_nodes (routine_in (map struct_of parts.structs.items) routine) = graph.nodes ∙ ap (λ ss. routine_nodes (routine_in (map struct_of ss) routine)) c.as_slice.ensures.value in
+    c.asks.ensures ∙ ap (λ (ns : List CodeNode). asks (option_map node_of (slice_get ns c.args.point))) c.as_slice-2.ensures.value
+    ∙ asked_there parts c.args.function c.args.point routine c.in_ok-graph.graph.nodes.items there nodes
+    ∙ ap (λ (p : RegionParts). has_check (rlang_of p) c.args.function c.args.point) c.parts-parts.ensures.parts
