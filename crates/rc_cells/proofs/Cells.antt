@@ -13,6 +13,7 @@ use Rattle.rc_store.specs.Kept.{KeptObject, KeptStore, Regions, blank}
 use Rattle.rc_store.specs.Stores.{HasPlace, IsLive, all_cells, at_place, cells_in, no_object, object_with, objects_in, parent_in, region_at, size_of}
 use Rattle.rc_store.specs.Stores as S
 use Rattle.rc_store.specs.Values.{blank_of}
+use Rattle.rc_store.proofs.Changed.{objects_set}
 use Rattle.rc_cells.specs.Follow.{CellsFollow}
 use Rattle.rc_cells.proofs.Changes.{live_there, region_read, view_there}
 
@@ -21,7 +22,7 @@ objects_cells : (q : ℕ) (regions : Regions) (objects : List KeptObject) → Is
     → sum_by cells_in (S.with_objects q objects regions) + sum_by size_of (objects_in regions q) ≡ sum_by cells_in regions + sum_by size_of objects
 objects_cells q regions objects live =
     let changed = sum_by-set cells_in regions q (Some (record { parent = parent_in regions q; objects = objects })) None (live_there regions q live) in
-    omega (arith, changed, ap cells_in (view_there regions q live))
+    omega (arith, ap (sum_by cells_in) (objects_set q objects regions live), changed, ap cells_in (view_there regions q live))
 
 blank_size : (n : ℕ) (kinds : List Kind) → length (flat_map (map blank_of) (replicate n kinds)) ≡ n * length kinds
 blank_size zero kinds = sym (zero-mul (length kinds))

@@ -15,6 +15,7 @@ use Rattle.rc_store.specs.Stores.{IsLive, all_cells, at_place, cell_place, cells
 use Rattle.rc_store.specs.Stores as S
 use Rattle.rc_store.specs.Values.{blank_of, is_counted}
 use Rattle.rc_store.proofs.Along.{refs_along, refs_from}
+use Rattle.rc_store.proofs.Changed.{objects_set}
 use Rattle.rc_cells.specs.Follow.{IsThere, ReferencesFollow, cell_refs}
 
 -- whether a counted cell names r
@@ -111,7 +112,7 @@ objects_changed : (r q : ℕ) (regions : Regions) (objects : List KeptObject) �
     → elsewhere r (S.with_objects q objects regions) + cond (nat_eq q r) 0 (sum_by (object_refs r) (objects_in regions q)) ≡ elsewhere r regions + cond (nat_eq q r) 0 (sum_by (object_refs r) objects)
 objects_changed r q regions objects live =
     let changed = region_changed r q regions (Some (record { parent = parent_in regions q; objects = objects })) (live_there regions q live) in
-    omega (arith, changed, ap (λ v. weight r q v) (view_there regions q live))
+    omega (arith, ap (elsewhere r) (objects_set q objects regions live), changed, ap (λ v. weight r q v) (view_there regions q live))
 
 cond_plus : (b : Bool) (m n k l : ℕ) → m + n ≡ k + l → cond b 0 m + cond b 0 n ≡ cond b 0 k + cond b 0 l
 cond_plus true m n k l same = refl

@@ -1,5 +1,5 @@
 -- The counts stay the references, call by call.
-use Rattle.std.proofs.Common.{◌≡◌, ◌≢◌, ◌<◌, ◌≤◌, ◌+◌, ◌-◌, ◌*◌, ◌∙◌, inl, inr, ℕ, ℤ, zero, suc, Bool, true, false, cond, nat_eq, IsTrue, List, [], ◌∷◌, ◌++◌, Option, Some, None, length, set, refl, sym, ap, arith, rules, length-append}
+use Rattle.std.proofs.Common.{◌≡◌, ◌≢◌, ◌<◌, ◌≤◌, ◌+◌, ◌-◌, ◌*◌, ◌∙◌, inl, inr, ℕ, ℤ, zero, suc, Bool, true, false, cond, nat_eq, IsTrue, List, [], ◌∷◌, ◌++◌, Option, Some, None, length, refl, sym, ap, arith, rules, length-append}
 use Rattle.std.specs.Prelude.{◌&&◌, IsPermutation}
 use Rattle.std.specs.List.{sum_by}
 use Rattle.std.proofs.lemmas.Bool.{cases_eq, false≢true}
@@ -12,8 +12,8 @@ use Rattle.rc_core.specs.Layout.{is_plain}
 use Rattle.rc_core.specs.Heap.{Value, Number, Null, Handle, Pointer, fits, is_fresh, names}
 use Rattle.rc_base.specs.declared.ends.Limits.{Limits}
 use Rattle.rc_store.specs.declared.cell.Place.{Place}
-use Rattle.rc_store.specs.Kept.{KeptStore, KeptView, Regions, object_refs, refs, view_refs}
-use Rattle.rc_store.specs.Stores.{IsFresh, IsLive, MayStand, all_cells, allocated, cells_in, deleted, has_child, kind_at, limited, live_in, made, objects_in, or_none, parent_in, region_at, value_at, written}
+use Rattle.rc_store.specs.Kept.{KeptObject, KeptStore, KeptView, Regions, object_refs, refs, view_refs}
+use Rattle.rc_store.specs.Stores.{IsFresh, IsLive, MayStand, all_cells, allocated, cells_in, deleted, has_child, kind_at, limited, live_in, made, objects_in, or_none, parent_in, region_at, value_at, with_objects, written}
 use Rattle.rc_store.specs.Values.{is_counted, note_of, suits}
 use Rattle.rc_cells.specs.Follow.{IsThere, cell_refs}
 use Rattle.rc_cells.proofs.Changes.{live_there, references_follow}
@@ -243,9 +243,10 @@ pub fresh_live : (s : KeptStore) (h r : ℕ) (v : Value) → IsFresh s v → 0 <
 fresh_live s h r v fresh some = fresh_named (live_in s.regions) r v fresh (counted_names (nat_eq h r) (names r v) some)
 
 -- a write leaves who is live
-pub live_set : (regions : Regions) (q r : ℕ) (x : KeptView) → IsTrue (live_in regions q) → live_in (set regions q (Some x)) r ≡ live_in regions r
-live_set [] q r x live = refl
-live_set (v ∷ vs) zero zero x live = sym live
-live_set (v ∷ vs) zero (suc r) x live = refl
-live_set (v ∷ vs) (suc q) zero x live = refl
-live_set (v ∷ vs) (suc q) (suc r) x live = live_set vs q r x live
+pub live_with : (regions : Regions) (q r : ℕ) (objects : List KeptObject) → live_in (with_objects q objects regions) r ≡ live_in regions r
+live_with [] q r objects = refl
+live_with (None ∷ vs) zero zero objects = refl
+live_with (Some v ∷ vs) zero zero objects = refl
+live_with (v ∷ vs) zero (suc r) objects = refl
+live_with (v ∷ vs) (suc q) zero objects = refl
+live_with (v ∷ vs) (suc q) (suc r) objects = live_with vs q r objects

@@ -1,8 +1,7 @@
 -- Reading and changing what is kept.
-use Rattle.std.proofs.Common.{◌≡◌, ◌<◌, ◌+◌, ◌-◌, ◌*◌, ◌∙◌, ℕ, zero, suc, IsTrue, List, [], ◌∷◌, ◌++◌, length, take, map, set, get_or, replicate, Option, Some, None, refl, sym, ap, arith}
+use Rattle.std.proofs.Common.{◌≡◌, ◌<◌, ◌+◌, ◌-◌, ◌*◌, ◌∙◌, ℕ, zero, suc, List, [], ◌∷◌, ◌++◌, length, take, map, set, get_or, replicate, Option, Some, None, refl, sym, ap, arith}
 use Rattle.std.specs.Prelude.{◌||◌, flat_map, option_map}
 use Rattle.std.specs.List.{list_any}
-use Rattle.std.proofs.lemmas.Bool.{false≢true}
 use Rattle.std.proofs.lemmas.List.{get_or-append-add, get_or_append_left, length-map, map-append}
 use native.Mathlib.Nat.{zero-mul, suc-mul}
 use mathlib.Core.Path.{fun_ext}
@@ -130,33 +129,28 @@ object_changed o p v within =
     ap (λ vs. let k : KeptObject = record { size = length o.layout; count = o.count; kinds = map kind_of (cells_of o); values = vs } in k)
     (sym (ap (λ us. overwritten (place_of o (spot_of p)) us o.values) (front_of_one (length o.layout - p.cell) v (omega (arith, within))) ∙ overwritten_one (place_of o (spot_of p)) v o.values))
 
--- a live region has other objects
-view_changed : (v : Option View) (change : List Object → List Object) (objects : List KeptObject) → IsTrue (Model.is_view v) → objects ≡ map kept_object (change (Model.or_none v).objects)
-    → (let k : KeptView = record { parent = (Model.or_none v).parent; objects = objects } in Some k) ≡ option_map kept_view (Model.changed_view change v)
-view_changed None change objects live is = absurd (false≢true live)
-view_changed (Some v) change objects live is = ap (λ os. let k : KeptView = record { parent = v.parent; objects = os } in Some k) is
-
-module _ (s : Store) (r : ℕ) (live : IsTrue (Model.lives s r)) (change : List Object → List Object) (objects : List KeptObject) (is : objects ≡ map kept_object (change (Model.view s r).objects)) where
-  pub regions_changed : Kept.with_objects r objects (kept_store s).regions ≡ (kept_store (Model.with_objects_in s r change)).regions
-  regions_changed =
-      ap (λ p. set (kept_store s).regions r (let k : KeptView = record { parent = p; objects = objects } in Some k)) (ap (λ v. (Kept.or_none v).parent) (region_kept s.regions r) ∙ parent_kept (get_or s.regions r None))
-      ∙ set_map (option_map kept_view) s.regions r None (Model.changed_view change) (let k : KeptView = record { parent = (Model.view s r).parent; objects = objects } in Some k) (view_changed (get_or s.regions r None) change objects live is)
+-- a region has other objects, if it is live
+views_changed : (views : List (Option View)) (r : ℕ) (change : List Object → List Object) (objects : List KeptObject) → objects ≡ map kept_object (change (Model.or_none (get_or views r None)).objects)
+    → Kept.with_objects r objects (map (option_map kept_view) views) ≡ map (option_map kept_view) (update views r (Model.changed_view change))
+views_changed [] r change objects is = refl
+views_changed (None ∷ views) zero change objects is = refl
+views_changed (Some v ∷ views) zero change objects is = ap (λ os. let k : KeptView = record { parent = v.parent; objects = os } in Some k ∷ map (option_map kept_view) views) is
+views_changed (v ∷ views) (suc r) change objects is = ap (λ vs. option_map kept_view v ∷ vs) (views_changed views r change objects is)
 
 pub changes_the_store : KeepsTheStore → ChangesTheStore
 changes_the_store keeps = record {
   made = λ s parent. ap (λ rs. let k : KeptStore = record (kept_store s) { regions = rs } in k) (sym (map-append (option_map kept_view) s.regions (Some (record { parent = parent; objects = [] }) ∷ [])));
-  allocated = λ s r n layout live.
+  allocated = λ s r n layout.
       ap (λ rs. let k : KeptStore = record (kept_store s) { regions = rs } in k)
-      (regions_changed s r live (λ os. os ++ blank layout n ∷ []) _
+      (views_changed s.regions r (λ os. os ++ blank layout n ∷ []) _
       (ap (λ os. os ++ kept_blank (map kind_of layout) n ∷ []) (objects_are s r)
       ∙ ap (λ o. map kept_object (Model.view s r).objects ++ o ∷ []) (sym (keeps.blanks layout n))
       ∙ sym (map-append kept_object (Model.view s r).objects (blank layout n ∷ []))));
   written = λ s p v has.
-      let live = sym (ap Kept.is_view (region_kept s.regions p.pointer.region) ∙ live_kept (get_or s.regions p.pointer.region None)) ∙ has.live in
       let is = object_is s p.pointer.region p.pointer.object in
       let within : p.cell < length (Model.object_in s p.pointer.region p.pointer.object).layout = omega (arith, has.cell.within, ap (λ (k : KeptObject). k.size) is) in
       ap (λ rs. let k : KeptStore = record (kept_store s) { regions = rs } in k)
-      (regions_changed s p.pointer.region live (λ os. update os p.pointer.object (λ o. record o { values = overwritten (place_of o (spot_of p)) (take (length o.layout - p.cell) (v ∷ [])) o.values })) _
+      (views_changed s.regions p.pointer.region (λ os. update os p.pointer.object (λ o. record o { values = overwritten (place_of o (spot_of p)) (take (length o.layout - p.cell) (v ∷ [])) o.values })) _
       (ap (λ os. set os p.pointer.object (Kept.object_with p.pointer.index p.cell v (get_or os p.pointer.object Kept.no_object))) (objects_are s p.pointer.region)
       ∙ set_map kept_object (Model.view s p.pointer.region).objects p.pointer.object no_object (λ o. record o { values = overwritten (place_of o (spot_of p)) (take (length o.layout - p.cell) (v ∷ [])) o.values }) _
       (ap (Kept.object_with p.pointer.index p.cell v) (read_map kept_object (Model.view s p.pointer.region).objects p.pointer.object no_object) ∙ object_changed (Model.object_in s p.pointer.region p.pointer.object) p v within)));

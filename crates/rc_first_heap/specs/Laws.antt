@@ -1,5 +1,5 @@
 -- What a heap keeps is read and changed as the store is.
-use Rattle.std.specs.Prelude.{◌≡◌, ℕ, IsTrue, [], ◌∷◌, ◌++◌, length, map, Some, None}
+use Rattle.std.specs.Prelude.{◌≡◌, ℕ, [], ◌∷◌, ◌++◌, length, map, Some, None}
 use Rattle.std.specs.List.{list_any}
 use Rattle.rc_core.specs.Layout.{Layout}
 use Rattle.rc_core.specs.Layout.{note_of as cell_note_of}
@@ -32,6 +32,6 @@ pub record ShowsTheStore : Type 0 where
 
 pub record ChangesTheStore : Type 0 where
   pub made : (s : Store) (parent : ℕ) → made parent (kept_store s) ≡ kept_store (record s { regions = s.regions ++ Some (record { parent = parent; objects = [] }) ∷ [] })
-  pub allocated : (s : Store) (r n : ℕ) (layout : Layout) → IsTrue (Model.lives s r) → allocated r (map kind_of layout) n (kept_store s) ≡ kept_store (Model.with_objects_in s r (λ os. os ++ blank layout n ∷ []))
+  pub allocated : (s : Store) (r n : ℕ) (layout : Layout) → allocated r (map kind_of layout) n (kept_store s) ≡ kept_store (Model.with_objects_in s r (λ os. os ++ blank layout n ∷ []))
   pub written : (s : Store) (p : Place) (v : Value) → HasPlace (kept_store s) p → written p v (kept_store s) ≡ kept_store (Model.put_in (spot_of p) v s)
   pub deleted : (s : Store) (r : ℕ) → deleted r (kept_store s) ≡ kept_store (record s { regions = update s.regions r (λ v. None) })

@@ -1,4 +1,5 @@
 pub mod Beside
 pub mod Above
 pub mod Zero
+pub mod Written
 pub mod Keeping

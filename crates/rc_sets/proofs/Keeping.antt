@@ -11,6 +11,7 @@ use Rattle.rc_core.specs.Heap.{Value, Handle}
 use Rattle.rc_store.specs.Kept.{KeptObject, KeptStore, KeptView, Regions, blank}
 use Rattle.rc_store.specs.Stores.{allocated, is_view, live_in, made, no_object, object_in, object_with, objects_in, objects_with, or_none, parent_in, region_at, with_objects, written}
 use Rattle.rc_store.specs.Sets.{deleted_all}
+use Rattle.rc_store.proofs.Changed.{objects_set}
 use Rattle.rc_replies.specs.Replies.{is_pin, place}
 use Rattle.rc_replies.proofs.Same.{count_cons, count_more, deleted_stays}
 use Rattle.rc_sets.specs.Records.{AreRecordsOf, AreRows, IsKeptBy, IsRow, RecordsState}
@@ -32,10 +33,10 @@ module _ (regions : Regions) (r : ℕ) (live : live_in regions r ≡ true) (obje
   changed = with_objects r objects regions
 
   pub objects_here : objects_in changed r ≡ objects
-  objects_here = ap (λ v. (or_none v).objects) (set_same regions r (Some (record { parent = parent_in regions r; objects = objects })) live)
+  objects_here = ap (λ v. (or_none v).objects) (ap (λ rs. region_at rs r) (objects_set r objects regions live) ∙ set_same regions r (Some (record { parent = parent_in regions r; objects = objects })) live)
 
   pub objects_elsewhere : (q : ℕ) → q ≢ r → region_at changed q ≡ region_at regions q
-  objects_elsewhere q other = set_other regions r q (Some (record { parent = parent_in regions r; objects = objects })) other
+  objects_elsewhere q other = ap (λ rs. region_at rs q) (objects_set r objects regions live) ∙ set_other regions r q (Some (record { parent = parent_in regions r; objects = objects })) other
 
   pub rows_set : AreRows regions → ((o : ℕ) → o < length objects → IsRow (get_or objects o no_object)) → AreRows changed
   rows_set rows own q o there = elim (cases_eq q r) [
@@ -84,7 +85,7 @@ objects_counted : (t : RecordsState) (regions : Regions) (pins : List Value) (r 
 objects_counted t regions pins r n objects are live size =
     let all = are.all_objects in
     let below = live_below regions r live in
-    let long = length-set regions r (Some (record { parent = parent_in regions r; objects = objects })) in
+    let long = ap length (objects_set r objects regions live) ∙ length-set regions r (Some (record { parent = parent_in regions r; objects = objects })) in
     let same = length-set t.objects r n in
     let both = are.all_pins in
     record {

@@ -7,6 +7,7 @@ use Rattle.std.proofs.lemmas.List.{map-append, map-set}
 use Rattle.rc_core.specs.Heap.{is_above, is_above_within}
 use Rattle.rc_store.specs.Kept.{KeptObject, KeptView, Regions}
 use Rattle.rc_store.specs.Stores.{is_child, is_view, live_in, objects_in, or_none, parent_in, region_at, with_objects}
+use Rattle.rc_store.proofs.Changed.{objects_set}
 use Rattle.rc_slots.specs.Entries.{Member}
 use Rattle.rc_areas.specs.Areas.{AreaState, objects_of}
 use Rattle.rc_areas.specs.Shapes.{Shape}
@@ -92,6 +93,7 @@ regions_changed areas new shapes shapes_new ms r objects live same is =
     regions_set areas new shapes shapes_new ms r live same
     ∙ ap (λ (os : List KeptObject). let v : KeptView = record { parent = parent_among ms r; objects = os } in set (regions_of ms areas shapes) r (Some v)) is
     ∙ ap (λ p. let v : KeptView = record { parent = p; objects = objects } in set (regions_of ms areas shapes) r (Some v)) (sym (parent_is ms areas shapes r))
+    ∙ sym (objects_set r objects (regions_of ms areas shapes) (live_is ms areas shapes r ∙ live))
 
 -- one more, and one less
 pub regions_more : (areas : List AreaState) (shapes : List Shape) (ms : Members) (m : Member) → regions_of (ms ++ Some m ∷ []) areas shapes ≡ regions_of ms areas shapes ++ Some (view_of areas shapes m) ∷ []

@@ -1,3 +1,4 @@
 pub mod Along
+pub mod Changed
 pub mod Keeping
 pub mod Pinned

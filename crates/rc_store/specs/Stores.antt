@@ -1,10 +1,10 @@
 -- What each call does to the store.
-use Rattle.std.specs.Prelude.{◌≡◌, ◌<◌, ◌+◌, ◌*◌, ℕ, Bool, true, false, nat_eq, IsTrue, List, [], ◌∷◌, ◌++◌, length, slice_get, slice_set, slice_index_or, sum_by, Option, Some, None}
+use Rattle.std.specs.Prelude.{◌≡◌, ◌<◌, ◌+◌, ◌*◌, ℕ, Bool, true, false, nat_eq, IsTrue, List, [], ◌∷◌, ◌++◌, length, slice_get, slice_set, slice_index_or, sum_by, option_map, Option, Some, None}
 use Rattle.std.specs.List.{list_any}
 use Rattle.rc_base.specs.declared.ends.Limits.{Limits}
 use Rattle.rc_core.specs.declared.layouts.Kind.{Kind}
 use Rattle.rc_core.specs.declared.layouts.Kind.TheVariants.{Number as NumberKind}
-use Rattle.rc_core.specs.Heap.{Value, Null, is_fresh}
+use Rattle.rc_core.specs.Heap.{Value, Null, is_fresh, update}
 use Rattle.rc_store.specs.Kept.{KeptObject, KeptView, KeptStore, Regions, blank}
 use Rattle.rc_store.specs.declared.cell.Place.{Place}
 use Rattle.rc_store.specs.Values.{suits}
@@ -91,9 +91,13 @@ pub record MayStand (s : KeptStore) (p : Place) (v : Value) : Type 0 where
   pub fresh : IsFresh s v
   pub kind : IsTrue (suits (kind_at s p) v)
 
--- the regions where one has these objects instead
+-- a region with these objects instead
+abbrev pub view_with : List KeptObject → KeptView → KeptView
+view_with objects v = record v { objects = objects }
+
+-- the regions where a live one has these objects instead; a dead one stays dead
 abbrev pub with_objects : ℕ → List KeptObject → Regions → Regions
-with_objects r objects regions = slice_set regions r (Some (record { parent = parent_in regions r; objects = objects }))
+with_objects r objects regions = update regions r (option_map (view_with objects))
 
 abbrev pub objects_with : (o index cell : ℕ) → Value → List KeptObject → List KeptObject
 objects_with o index cell v objects = slice_set objects o (object_with index cell v (slice_index_or objects o no_object))

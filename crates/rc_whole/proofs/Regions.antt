@@ -9,6 +9,7 @@ use Rattle.rc_core.specs.Heap.{is_fresh}
 use Rattle.rc_store.specs.Kept.{KeptObject, KeptStore, KeptView, Regions}
 use Rattle.rc_store.specs.Stores.{HasCell, IsFresh, IsLive, cell_place, cell_value, is_view, live_in, no_object, or_none, parent_in, region_at, view_in, with_objects}
 use Rattle.rc_store.specs.Whole.{IsFilled, IsWhole}
+use Rattle.rc_store.proofs.Changed.{objects_set}
 use Rattle.rc_whole.proofs.Fitting.{Right}
 
 pub record ObjectRight (live : ℕ → Bool) (parent : ℕ → ℕ) (r : ℕ) (o : KeptObject) : Type 0 where
@@ -81,18 +82,21 @@ module _ (s : KeptStore) (q : ℕ) (objects : List KeptObject) (whole : IsWhole 
   views = with_objects q objects s.regions
 
   there : region_at views q ≡ Some (record { parent = parent_in s.regions q; objects = objects })
-  there = read_set s.regions q _ (live_there s.regions q live)
+  there = ap (λ rs. region_at rs q) (objects_set q objects s.regions live) ∙ read_set s.regions q _ (live_there s.regions q live)
+
+  beside : (r : ℕ) → r ≢ q → region_at views r ≡ region_at s.regions r
+  beside r apart = ap (λ rs. region_at rs r) (objects_set q objects s.regions live) ∙ read_beside s.regions q r _ apart
 
   lives : live_in views ≡ live_in s.regions
   lives = fun_ext (λ r. elim (cases_eq r q) [
     | inl same ↦ ap (live_in views) same ∙ ap is_view there ∙ sym (ap (live_in s.regions) same ∙ live)
-    | inr apart ↦ ap is_view (read_beside s.regions q r _ apart)
+    | inr apart ↦ ap is_view (beside r apart)
   ])
 
   parents : parent_in views ≡ parent_in s.regions
   parents = fun_ext (λ r. elim (cases_eq r q) [
     | inl same ↦ ap (parent_in views) same ∙ ap (λ v. (or_none v).parent) there ∙ sym (ap (parent_in s.regions) same)
-    | inr apart ↦ ap (λ v. (or_none v).parent) (read_beside s.regions q r _ apart)
+    | inr apart ↦ ap (λ v. (or_none v).parent) (beside r apart)
   ])
 
   pub objects_changed : ((o : ℕ) → o < length objects → ObjectRight (live_in s.regions) (parent_in s.regions) q (get_or objects o no_object)) → IsWhole (record s { regions = views })
@@ -104,7 +108,7 @@ module _ (s : KeptStore) (q : ℕ) (objects : List KeptObject) (whole : IsWhole 
       each : (r : ℕ) → IsTrue (live_in s.regions r) → RegionRight (live_in s.regions) (parent_in s.regions) r (view_in views r)
       each r l = elim (cases_eq r q) [
         | inl same ↦ subst (λ n. RegionRight (live_in s.regions) (parent_in s.regions) n (view_in views n)) (sym same) (subst (λ v. RegionRight (live_in s.regions) (parent_in s.regions) q (or_none v)) (sym there) here)
-        | inr apart ↦ subst (λ v. RegionRight (live_in s.regions) (parent_in s.regions) r (or_none v)) (sym (read_beside s.regions q r _ apart)) (split s whole r l)
+        | inr apart ↦ subst (λ v. RegionRight (live_in s.regions) (parent_in s.regions) r (or_none v)) (sym (beside r apart)) (split s whole r l)
       ]
 
       pins : All (IsFresh (record s { regions = views })) s.pins

@@ -6,7 +6,7 @@ use Rattle.rc_store.specs.Values.{note_of, value_of}
 use Rattle.rc_cells.specs.Follow.{IsThere}
 use Rattle.rc_tally.specs.Tally.{value_refs}
 use Rattle.rc_count.specs.Counted.{IsCounted}
-use Rattle.rc_count.proofs.Counting.{counted_written, fresh_live, live_set, new_few, old_few}
+use Rattle.rc_count.proofs.Counting.{counted_written, fresh_live, live_with, new_few, old_few}
 use Rattle.rc_count.proofs.count.CountHeap.write_reference.Goals as goal
 
 pub take_back-requires : goal.take_back-requires
@@ -32,7 +32,7 @@ give-requires-clause-live g c =
     let whole = c.replace-old.ensures.whole in
     let there : IsThere s p = record { place = may.place; kind = whole.kind; value = whole.value } in
     let plain : note_of (kind_at s p) ≡ Plain = subst (λ x. note_of (kind_at x p) ≡ Plain) (sym c.self.view_is) c.requires.plain in
-    λ r some. ap (λ rs. live_in rs r) (c.take_back.ensures.regions ∙ c.replace-old.ensures.written) ∙ live_set s.regions p.pointer.region r _ may.place.live ∙ fresh_live s p.pointer.region r v may.fresh some
+    λ r some. ap (λ rs. live_in rs r) (c.take_back.ensures.regions ∙ c.replace-old.ensures.written) ∙ live_with s.regions p.pointer.region r _ ∙ fresh_live s p.pointer.region r v may.fresh some
 
 pub give-requires-clause-few : goal.give-requires-clause-few
 give-requires-clause-few g c =

@@ -1,10 +1,11 @@
-use Rattle.std.proofs.Common.{◌∙◌, None, set, refl, sym, ap, subst, set-set}
+use Rattle.std.proofs.Common.{◌∙◌, None, set, refl, sym, ap, subst}
 use Rattle.rc_space.specs.Spaces.{SpaceState, area_at, regions_of}
 use Rattle.std.specs.List.{list_any}
 use Rattle.std.proofs.lemmas.List.{with_items_is}
 use Rattle.rc_areas.specs.Areas.{IsLaid, objects_of}
 use Rattle.rc_space.specs.Spaces.{AreFreed, IsBeside, IsSpace}
 use Rattle.rc_store.specs.Stores.{is_child}
+use Rattle.rc_store.proofs.Changed.{objects_gone}
 use Rattle.rc_space.proofs.Regions.{child_is, regions_less}
 use Rattle.rc_space.proofs.Shown.{live_shown}
 use Rattle.rc_space.proofs.Grown.{empty_laid, freed_less, regions_beside, space_beside}
@@ -53,5 +54,5 @@ returns-clause-regions g c =
     ∙ ap (λ x. regions_of x new s.shapes) c.remove.ensures.members
     ∙ regions_less new s.shapes ms r
     ∙ ap (λ x. set x r None) changed
-    ∙ set-set (regions_of ms areas s.shapes) r _ None
+    ∙ objects_gone r _ (regions_of ms areas s.shapes)
     ∙ ap (λ x. set x r None) view
