@@ -1,9 +1,10 @@
 -- Nodes of parts of code, one behind another.
 use Rattle.std.proofs.Common.{◌≡◌, ◌<◌, ◌≤◌, ◌-◌, ◌+◌, ℕ, zero, suc, Bool, true, false, List, [], ◌∷◌, ◌++◌, length, map, replicate, take, drop, refl, sym, ap, ◌∙◌, arith, append_assoc, nat_eq, nat_lt}
-use Rattle.std.specs.Prelude.{Option, Some, None, MatchOption, Result, Ok, Err, OnOk, slice_get}
+use Rattle.std.specs.Prelude.{Option, Some, None, Result, Ok, Err, OnOk, slice_get}
 use Rattle.std.proofs.lemmas.Bool.{eqb-true, eq-eqb, ltb-true, ltb-false}
 use Rattle.std.proofs.lemmas.Option.{same_Some}
 use Rattle.rc_core.specs.Programs.{Struct}
+use Rattle.rc_rlang.specs.Counted.{Counted}
 use Rattle.rc_rlang.specs.declared.steps.Step.{Step as CodeStep}
 use Rattle.rc_rlang.specs.Shapes.{step_of, steps_of}
 use Rattle.rc_core.specs.Types.{Ty}
@@ -18,7 +19,7 @@ use Rattle.rc_plans.specs.declared.plans.LoopPlan.{LoopPlan}
 use Rattle.rc_plans.specs.declared.plans.RepeatPlan.{RepeatPlan}
 use Rattle.rc_plans.specs.declared.plans.RoutinePlan.{RoutinePlan}
 use Rattle.rc_graph.specs.Nodes.{idle_nodes}
-use Rattle.rc_plans.specs.Plans.{fork_plan, act_plan, branch_plan, loop_plan, repeat_plan, routine_plan}
+use Rattle.rc_plans.specs.Plans.{Planned, fork_plan, act_plan, branch_plan, loop_plan, repeat_plan, routine_plan}
 
 two : {A : Type 0} (old m new a b : List A) → m ≡ old ++ a → new ≡ m ++ b → new ≡ old ++ (a ++ b)
 two old m new a b e d = d ∙ ap (λ x. x ++ b) e ∙ append_assoc old a b
@@ -33,9 +34,13 @@ five : {A : Type 0} (old m1 m2 m3 m4 new a b c d e : List A) → m1 ≡ old ++ a
 five old m1 m2 m3 m4 new a b c d e h i j k l = two old m1 new a (b ++ (c ++ (d ++ e))) h (four m1 m2 m3 m4 new b c d e i j k l)
 
 -- what is there is what it should be
-pub from_plan : {A : Type 0} (o : Option A) (known it : A) (P : Type 0) → o ≡ Some known → MatchOption o P (λ x. x ≡ it) → known ≡ it
-from_plan (Some x) known it P e h = sym (same_Some x known e) ∙ h
-from_plan None known it P e h = cc
+pub from_count : (o : Option ℕ) (known it : ℕ) → o ≡ Some known → Counted o it → known ≡ it
+from_count (Some x) known it e h = sym (same_Some x known e) ∙ h
+from_count None known it e h = cc
+
+pub from_plan : {A : Type 0} (o : Option A) (known it : A) (behind : ℕ) → o ≡ Some known → Planned o behind it → known ≡ it
+from_plan (Some x) known it behind e h = sym (same_Some x known e) ∙ h.0
+from_plan None known it behind e h = cc
 
 -- the point behind, or the next one where nothing is left
 abbrev pub last_or : {A : Type 0} → List A → (next behind : ℕ) → ℕ

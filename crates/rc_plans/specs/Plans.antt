@@ -13,9 +13,9 @@ use Rattle.rc_plans.specs.declared.plans.LoopPlan.{LoopPlan}
 use Rattle.rc_plans.specs.declared.plans.RepeatPlan.{RepeatPlan}
 use Rattle.rc_plans.specs.declared.plans.RoutinePlan.{RoutinePlan}
 
--- it is the plan; there is none only where the point behind is no `u32`
+-- it is the plan, and the point behind is a `u32`; there is none just where that is no `u32`
 abbrev pub Planned : {A : Type 0} → Option A → (behind : ℕ) → A → Type 0
-Planned result behind plan = MatchOption result (2 ^ 32 ≤ behind) (λ p. p ≡ plan)
+Planned result behind plan = MatchOption result (2 ^ 32 ≤ behind) (λ p. (p ≡ plan) × (behind < 2 ^ 32))
 
 abbrev pub fork_plan : (yes no : Steps) → (here next : ℕ) → ForkPlan
 fork_plan a b here next = record {

@@ -84,7 +84,7 @@ fn first_of(points: u32, here: u32, next: u32) -> u32
     if points == 0 { next } else { here }
 }
 
-/// The plan of a fork that stands at a point, and behind which a next one comes: none only where the
+/// The plan of a fork that stands at a point, and behind which a next one comes: none just where the
 /// point behind it is no `u32`.
 pub fn plan_fork(yes: &[Step], no: &[Step], here: u32, next: u32) -> Option<ForkPlan>
     ensures { (structs : List Struct) → Planned result (suc here + steps_points (steps_of structs yes.now) + steps_points (steps_of structs no.now)) (fork_plan (steps_of structs yes.now) (steps_of structs no.now) here next) }
@@ -102,7 +102,7 @@ pub fn plan_fork(yes: &[Step], no: &[Step], here: u32, next: u32) -> Option<Fork
     })
 }
 
-/// The plan of steps that stand at a point, and of the act behind them: none only where the point behind
+/// The plan of steps that stand at a point, and of the act behind them: none just where the point behind
 /// it is no `u32`.
 pub fn plan_act(
     layouts: &Layouts,
@@ -124,7 +124,7 @@ pub fn plan_act(
     })
 }
 
-/// The plan of a branch whose steps stand at a point, and behind which a next one comes: none only where
+/// The plan of a branch whose steps stand at a point, and behind which a next one comes: none just where
 /// the point behind it is no `u32`.
 pub fn plan_branch(
     layouts: &Layouts,
@@ -153,7 +153,7 @@ pub fn plan_branch(
     })
 }
 
-/// The plan of a loop that stands at a point: none only where the point behind it is no `u32`.
+/// The plan of a loop that stands at a point: none just where the point behind it is no `u32`.
 pub fn plan_loop(
     layouts: &Layouts,
     steps: &[Step],
@@ -187,7 +187,7 @@ pub fn plan_loop(
     })
 }
 
-/// The plan of a loop that stands at a point, and whose condition stands behind its body: none only where
+/// The plan of a loop that stands at a point, and whose condition stands behind its body: none just where
 /// the point behind it is no `u32`.
 pub fn plan_repeat(layouts: &Layouts, body: &Code, steps: &[Step], here: u32) -> Option<RepeatPlan>
     requires laid { AreLayouts layouts.now }
@@ -209,7 +209,7 @@ pub fn plan_repeat(layouts: &Layouts, body: &Code, steps: &[Step], here: u32) ->
     })
 }
 
-/// The plan of a function with this body: none only where the point behind that is no `u32`. Its entry is
+/// The plan of a function with this body: none just where the point behind that is no `u32`. Its entry is
 /// the point 0.
 pub fn plan_routine(layouts: &Layouts, body: &Code) -> Option<RoutinePlan>
     requires laid { AreLayouts layouts.now }

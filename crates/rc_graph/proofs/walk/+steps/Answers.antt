@@ -7,7 +7,7 @@ use Rattle.rc_rlang.proofs.CodeRows.{fork_is}
 use Rattle.rc_graph.specs.Nodes.{effect_of, nodes_of}
 use Rattle.rc_plans.specs.Plans.{fork_plan}
 use Rattle.rc_plans.proofs.Counting.{steps_from}
-use Rattle.rc_graph.proofs.Walking.{from_plan, fork_done, steps_more, last_step, on_ok}
+use Rattle.rc_graph.proofs.Walking.{from_count, from_plan, fork_done, steps_more, last_step, on_ok}
 use Rattle.rc_graph.proofs.walk.+steps.Goals as goal
 
 pub step-returns-in_ok-steps-in-Fork : goal.step-returns-in_ok-steps-in-Fork
@@ -42,5 +42,5 @@ steps-loop-i-preserved t c structs f s =
     let to = c.either-to.ensures ∙ last_step structs (drop (suc i) xs) (i + 1) (length xs) behind next (omega (arith, short)) (omega (arith, within)) in
     let j : suc i ≡ i + 1 = omega arith in
     steps_more f (step_of structs one) later l.at c.either-to.result behind next (nodes_of c.args.out.now.items ++ steps_nodes f (steps_of structs xs) c.args.here next) (nodes_of c.args.out.now.items) (nodes_of l.out.items) (nodes_of c.step.new.out.items)
-    (l.invariant structs f s ∙ ap (λ ys. nodes_of l.out.items ++ steps_nodes f ys l.at next) (steps_from structs xs i one within c.index-steps-i.is)) (from_plan c.past_step.result _ _ _ c.in_ok-behind.ensures (c.past_step.ensures structs)) to (c.in_ok-step.ensures structs f s)
+    (l.invariant structs f s ∙ ap (λ ys. nodes_of l.out.items ++ steps_nodes f ys l.at next) (steps_from structs xs i one within c.index-steps-i.is)) (from_count c.past_step.result _ _ c.in_ok-behind.ensures (c.past_step.ensures structs)) to (c.in_ok-step.ensures structs f s)
     ∙ ap (λ k. nodes_of c.step.new.out.items ++ steps_nodes f (steps_of structs (drop k xs)) behind next) j
