@@ -24,7 +24,7 @@ use Rattle.rc_annotations.specs.Holding.{is_present, region_in, Holds, AllHold}
 use Rattle.rc_annotations.specs.Effects.{Says}
 use Rattle.rc_annotations.specs.Variables.{picked, past, picks}
 use Rattle.rc_annotations.specs.Worlds.{Grown, Made, Sane, Stays, note_at, Beside, Loaded, Stored, Deleted}
-use Rattle.rc_along.specs.Along.{Named, GivesBack, Stand, Whole, MadeResult, Called, RightAct, ActMeets, MoveMeets}
+use Rattle.rc_along.specs.Along.{Named, GivesBack, Stand, MadeResult, Called, RightAct, ActMeets, MoveMeets}
 use Rattle.rc_annotations.proofs.Truths.{derivable_holds, holds_same}
 use Rattle.rc_annotations.proofs.Effects.{changed_there, changed_else, not_eq, with_name}
 use Rattle.std.specs.Prelude.{◌*◌, ◌-◌}
@@ -87,7 +87,7 @@ module _ (frame : Setting) (around : Calling frame) where
       (call_says frame deleting calls inside keeps_calls line 0 int i tys live env t w here k.next None right meets (leads frame here _ k.next st.0) good) (λ v w1 q.
       gives (GoodWay k) (Next env t) w1
       (cross frame here k.next (called None i (regional_arguments f tys 0)) env env t t w w1 (leads frame here _ k.next st.0) good q.0 refl (λ u. refl) refl
-      (exit_holds frame i tys 0 None (vals frame env t) t v w1.heap right.wholes (λ j lt2. V.temp_value f copied whole env t.regions j) (λ y e2. cc) q.2)))
+      (exit_holds frame i tys 0 None (vals frame env t) t v w1.heap (λ j lt2. V.temp_value f copied whole env t.regions j) (λ y e2. cc) q.2)))
 
   pub assign_good : (line x : ℕ) (ty : Ty) → ActGood (Code.assign line x ty)
   assign_good line x ty here k live env t w st right meets good = by (is_regional ty) refl st.0
@@ -95,16 +95,16 @@ module _ (frame : Setting) (around : Calling frame) where
       by : (b : Bool) → is_regional ty ≡ b → slice_get (all frame) here ≡ Some (going (one_of b (moved (local_variable f x) (temp_at frame 0)) nothing) k.next) → Goes (GoodWay k) (Go (Next (with_local env x (kept ty (temporary ty t 0))) t) w)
       by true e q =
           let v : Value = kept ty (temporary ty t 0) in
-          let same : v ≡ t.regions 0 = kept_whole frame ty (temporary ty t 0) e ∙ regional_temp frame ty t 0 (kind_regional frame ty right.0 e) in
+          let same : v ≡ t.regions 0 = kept_whole frame ty (temporary ty t 0) e ∙ regional_temp frame ty t 0 (kind_regional frame ty e) in
           gives (GoodWay k) (Next (with_local env x v) t) w
           (cross_assigned frame here k.next (moved (local_variable f x) (temp_at frame 0)) (local_variable f x) v env (with_local env x v) t t w w (leads frame here _ k.next q) good (stays_itself w good.sane) (long_update env x v)
-          (λ u. V.local_set f copied whole env t.regions x v u (good.long ∙ sym (long_map f.locals)) (right.1 ∙ e)) refl
-          (subst (Made w.heap) (sym same) (temp_made frame here env t w 0 good)) (new_temp frame env t v ∙ same ∙ sym (old_temp frame env t v 0 right.2)))
+          (λ u. V.local_set f copied whole env t.regions x v u (good.long ∙ sym (long_map f.locals)) (right.0 ∙ e)) refl
+          (subst (Made w.heap) (sym same) (temp_made frame here env t w 0 good)) (new_temp frame env t v ∙ same ∙ sym (old_temp frame env t v 0 right.1)))
       by false e q =
           let v : Value = kept ty (temporary ty t 0) in
           gives (GoodWay k) (Next (with_local env x v) t) w
           (cross frame here k.next nothing env (with_local env x v) t t w w (leads frame here nothing k.next q) good (stays_itself w good.sane) (long_update env x v)
-          (λ u. V.other_set f copied whole env t.regions x v u (good.long ∙ sym (long_map f.locals)) (right.1 ∙ e)) refl tt)
+          (λ u. V.other_set f copied whole env t.regions x v u (good.long ∙ sym (long_map f.locals)) (right.0 ∙ e)) refl tt)
 
   -- a value v is stored, which the variable z has if it is a region or a pointer
   pub store_says_for : (target : Target) (v : Value) (z : ℕ) (note : Note) (env : List Value) (s : Temporaries) (w w1 : World) → target.pointer ≡ s.regions 0 → note_at w.heap target ≡ note → s.regions z ≡ v → Stored w target v tt w1 → Says (exits frame) (stored (temp_at frame z) (temp_at frame 0) note) (vals frame env s) w1.heap
@@ -124,7 +124,7 @@ module _ (frame : Setting) (around : Calling frame) where
 
       by : (b : Bool) → is_regional acc.cell ≡ b → slice_get (all frame) here ≡ Some (going (one_of b (stored (temp_at frame (width acc)) (temp_at frame 0) (note_in acc.cell)) (looked_at (temp_at frame 0))) k.next) → Goes (GoodWay k) (bind m (λ _ w1. Go (Next env t) w1))
       by true e q =
-          let same : v ≡ t.regions (width acc) = kept_whole frame acc.cell (temporary acc.cell t (width acc)) e ∙ regional_temp frame acc.cell t (width acc) (kind_regional frame acc.cell right.0 e) in
+          let same : v ≡ t.regions (width acc) = kept_whole frame acc.cell (temporary acc.cell t (width acc)) e ∙ regional_temp frame acc.cell t (width acc) (kind_regional frame acc.cell e) in
           goes_bind (λ u w1. Stored w (target_at acc t 0) v u w1 × (note_at w.heap (target_at acc t 0) ≡ note_in acc.cell)) (GoodWay k) m (λ _ w1. Go (Next env t) w1)
           (goes_both (Stored w (target_at acc t 0) v) (λ u w1. note_at w.heap (target_at acc t 0) ≡ note_in acc.cell) m (store_says line (target_at acc t 0) v w good.sane) (store_named line (target_at acc t 0) v (note_in acc.cell) w meets)) (λ u w1 p.
           gives (GoodWay k) (Next env t) w1
@@ -144,7 +144,7 @@ module _ (frame : Setting) (around : Calling frame) where
       (subst is_present (sym (V.temp_value f copied whole env t.regions 0)) q.1)))
 
   -- a return: the facts of the exit, of the hidden copies and the result
-  pub left_at : (result : Option Ty) → GivesBack f.result result × ((ty : Ty) → result ≡ Some ty → Whole ty × (0 < (n frame))) → (here : ℕ) (env : List Value) (t : Temporaries) (w : World) → Stand (all frame) here (returning (returned_variable f result) ∷ []) → At frame here env t w → Left (returned source deleting f.locals result t) w
+  pub left_at : (result : Option Ty) → GivesBack f.result result × ((ty : Ty) → result ≡ Some ty → 0 < (n frame)) → (here : ℕ) (env : List Value) (t : Temporaries) (w : World) → Stand (all frame) here (returning (returned_variable f result) ∷ []) → At frame here env t w → Left (returned source deleting f.locals result t) w
   left_at result right here env t w st good = record { facts = holds_of; made = made_of result right; sane = good.sane; grown = good.grown }
     where
       v : Value
@@ -159,21 +159,20 @@ module _ (frame : Setting) (around : Calling frame) where
       given : Option ℕ
       given = returned_variable f result
 
-      result_is : (ty : Ty) → Whole ty → is_regional ty ≡ true → temporary ty t 0 ≡ t.regions 0
-      result_is ty whole' e = regional_temp frame ty t 0 (kind_regional frame ty whole' e)
+      result_is : (ty : Ty) → is_regional ty ≡ true → temporary ty t 0 ≡ t.regions 0
+      result_is ty e = regional_temp frame ty t 0 (kind_regional frame ty e)
 
-      made_of : (result : Option Ty) → GivesBack f.result result × ((ty : Ty) → result ≡ Some ty → Whole ty × (0 < (n frame))) → MadeResult f.result w.heap (returned source deleting f.locals result t)
-      made_of result right ty e reg = by result (right.0 ty e reg).1 right.1
+      made_of : (result : Option Ty) → GivesBack f.result result × ((ty : Ty) → result ≡ Some ty → 0 < (n frame)) → MadeResult f.result w.heap (returned source deleting f.locals result t)
+      made_of result right ty e reg = by result (right.0 ty e reg).1
         where
-          by : (result : Option Ty) → result ≡ Some (right.0 ty e reg).0 → ((ty : Ty) → result ≡ Some ty → Whole ty × (0 < (n frame))) → Made w.heap (returned source deleting f.locals result t)
-          by None e all' = cc
-          by (Some u) same all' =
+          by : (result : Option Ty) → result ≡ Some (right.0 ty e reg).0 → Made w.heap (returned source deleting f.locals result t)
+          by None e = cc
+          by (Some u) same =
               let is : u ≡ (right.0 ty e reg).0 = cc in
               let reg' : is_regional u ≡ true = ap is_regional is ∙ (right.0 ty e reg).2 in
-              let q = all' u refl in
-              subst (Made w.heap) (sym (result_is u q.0 reg')) (temp_made frame here env t w 0 good)
+              subst (Made w.heap) (sym (result_is u reg')) (temp_made frame here env t w 0 good)
 
-      gained_of : (result : Option Ty) → ((ty : Ty) → result ≡ Some ty → Whole ty × (0 < (n frame))) → (p : Fact) → returned_facts f (n frame) (returned_variable f result) p ≡ true → Holds p (changed_at (vals frame env t) b (returned source deleting f.locals result t)) w.heap
+      gained_of : (result : Option Ty) → ((ty : Ty) → result ≡ Some ty → 0 < (n frame)) → (p : Fact) → returned_facts f (n frame) (returned_variable f result) p ≡ true → Holds p (changed_at (vals frame env t) b (returned source deleting f.locals result t)) w.heap
       gained_of None right p e = cc
       gained_of (Some ty) right p e = by (is_regional ty) refl e
         where
@@ -183,8 +182,8 @@ module _ (frame : Setting) (around : Calling frame) where
               let vs = changed_at (vals frame env t) b (temporary ty t 0) in
               let all' = right ty refl in
               let new : vs b ≡ temporary ty t 0 = changed_there (vals frame env t) b (temporary ty t 0) b refl in
-              let old : vs (temp_at frame 0) ≡ t.regions 0 = changed_else (vals frame env t) b (temporary ty t 0) (temp_at frame 0) (not_eq (temp_at frame 0) b (λ x. let lt = all'.1 in omega (arith, x, lt))) ∙ V.temp_value f copied whole env t.regions 0 in
-              let same : vs b ≡ vs (temp_at frame 0) = new ∙ result_is ty all'.0 q ∙ sym old in
+              let old : vs (temp_at frame 0) ≡ t.regions 0 = changed_else (vals frame env t) b (temporary ty t 0) (temp_at frame 0) (not_eq (temp_at frame 0) b (λ x. omega (arith, x, all'))) ∙ V.temp_value f copied whole env t.regions 0 in
+              let same : vs b ≡ vs (temp_at frame 0) = new ∙ result_is ty q ∙ sym old in
               elim (or_cases (same_fact p (In b (temp_at frame 0))) (same_fact p (In (temp_at frame 0) b)) e) [
                 | inl x ↦ is_fact_holds p (In b (temp_at frame 0)) vs w.heap (λ there. (subst is_present same there, ap region_in same)) x
                 | inr x ↦ is_fact_holds p (In (temp_at frame 0) b) vs w.heap (λ there. (subst is_present (sym same) there, ap region_in (sym same))) x

@@ -137,7 +137,7 @@ module _ (r : Rlang) (temporaries : ℕ → ℕ) (a : Annotation) (c : Consisten
       fit : (t1 : Temporaries) (w1 : World) → GoodAt a d first at env t1 w1 → Fits t1 w1
       fit t1 w1 good =
           let v : kept acc.cell (temporary acc.cell t1 (width acc)) ≡ values_of d.routine d.copied env t1.regions (temporary_variable d.routine (width acc)) =
-          kept_whole (at_call d is first) acc.cell (temporary acc.cell t1 (width acc)) regional ∙ regional_temp (at_call d is first) acc.cell t1 (width acc) (kind_regional (at_call d is first) acc.cell right.1.0 regional) ∙ sym (V.temp_value d.routine d.copied is.long env t1.regions (width acc)) in
+          kept_whole (at_call d is first) acc.cell (temporary acc.cell t1 (width acc)) regional ∙ regional_temp (at_call d is first) acc.cell t1 (width acc) (kind_regional (at_call d is first) acc.cell regional) ∙ sym (V.temp_value d.routine d.copied is.long env t1.regions (width acc)) in
           let p : (target_at acc t1 0).pointer ≡ values_of d.routine d.copied env t1.regions (temporary_variable d.routine 0) = target_pointer (at_call d is first) acc t1 0 ∙ sym (V.temp_value d.routine d.copied is.long env t1.regions 0) in
           let q : asked_of (one_of (is_regional acc.cell) (stored (temporary_variable d.routine (width acc)) (temporary_variable d.routine 0) (note_in acc.cell)) (looked_at (temporary_variable d.routine 0))) ≡ Some fact = asks in
           rw (v, p) (asked_fits (note_in acc.cell) (temporary_variable d.routine (width acc)) (temporary_variable d.routine 0) fact (values_of d.routine d.copied env t1.regions) w1.heap (subst (λ b. asked_of (one_of b (stored (temporary_variable d.routine (width acc)) (temporary_variable d.routine 0) (note_in acc.cell)) (looked_at (temporary_variable d.routine 0))) ≡ Some fact) regional q) (good.facts fact has))

@@ -15,7 +15,7 @@ use Rattle.rc_rlang.specs.RegionFlow.{Effect, nothing, nulled, Node, going, is_r
 use Rattle.rc_annotations.specs.Effects.{Absent}
 use Rattle.rc_annotations.specs.Variables.{picks}
 use Rattle.rc_annotations.specs.Worlds.{Made}
-use Rattle.rc_along.specs.Along.{Stand, Whole, RightSteps, RightCode, RightCodes, ActMeets, TestMeets, HeadMeets, CodeMeets, CodesMeet, RoundsMeet, behind_meets, body_meets, nothing_more}
+use Rattle.rc_along.specs.Along.{Stand, RightSteps, RightCode, RightCodes, ActMeets, TestMeets, HeadMeets, CodeMeets, CodesMeet, RoundsMeet, behind_meets, body_meets, nothing_more}
 use Rattle.rc_core.specs.Live.{Ways, then_live, round}
 use Rattle.rc_core.specs.Laws.{IfGoes}
 use Rattle.rc_annotations.proofs.Variables as V
@@ -32,18 +32,18 @@ module _ (frame : Setting) (around : Calling frame) where
   open around use {deleting, calls, inside, keeps_calls}
 
   -- a test
-  pub test_good : (test : Test) (at to_yes to_no : ℕ) (env : List Value) (t : Temporaries) (w : World) → Stand (all frame) at (test_nodes f (Some test) to_yes to_no) → Whole test.ty → TestMeets test t → At frame at env t w
+  pub test_good : (test : Test) (at to_yes to_no : ℕ) (env : List Value) (t : Temporaries) (w : World) → Stand (all frame) at (test_nodes f (Some test) to_yes to_no) → TestMeets test t → At frame at env t w
       → (test_value (Some test) t ≡ true → At frame to_yes env t w) × (test_value (Some test) t ≡ false → At frame to_no env t w)
-  test_good test at to_yes to_no env t w st right meets good = by test.wanted st.0
+  test_good test at to_yes to_no env t w st meets good = by test.wanted st.0
     where
       over : (effect : Effect) (to e : ℕ) (node : Node) → slice_get (all frame) at ≡ Some node → slice_get node.edges e ≡ Some (record { effect = effect; to = to }) → Quiet frame effect env t w → At frame to env t w
       over effect to e node q edge quiet = cross frame at to effect env env t t w w (record { node = node; e = e; at = q; edge = edge }) good (stays_itself w good.sane) refl (λ u. refl) quiet.0 quiet.1
 
       yes' : holds test.ty (temporary test.ty t 0) ≡ true → Quiet frame (yes_effect f test.ty 0) env t w
-      yes' e = says_yes frame env t w test.ty 0 right meets (λ i. e)
+      yes' e = says_yes frame env t w test.ty 0 meets (λ i. e)
 
       no' : holds test.ty (temporary test.ty t 0) ≡ false → Quiet frame (no_effect f test.ty 0) env t w
-      no' e = says_no frame env t w test.ty 0 right (λ i. e)
+      no' e = says_no frame env t w test.ty 0 (λ i. e)
 
       turned : (b : Bool) → not b ≡ true → b ≡ false
       turned true e = cc
@@ -108,8 +108,8 @@ module _ (frame : Setting) (around : Calling frame) where
   body_post k x go Met h (Continued env t) w p m = h env t w p m
   body_post k x go Met h (Returned v) w p m = gives (GoodWay frame around k) (Returned v) w p
 
-  pub clear_good : (line x : ℕ) (ty : Ty) (here : ℕ) (k : Ends) (env : List Value) (s : Temporaries) (w : World) → Whole ty → get_or (picks f) x false ≡ is_regional ty → slice_get (all frame) here ≡ Some (going (if_regional ty (nulled (local_variable f x))) k.next) → At frame here env s w → At frame k.next (with_local env x (zero_of ty)) s w
-  clear_good line x ty here k env s w whole' is st good = by (is_regional ty) refl st
+  pub clear_good : (line x : ℕ) (ty : Ty) (here : ℕ) (k : Ends) (env : List Value) (s : Temporaries) (w : World) → get_or (picks f) x false ≡ is_regional ty → slice_get (all frame) here ≡ Some (going (if_regional ty (nulled (local_variable f x))) k.next) → At frame here env s w → At frame k.next (with_local env x (zero_of ty)) s w
+  clear_good line x ty here k env s w is st good = by (is_regional ty) refl st
     where
       by : (b : Bool) → is_regional ty ≡ b → slice_get (all frame) here ≡ Some (going (one_of b (nulled (local_variable f x)) nothing) k.next) → At frame k.next (with_local env x (zero_of ty)) s w
       by true e q =
@@ -125,11 +125,11 @@ module _ (frame : Setting) (around : Calling frame) where
 
   -- steps and a test, where a statement begins
   pub head_good : (steps : Steps) (test : Test) (here at to_yes to_no : ℕ) (live : ℕ → Bool) (if_true if_false : Goal) (env : List Value) (t : Temporaries) (w : World) → Stand (all frame) here (steps_nodes f steps here at) → Stand (all frame) at (test_nodes f (Some test) to_yes to_no)
-      → RightSteps r f (n frame) steps → Whole test.ty → HeadMeets deleting f calls inside steps (Some test) live if_true if_false env t w → At frame (first_of (steps_points steps) here at) env t w
+      → RightSteps r f (n frame) steps → HeadMeets deleting f calls inside steps (Some test) live if_true if_false env t w → At frame (first_of (steps_points steps) here at) env t w
       → Goes (λ t1 w1. (test_value (Some test) t1 ≡ true → At frame to_yes env t1 w1 × if_true env t1 w1) × (test_value (Some test) t1 ≡ false → At frame to_no env t1 w1 × if_false env t1 w1)) (steps_run source deleting f.locals steps calls live env t w)
-  head_good steps test here at to_yes to_no live if_true if_false env t w ss st rs rt meets good =
+  head_good steps test here at to_yes to_no live if_true if_false env t w ss st rs meets good =
       goes_more (λ t1 w1. At frame at env t1 w1 × (TestMeets test t1 × (test_value (Some test) t1 ≡ true → if_true env t1 w1) × (test_value (Some test) t1 ≡ false → if_false env t1 w1))) _ (steps_run source deleting f.locals steps calls live env t w)
-      (λ t1 w1 q. let b = test_good test at to_yes to_no env t1 w1 st rt q.1.0 q.0 in ((λ y. (b.0 y, q.1.1 y)), (λ y. (b.1 y, q.1.2 y))))
+      (λ t1 w1 q. let b = test_good test at to_yes to_no env t1 w1 st q.1.0 q.0 in ((λ y. (b.0 y, q.1.1 y)), (λ y. (b.1 y, q.1.2 y))))
       (goes_both (At frame at env) _ (steps_run source deleting f.locals steps calls live env t w)
       (steps_good frame around steps here at live env t w ss rs meets.0 good) (record { holds = meets.1 }))
 
@@ -154,12 +154,12 @@ module _ (frame : Setting) (around : Calling frame) where
       (goes_both (GoodWay frame around kt) (behind_meets more') (code_run source deleting f.locals third calls ways2 env2 t2 w2) (third_does ways2 env2 t2 w2 m2.0 (subst (λ x. At frame x env2 t2 w2) e i2)) (record { holds = m2.1 }))
       (λ way2 w3 p2. behind_post k here again more' h way2 w3 p2.0 p2.1)) way w1 p.0 p.1)
 
-  pub loop_some : (line : ℕ) (steps : Steps) (test : Test) (third body : Code) (here : ℕ) (k : Ends) → RightSteps r f (n frame) steps → Whole test.ty
+  pub loop_some : (line : ℕ) (steps : Steps) (test : Test) (third body : Code) (here : ℕ) (k : Ends) → RightSteps r f (n frame) steps
       → let at = suc here + steps_points steps in let at_body = at + 1 in let at_third = at_body + code_points body in let back = first_of (code_points third) at_third here in let inside' = first_of (code_points body) at_body back in
       Stand (all frame) (suc here) (steps_nodes f steps (suc here) at) → Stand (all frame) at (test_nodes f (Some test) inside' k.next) → Does body at_body (record { next = back; broken = k.next; continued = back }) → Does third at_third (record k { next = here })
       → slice_get (all frame) here ≡ Some (going nothing (first_of (steps_points steps + 1) (suc here) inside')) → (ways : Ways) (env : List Value) (t : Temporaries) (w : World) → CodeMeets deleting f calls inside (Code.loop line steps (Some test) third body) ways env t w → At frame here env t w
       → Goes (GoodWay frame around k) (code_run source deleting f.locals (Code.loop line steps (Some test) third body) calls ways env t w)
-  loop_some line steps test third body here k rs rt ss ts body_does third_does q ways env t w meets i =
+  loop_some line steps test third body here k rs ss ts body_does third_does q ways env t w meets i =
       let at = suc here + steps_points steps in
       let at_body = at + 1 in
       let at_third = at_body + code_points body in
@@ -173,7 +173,7 @@ module _ (frame : Setting) (around : Calling frame) where
       (λ again env1 t1 w1. bind (code_run source deleting f.locals body calls ways1 env1 t1 w1) (behind_body (λ env2 t2 w2. bind (code_run source deleting f.locals third calls ways2 env2 t2 w2) (behind again))))
       (λ more' again h env1 t1 w1 j m.
       goes_bind (λ t2 w2. (test_value (Some test) t2 ≡ true → At frame inside' env1 t2 w2 × Inner more' env1 t2 w2) × (test_value (Some test) t2 ≡ false → At frame k.next env1 t2 w2 × Unit {0})) (GoodWay frame around k) (steps_run source deleting f.locals steps calls live env1 t1 w1) _
-      (head_good steps test (suc here) at inside' k.next live (Inner more') (nothing_more deleting f calls inside) env1 t1 w1 ss ts rs rt m (subst (λ p. At frame p env1 t1 w1) (first_more frame around (steps_points steps) 1 (suc here) inside' (omega arith)) (go_on here _ env1 t1 w1 q j)))
+      (head_good steps test (suc here) at inside' k.next live (Inner more') (nothing_more deleting f calls inside) env1 t1 w1 ss ts rs m (subst (λ p. At frame p env1 t1 w1) (first_more frame around (steps_points steps) 1 (suc here) inside' (omega arith)) (go_on here _ env1 t1 w1 q j)))
       (λ t2 w2 p. goes_branching (GoodWay frame around k) (test_value (Some test) t2) (λ w3. bind (code_run source deleting f.locals body calls ways1 env1 t2 w3) (behind_body (λ env2 t2 w2. bind (code_run source deleting f.locals third calls ways2 env2 t2 w2) (behind again)))) (Go (Next env1 t2)) w2
       (λ e. round_good third body here at_body at_third back k ways1 ways2 refl body_does third_does more' again h env1 t2 w2 (p.0 e).0 (p.0 e).1)
       (λ e. gives (GoodWay frame around k) (Next env1 t2) w2 (p.1 e).0)))
@@ -199,12 +199,12 @@ module _ (frame : Setting) (around : Calling frame) where
       (suc (source.turns_left w)) env t w i (meets (suc (source.turns_left w)))
   loop_none line (more x rest) third body e here k body_does third_does q ways env t w meets i = cc
 
-  pub repeat_good : (line : ℕ) (body : Code) (steps : Steps) (test : Test) (here : ℕ) (k : Ends) → RightSteps r f (n frame) steps → Whole test.ty
+  pub repeat_good : (line : ℕ) (body : Code) (steps : Steps) (test : Test) (here : ℕ) (k : Ends) → RightSteps r f (n frame) steps
       → let at_tail = suc here + code_points body in let at_test = at_tail + steps_points steps in let tail = first_of (steps_points steps) at_tail at_test in
       Stand (all frame) at_tail (steps_nodes f steps at_tail at_test) → Stand (all frame) at_test (test_nodes f (Some test) here k.next) → Does body (suc here) (record { next = tail; broken = k.next; continued = tail })
       → slice_get (all frame) here ≡ Some (going nothing (first_of (code_points body) (suc here) tail)) → (ways : Ways) (env : List Value) (t : Temporaries) (w : World) → CodeMeets deleting f calls inside (Code.repeat line body steps test) ways env t w → At frame here env t w
       → Goes (GoodWay frame around k) (code_run source deleting f.locals (Code.repeat line body steps test) calls ways env t w)
-  repeat_good line body steps test here k rs rt ss ts body_does q ways env t w meets i =
+  repeat_good line body steps test here k rs ss ts body_does q ways env t w meets i =
       let at_tail = suc here + code_points body in
       let at_test = at_tail + steps_points steps in
       let tail = first_of (steps_points steps) at_tail at_test in
@@ -220,7 +220,7 @@ module _ (frame : Setting) (around : Calling frame) where
       (goes_both (GoodWay frame around kb) (body_meets (Met more')) (code_run source deleting f.locals body calls ways1 env1 t1 w1) (body_does ways1 env1 t1 w1 m.0 (go_on here _ env1 t1 w1 q j)) (record { holds = m.1 }))
       (λ way w2 p. body_post k tail go (Met more') (λ env2 t2 w2 i2 m2.
       goes_bind (λ t3 w3. (test_value (Some test) t3 ≡ true → At frame here env2 t3 w3 × more' env2 t3 w3) × (test_value (Some test) t3 ≡ false → At frame k.next env2 t3 w3 × Unit {0})) (GoodWay frame around k) (steps_run source deleting f.locals steps calls live env2 t2 w2) _
-      (head_good steps test at_tail at_test here k.next live more' (nothing_more deleting f calls inside) env2 t2 w2 ss ts rs rt m2 i2)
+      (head_good steps test at_tail at_test here k.next live more' (nothing_more deleting f calls inside) env2 t2 w2 ss ts rs m2 i2)
       (λ t3 w3 p3. goes_branching (GoodWay frame around k) (test_value (Some test) t3) (again env2 t3) (Go (Next env2 t3)) w3 (λ e. h env2 t3 w3 (p3.0 e).0 (p3.0 e).1) (λ e. gives (GoodWay frame around k) (Next env2 t3) w3 (p3.1 e).0))) way w2 p.0 p.1))
       (suc (source.turns_left w)) env t w i (meets (suc (source.turns_left w)))
 
@@ -235,7 +235,7 @@ module _ (frame : Setting) (around : Calling frame) where
         (subst (λ p. At frame p env t w) (first_sum frame around (steps_points steps) (act_points act) here k.next) i))
         (record { holds = meets.1 }))
         (λ t1 w1 q. act_good frame around act at k ways.next env t1 w1 (stand_right (all frame) here at (steps_nodes f steps here to) (act_nodes f act at k.next) (let j = steps_count f steps here to in omega (arith, j)) st) right.1 q.1 q.0)
-    code_good (Code.clear line x ty) here k st right ways env t w meets i = gives (GoodWay frame around k) (Next (with_local env x (zero_of ty)) t) w (clear_good line x ty here k env t w right.0 right.1 st.0 i)
+    code_good (Code.clear line x ty) here k st right ways env t w meets i = gives (GoodWay frame around k) (Next (with_local env x (zero_of ty)) t) w (clear_good line x ty here k env t w right st.0 i)
     code_good (Code.block codes) here k st right ways env t w meets i = codes_good codes here k st right ways env t w meets i
     code_good (Code.branch steps test x y) here k st right ways env t w meets i =
         let at = here + steps_points steps in
@@ -250,11 +250,11 @@ module _ (frame : Setting) (around : Calling frame) where
         let arms = stand_right (all frame) at (suc at) T (X ++ Y) (omega arith) rest in
         let live = λ (v : ℕ). before_code x ways v || before_code y ways v in
         goes_bind (λ t1 w1. (test_value (Some test) t1 ≡ true → At frame to_x env t1 w1 × CodeMeets deleting f calls inside x ways env t1 w1) × (test_value (Some test) t1 ≡ false → At frame to_y env t1 w1 × CodeMeets deleting f calls inside y ways env t1 w1)) (GoodWay frame around k) (steps_run source deleting f.locals steps calls live env t w) _
-        (head_good steps test here at to_x to_y live (CodeMeets deleting f calls inside x ways) (CodeMeets deleting f calls inside y ways) env t w (stand_left (all frame) here S (T ++ (X ++ Y)) st) (stand_left (all frame) at T (X ++ Y) rest) right.0 right.1 meets
+        (head_good steps test here at to_x to_y live (CodeMeets deleting f calls inside x ways) (CodeMeets deleting f calls inside y ways) env t w (stand_left (all frame) here S (T ++ (X ++ Y)) st) (stand_left (all frame) at T (X ++ Y) rest) right.0 meets
         (subst (λ p. At frame p env t w) (ap (λ i. first_of i here k.next) (let e : steps_points steps + 1 + code_points x + code_points y ≡ steps_points steps + (1 + code_points x + code_points y) = omega arith in e) ∙ first_more frame around (steps_points steps) (1 + code_points x + code_points y) here k.next (omega arith)) i))
         (λ t1 w1 q. goes_branching (GoodWay frame around k) (test_value (Some test) t1) (code_run source deleting f.locals x calls ways env t1) (code_run source deleting f.locals y calls ways env t1) w1
-        (λ e. code_good x (suc at) k (stand_left (all frame) (suc at) X Y arms) right.2 ways env t1 w1 (q.0 e).1 (q.0 e).0)
-        (λ e. code_good y at_y k (stand_right (all frame) (suc at) at_y X Y (let j = code_count f x (suc at) k in omega (arith, j)) arms) right.3 ways env t1 w1 (q.1 e).1 (q.1 e).0))
+        (λ e. code_good x (suc at) k (stand_left (all frame) (suc at) X Y arms) right.1 ways env t1 w1 (q.0 e).1 (q.0 e).0)
+        (λ e. code_good y at_y k (stand_right (all frame) (suc at) at_y X Y (let j = code_count f x (suc at) k in omega (arith, j)) arms) right.2 ways env t1 w1 (q.1 e).1 (q.1 e).0))
     code_good (Code.loop line steps None third body) here k st right ways env t w meets i =
         let at = suc here + steps_points steps in
         let at_body = at + 0 in
@@ -284,10 +284,10 @@ module _ (frame : Setting) (around : Calling frame) where
         let C = code_nodes f third at_third k2 in
         let rest = stand_right (all frame) (suc here) at S (T ++ (B ++ C)) (let j = steps_count f steps (suc here) at in omega (arith, j)) st.1 in
         let arms = stand_right (all frame) at at_body T (B ++ C) (omega arith) rest in
-        loop_some line steps test third body here k right.0 right.1
+        loop_some line steps test third body here k right.0
         (stand_left (all frame) (suc here) S (T ++ (B ++ C)) st.1) (stand_left (all frame) at T (B ++ C) rest)
-        (code_good body at_body k1 (stand_left (all frame) at_body B C arms) right.3)
-        (code_good third at_third k2 (stand_right (all frame) at_body at_third B C (let j = code_count f body at_body k1 in omega (arith, j)) arms) right.2)
+        (code_good body at_body k1 (stand_left (all frame) at_body B C arms) right.2)
+        (code_good third at_third k2 (stand_right (all frame) at_body at_third B C (let j = code_count f body at_body k1 in omega (arith, j)) arms) right.1)
         st.0 ways env t w meets (subst (λ p. At frame p env t w) (positive (1 + steps_points steps + 1 + code_points body + code_points third) here k.next (omega arith)) i)
     code_good (Code.repeat line body steps test) here k st right ways env t w meets i =
         let at_tail = suc here + code_points body in
@@ -298,9 +298,9 @@ module _ (frame : Setting) (around : Calling frame) where
         let S = steps_nodes f steps at_tail at_test in
         let T = test_nodes f (Some test) here k.next in
         let rest = stand_right (all frame) (suc here) at_tail B (S ++ T) (let j = code_count f body (suc here) k1 in omega (arith, j)) st.1 in
-        repeat_good line body steps test here k right.0 right.1
+        repeat_good line body steps test here k right.0
         (stand_left (all frame) at_tail S T rest) (stand_right (all frame) at_tail at_test S T (let j = steps_count f steps at_tail at_test in omega (arith, j)) rest)
-        (code_good body (suc here) k1 (stand_left (all frame) (suc here) B (S ++ T) st.1) right.2)
+        (code_good body (suc here) k1 (stand_left (all frame) (suc here) B (S ++ T) st.1) right.1)
         st.0 ways env t w meets (subst (λ p. At frame p env t w) (positive (1 + code_points body + steps_points steps + 1) here k.next (omega arith)) i)
     code_good (Code.break line) here k st right ways env t w meets i = gives (GoodWay frame around k) (Broke env t) w (go_on here k.broken env t w st.0 i)
     code_good (Code.continue line) here k st right ways env t w meets i = gives (GoodWay frame around k) (Continued env t) w (go_on here k.continued env t w st.0 i)

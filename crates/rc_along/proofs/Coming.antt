@@ -201,7 +201,7 @@ module _ (r : Rlang) (temporaries : ℕ → ℕ) (a : Annotation) (cons : Consis
       let c = activation m k f xs in
       let at = suc (code_points f.body) in
       let stand : Stand (routine_nodes f) at (end_nodes f (Some ty) at) = subst (λ o. Stand (routine_nodes f) at (end_nodes f o at)) is (body_stands (frame c u) (around c u)).1 in
-      (cleared_good (frame c u) (around c u) at env t w2 ty ((rights k f b.found).result ty is).0 stand.0 (ended m k f xs w1 b env t w2 e)).facts
+      (cleared_good (frame c u) (around c u) at env t w2 ty stand.0 (ended m k f xs w1 b env t w2 e)).facts
 
   -- a call that is an operation or an act
   module _ (c : Activation) (u : Under c) where
@@ -277,12 +277,12 @@ module _ (r : Rlang) (temporaries : ℕ → ℕ) (a : Annotation) (cons : Consis
       let st = left c s rest here live env t w fine in
       let right = fine.right.0 in
       let meets = fine.meets.0 in
-      let q = says_yes F env t w ty h right.1 meets.0 (λ i. e) in
+      let q = says_yes F env t w ty h meets.0 (λ i. e) in
       record {
         under = fine.under;
         next = next;
         stand = stand_left (routine_nodes f) (suc here) (steps_nodes f x (suc here) next) (steps_nodes f y (suc here + steps_points x) next) st.1;
-        right = right.2;
+        right = right.1;
         meets = meets.1 e;
         good = cross F here (first_of (steps_points x) (suc here) next) (yes_effect f ty h) env env t t w w (record { node = _; e = 0; at = st.0; edge = refl }) good (stays_itself w good.sane) refl (λ u. refl) q.0 q.1;
       }
@@ -298,12 +298,12 @@ module _ (r : Rlang) (temporaries : ℕ → ℕ) (a : Annotation) (cons : Consis
       let st = left c s rest here live env t w fine in
       let right = fine.right.0 in
       let meets = fine.meets.0 in
-      let q = says_no F env t w ty h right.1 (λ i. e) in
+      let q = says_no F env t w ty h (λ i. e) in
       record {
         under = fine.under;
         next = next;
         stand = stand_right (routine_nodes f) (suc here) at_y (steps_nodes f x (suc here) next) (steps_nodes f y at_y next) (let k = steps_count f x (suc here) next in omega (arith, k)) st.1;
-        right = right.3;
+        right = right.2;
         meets = meets.2 e;
         good = cross F here (first_of (steps_points y) at_y next) (no_effect f ty h) env env t t w w (record { node = _; e = 1; at = st.0; edge = refl }) good (stays_itself w good.sane) refl (λ u. refl) q.0 q.1;
       }
@@ -554,13 +554,13 @@ module _ (r : Rlang) (temporaries : ℕ → ℕ) (a : Annotation) (cons : Consis
     branch_met t1 w1 e = if_came _ fine.meets.1 e
 
     branch_ways : (t1 : Temporaries) (w1 : World) → steps_in r c steps branch_live env t w ≡ Go t1 w1 → (test_value (Some test) t1 ≡ true → Good_at B to_x env t1 w1) × (test_value (Some test) t1 ≡ false → Good_at B to_y env t1 w1)
-    branch_ways t1 w1 e = test_good B (around c fine.under) test at_test to_x to_y env t1 w1 (stand_left (routine_nodes c.routine) at_test TS (XS ++ YS) branch_rest) fine.right.1 (branch_met t1 w1 e).0 (branch_good t1 w1 e)
+    branch_ways t1 w1 e = test_good B (around c fine.under) test at_test to_x to_y env t1 w1 (stand_left (routine_nodes c.routine) at_test TS (XS ++ YS) branch_rest) (branch_met t1 w1 e).0 (branch_good t1 w1 e)
 
     true_fine : (t1 : Temporaries) (w1 : World) → steps_in r c steps branch_live env t w ≡ Go t1 w1 → test_value (Some test) t1 ≡ true → CodeFine c x (suc at_test) k env t1 w1
-    true_fine t1 w1 e b = record { under = fine.under; ends = fine.ends; stand = stand_left (routine_nodes c.routine) (suc at_test) XS YS branch_arms; right = fine.right.2; meets = (branch_met t1 w1 e).1 b; good = (branch_ways t1 w1 e).0 b }
+    true_fine t1 w1 e b = record { under = fine.under; ends = fine.ends; stand = stand_left (routine_nodes c.routine) (suc at_test) XS YS branch_arms; right = fine.right.1; meets = (branch_met t1 w1 e).1 b; good = (branch_ways t1 w1 e).0 b }
 
     false_fine : (t1 : Temporaries) (w1 : World) → steps_in r c steps branch_live env t w ≡ Go t1 w1 → test_value (Some test) t1 ≡ false → CodeFine c y at_y k env t1 w1
-    false_fine t1 w1 e b = record { under = fine.under; ends = fine.ends; stand = stand_right (routine_nodes c.routine) (suc at_test) at_y XS YS (let j = code_count c.routine x (suc at_test) fine.ends in omega (arith, j)) branch_arms; right = fine.right.3; meets = (branch_met t1 w1 e).2 b; good = (branch_ways t1 w1 e).1 b }
+    false_fine t1 w1 e b = record { under = fine.under; ends = fine.ends; stand = stand_right (routine_nodes c.routine) (suc at_test) at_y XS YS (let j = code_count c.routine x (suc at_test) fine.ends in omega (arith, j)) branch_arms; right = fine.right.2; meets = (branch_met t1 w1 e).2 b; good = (branch_ways t1 w1 e).1 b }
 
   turned : (F : Setting) (G : Around F) (p : ℕ) (env : List Value) (t : Temporaries) (w w1 : World) → source.take_turn w ≡ Go tt w1 → Good_at F p env t w → Good_at F p env t w1
   turned F G p env t w w1 e good = came (turn_says F G w.turns (Good_at F p env t) w (λ m. turned_good F G p env t w m good)) e
@@ -580,11 +580,11 @@ module _ (r : Rlang) (temporaries : ℕ → ℕ) (a : Annotation) (cons : Consis
 
   right_third : (c : Activation) (line : ℕ) (steps : Steps) (test : Option Test) (third x : Code) → RightCode r c.routine (temporaries c.function) (Code.loop line steps test third x) → RightCode r c.routine (temporaries c.function) third
   right_third c line steps None third x right = right.1
-  right_third c line steps (Some test) third x right = right.2
+  right_third c line steps (Some test) third x right = right.1
 
   right_body : (c : Activation) (line : ℕ) (steps : Steps) (test : Option Test) (third x : Code) → RightCode r c.routine (temporaries c.function) (Code.loop line steps test third x) → RightCode r c.routine (temporaries c.function) x
   right_body c line steps None third x right = right.2
-  right_body c line steps (Some test) third x right = right.3
+  right_body c line steps (Some test) third x right = right.2
 
   module _ (c : Activation) (line : ℕ) (steps : Steps) (test : Option Test) (third x : Code) (here : ℕ) (k : Ways) (env : List Value) (t : Temporaries) (w : World) (fine : CodeFine c (Code.loop line steps test third x) here k env t w) where
     abbrev L : Setting
@@ -715,7 +715,7 @@ module _ (r : Rlang) (temporaries : ℕ → ℕ) (a : Annotation) (cons : Consis
     some_inside t1 w1 e b =
         (test_good (frame c fine.under) (around c fine.under) test (loop_at_test here steps) (inside' c line steps (Some test) third x here k env t w fine) fine.ends.next env t1 w1
         (stand_left (routine_nodes c.routine) (loop_at_test here steps) (LT c line steps (Some test) third x here k env t w fine) (LB c line steps (Some test) third x here k env t w fine ++ LC c line steps (Some test) third x here k env t w fine) (loop_rest c line steps (Some test) third x here k env t w fine))
-        fine.right.1 (loop_met c line steps (Some test) third x here k env t w fine t1 w1 e 0).0 (some_branch t1 w1 e)).0 b
+        (loop_met c line steps (Some test) third x here k env t w fine t1 w1 e 0).0 (some_branch t1 w1 e)).0 b
 
   -- of any loop
   loop_steps : (c : Activation) (line : ℕ) (steps : Steps) (test : Option Test) (third x : Code) (here : ℕ) (k : Ways) (env : List Value) (t : Temporaries) (w : World) → CodeFine c (Code.loop line steps test third x) here k env t w → StepsFine c steps (suc here) (loop_live steps test third x k) env t w
@@ -799,7 +799,7 @@ module _ (r : Rlang) (temporaries : ℕ → ℕ) (a : Annotation) (cons : Consis
     do_stand = stand_left (routine_nodes df) (suc here) DB (DS ++ DT) fine.stand.1
 
     do_body_fine : CodeFine c x (suc here) (repeat_body x steps test k) env t w
-    do_body_fine = record { under = fine.under; ends = do_ends; stand = do_stand; right = fine.right.2; meets = (do_round 0).0; good = go_on D DA here _ env t w fine.stand.0 do_here }
+    do_body_fine = record { under = fine.under; ends = do_ends; stand = do_stand; right = fine.right.1; meets = (do_round 0).0; good = go_on D DA here _ env t w fine.stand.0 do_here }
 
     module _ (way : Way) (env1 : List Value) (t1 : Temporaries) (w1 : World) (e : code_in r c x (repeat_body x steps test k) env t w ≡ Go way w1) (goes : GoesOn way env1 t1) where
       do_met : (m : ℕ) → Met (Once_more m) env1 t1 w1
@@ -812,7 +812,7 @@ module _ (r : Rlang) (temporaries : ℕ → ℕ) (a : Annotation) (cons : Consis
         stand = stand_left (routine_nodes df) at_tail DS DT do_rest;
         right = fine.right.0;
         meets = (do_met 0).0;
-        good = goes_back D DA tail fine.ends.next way env1 t1 w1 goes (came (code_good D DA x (suc here) do_ends do_stand fine.right.2 (repeat_body x steps test k) env t w (do_round 0).0 (go_on D DA here _ env t w fine.stand.0 do_here)) e);
+        good = goes_back D DA tail fine.ends.next way env1 t1 w1 goes (came (code_good D DA x (suc here) do_ends do_stand fine.right.1 (repeat_body x steps test k) env t w (do_round 0).0 (go_on D DA here _ env t w fine.stand.0 do_here)) e);
       }
 
       module _ (t2 : Temporaries) (w2 : World) (e2 : steps_in r c steps (repeat_live x steps test k) env1 t1 w1 ≡ Go t2 w2) where
@@ -828,7 +828,7 @@ module _ (r : Rlang) (temporaries : ℕ → ℕ) (a : Annotation) (cons : Consis
           right = fine.right;
           meets = λ m. if_came _ ((if_came _ (do_met m).1 e2).1 b) e3;
           good = subst (λ p. Good_at D p env1 t2 w3) (sym (positive (1 + code_points x + steps_points steps + 1) here fine.ends.next (omega arith)))
-              (turned D DA here env1 t2 w2 w3 e3 ((test_good D DA test at_last here fine.ends.next env1 t2 w2 (stand_right (routine_nodes df) at_tail at_last DS DT (let j = steps_count df steps at_tail at_last in omega (arith, j)) do_rest) fine.right.1 (if_came _ (do_met 0).1 e2).0 do_branch).0 b));
+              (turned D DA here env1 t2 w2 w3 e3 ((test_good D DA test at_last here fine.ends.next env1 t2 w2 (stand_right (routine_nodes df) at_tail at_last DS DT (let j = steps_count df steps at_tail at_last in omega (arith, j)) do_rest) (if_came _ (do_met 0).1 e2).0 do_branch).0 b));
         }
 
   -- the whole run

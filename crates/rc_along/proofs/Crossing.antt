@@ -10,7 +10,7 @@ use Rattle.rc_core.specs.Source.{World, byte_from}
 use Rattle.std.specs.Prelude.{ℤ, pos, negsuc, Result, Ok, Err}
 use Rattle.rc_base.specs.declared.ends.Trap.{Trap}
 use Rattle.rc_core.specs.declared.ty.Signedness.{Signedness}
-use Rattle.rc_rlang.specs.RegionCode.{numeric, regional, kind_of, Access}
+use Rattle.rc_rlang.specs.RegionCode.{numeric, regional, kind_if, kind_of, Access}
 use Rattle.rc_rlang.specs.RegionRuns.{Temporaries, at_kind, temporary, set_kind, with_temporary, changed_at, chosen_value, target_at, target_shifted, holds}
 use Rattle.rc_rlang.specs.RegionFlow.{Effect, nothing, nulled, moved, fixed, beside, made, under, loaded, present, absent, assigned, Node, going, is_regional, one_of, local_variable, temporary_variable, result_variable, scratch, variables, yes_effect, no_effect, routine_nodes}
 use Rattle.rc_annotations.specs.Annotations.{Facts, gained, exit_facts, allowed_where, assigning}
@@ -18,7 +18,7 @@ use Rattle.rc_annotations.specs.Holding.{is_present, region_in}
 use Rattle.rc_annotations.specs.Effects.{Absent, Says}
 use Rattle.rc_annotations.specs.Variables.{picked, picks, values_of}
 use Rattle.rc_annotations.specs.Worlds.{Made, Sane, Stays, note_at, Beside, Anew, Under, Loaded}
-use Rattle.rc_along.specs.Along.{Whole, NoNumber, Good}
+use Rattle.rc_along.specs.Along.{NoNumber, Good}
 use Rattle.rc_annotations.proofs.Effects.{changed_there, changed_else, not_eq, gained_holds, holds_behind, holds_assigned}
 use Rattle.rc_annotations.proofs.Truths.{holds_same}
 use Rattle.rc_annotations.proofs.Variables as V
@@ -134,10 +134,10 @@ module _ (frame : Setting) where
   abbrev pub Counts : Effect → List Value → Temporaries → World → Value → World → Type 0
   Counts effect env t w v w1 = Stays w w1 × Says exits effect (vals env t) w1.heap
 
-  pub keeps : (p to : ℕ) (effect : Effect) (ty : Ty) (h : ℕ) (m : Run World Value) (env : List Value) (t : Temporaries) (w : World) → Whole ty → kind_of ty ≡ numeric → assigned effect ≡ None → Leads p effect to → At p env t w
+  pub keeps : (p to : ℕ) (effect : Effect) (ty : Ty) (h : ℕ) (m : Run World Value) (env : List Value) (t : Temporaries) (w : World) → kind_of ty ≡ numeric → assigned effect ≡ None → Leads p effect to → At p env t w
       → ((v : Value) (w1 : World) → Says exits effect (vals env t) w1.heap → Says exits effect (vals env (with_temporary ty t h v)) w1.heap)
       → Goes (Counts effect env t w) m → Goes (At to env) (bind m (λ v w1. Go (with_temporary ty t h v) w1))
-  keeps p to effect ty h m env t w whole' kind e l good same k = goes_bind (Counts effect env t w) (At to env) m (λ v w1. Go (with_temporary ty t h v) w1) k (λ v w1 q.
+  keeps p to effect ty h m env t w kind e l good same k = goes_bind (Counts effect env t w) (At to env) m (λ v w1. Go (with_temporary ty t h v) w1) k (λ v w1 q.
       gives (At to env) (with_temporary ty t h v) w1 (cross p to effect env env t (with_temporary ty t h v) w w1 l good q.0 refl (keep_values ty env t h v kind) e (same v w1 q.1)))
 
   -- what operations say
@@ -186,27 +186,27 @@ module _ (frame : Setting) where
   not_true_absent (Handle k) e = cc
   not_true_absent (Pointer b) e = cc
 
-  pub kind_regional : (ty : Ty) → Whole ty → is_regional ty ≡ true → kind_of ty ≡ regional
-  kind_regional ty e b = e ∙ ap (λ c. one_of c regional numeric) b
+  pub kind_regional : (ty : Ty) → is_regional ty ≡ true → kind_of ty ≡ regional
+  kind_regional ty e = ap kind_if e
 
-  pub kind_numeric : (ty : Ty) → Whole ty → is_regional ty ≡ false → kind_of ty ≡ numeric
-  kind_numeric ty e b = e ∙ ap (λ c. one_of c regional numeric) b
+  pub kind_numeric : (ty : Ty) → is_regional ty ≡ false → kind_of ty ≡ numeric
+  kind_numeric ty e = ap kind_if e
 
   abbrev pub Quiet : Effect → List Value → Temporaries → World → Type 0
   Quiet effect env t w = (assigned effect ≡ None) × Says exits effect (vals env t) w.heap
 
-  pub says_yes : (env : List Value) (t : Temporaries) (w : World) (test : Ty) (h : ℕ) → Whole test → (is_regional test ≡ true → NoNumber (t.regions h)) → (is_regional test ≡ true → holds test (temporary test t h) ≡ true) → Quiet (yes_effect f test h) env t w
-  says_yes env t w test h whole' typed is = by (is_regional test) refl
+  pub says_yes : (env : List Value) (t : Temporaries) (w : World) (test : Ty) (h : ℕ) → (is_regional test ≡ true → NoNumber (t.regions h)) → (is_regional test ≡ true → holds test (temporary test t h) ≡ true) → Quiet (yes_effect f test h) env t w
+  says_yes env t w test h typed is = by (is_regional test) refl
     where
       by : (b : Bool) → is_regional test ≡ b → Quiet (one_of b (present (temp_at h)) nothing) env t w
-      by true e = (refl, subst is_present (sym (V.temp_value f copied whole env t.regions h)) (true_present (t.regions h) (typed e) (sym (holds_regional test (t.regions h) e) ∙ ap (holds test) (sym (regional_temp test t h (kind_regional test whole' e))) ∙ is e)))
+      by true e = (refl, subst is_present (sym (V.temp_value f copied whole env t.regions h)) (true_present (t.regions h) (typed e) (sym (holds_regional test (t.regions h) e) ∙ ap (holds test) (sym (regional_temp test t h (kind_regional test e))) ∙ is e)))
       by false e = (refl, tt)
 
-  pub says_no : (env : List Value) (t : Temporaries) (w : World) (test : Ty) (h : ℕ) → Whole test → (is_regional test ≡ true → holds test (temporary test t h) ≡ false) → Quiet (no_effect f test h) env t w
-  says_no env t w test h whole' is = by (is_regional test) refl
+  pub says_no : (env : List Value) (t : Temporaries) (w : World) (test : Ty) (h : ℕ) → (is_regional test ≡ true → holds test (temporary test t h) ≡ false) → Quiet (no_effect f test h) env t w
+  says_no env t w test h is = by (is_regional test) refl
     where
       by : (b : Bool) → is_regional test ≡ b → Quiet (one_of b (absent (temp_at h)) nothing) env t w
-      by true e = (refl, subst Absent (sym (V.temp_value f copied whole env t.regions h)) (not_true_absent (t.regions h) (sym (holds_regional test (t.regions h) e) ∙ ap (holds test) (sym (regional_temp test t h (kind_regional test whole' e))) ∙ is e)))
+      by true e = (refl, subst Absent (sym (V.temp_value f copied whole env t.regions h)) (not_true_absent (t.regions h) (sym (holds_regional test (t.regions h) e) ∙ ap (holds test) (sym (regional_temp test t h (kind_regional test e))) ∙ is e)))
       by false e = (refl, tt)
 
   pub trues_le : (bs : List Bool) (x : ℕ) → V.trues bs x ≤ length (picked bs [])
@@ -259,13 +259,5 @@ module _ (frame : Setting) where
       by (Some s) = refl
 
   -- an operation of a number without an effect
-  pub whole_number : (ty : Ty) → kind_of ty ≡ numeric → Whole ty
-  whole_number int e = refl
-  whole_number unsigned e = refl
-  whole_number char e = refl
-  whole_number region e = cc
-  whole_number (struct i) e = cc
-  whole_number (pointer note target) e = cc
-
   pub counts : (p to : ℕ) (ty : Ty) (h : ℕ) (m : Run World Value) (env : List Value) (t : Temporaries) (w : World) → kind_of ty ≡ numeric → Leads p nothing to → At p env t w → Goes (Only w) m → Goes (At to env) (bind m (λ v w1. Go (with_temporary ty t h v) w1))
-  counts p to ty h m env t w kind l good k = keeps p to nothing ty h m env t w (whole_number ty kind) kind refl l good (λ v w1 q. tt) (goes_more (Only w) (Counts nothing env t w) m (λ v w1 q. (q, tt)) k)
+  counts p to ty h m env t w kind l good k = keeps p to nothing ty h m env t w kind refl l good (λ v w1 q. tt) (goes_more (Only w) (Counts nothing env t w) m (λ v w1 q. (q, tt)) k)

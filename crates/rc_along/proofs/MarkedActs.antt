@@ -106,11 +106,11 @@ module _ (frame : Setting) (around : Calling frame) (marking : Marking frame aro
     step_same (fork line h test result x y) here next live env t w st right meets good =
         let at_y = suc here + steps_points x in
         twin_branch (holds test (temporary test t h)) (steps_run source deleting f.locals x calls live env t) (steps_run source deleting f.locals x calls' live env t) (steps_run source deleting f.locals y calls live env t) (steps_run source deleting f.locals y calls' live env t) w
-        (λ e. let q = says_yes frame env t w test h right.1 meets.0 (λ i. e) in
-        steps_same x (suc here) next live env t w (stand_left (all frame) (suc here) (steps_nodes f x (suc here) next) (steps_nodes f y at_y next) st.1) right.2 (meets.1 e)
+        (λ e. let q = says_yes frame env t w test h meets.0 (λ i. e) in
+        steps_same x (suc here) next live env t w (stand_left (all frame) (suc here) (steps_nodes f x (suc here) next) (steps_nodes f y at_y next) st.1) right.1 (meets.1 e)
         (cross frame here (first_of (steps_points x) (suc here) next) (yes_effect f test h) env env t t w w (record { node = _; e = 0; at = st.0; edge = refl }) good (stays_itself w good.sane) refl (λ u. refl) q.0 q.1))
-        (λ e. let q = says_no frame env t w test h right.1 (λ i. e) in
-        steps_same y at_y next live env t w (stand_right (all frame) (suc here) at_y (steps_nodes f x (suc here) next) (steps_nodes f y at_y next) (let k = steps_count f x (suc here) next in omega (arith, k)) st.1) right.3 (meets.2 e)
+        (λ e. let q = says_no frame env t w test h (λ i. e) in
+        steps_same y at_y next live env t w (stand_right (all frame) (suc here) at_y (steps_nodes f x (suc here) next) (steps_nodes f y at_y next) (let k = steps_count f x (suc here) next in omega (arith, k)) st.1) right.2 (meets.2 e)
         (cross frame here (first_of (steps_points y) at_y next) (no_effect f test h) env env t t w w (record { node = _; e = 1; at = st.0; edge = refl }) good (stays_itself w good.sane) refl (λ u. refl) q.0 q.1))
 
     pub steps_same : (x : Steps) (here next : ℕ) (live : ℕ → Bool) (env : List Value) (t : Temporaries) (w : World) → Stand (all frame) here (steps_nodes f x here next) → RightSteps r f (n frame) x → StepsMeet deleting f calls inside x live env t w → At frame (first_of (steps_points x) here next) env t w
@@ -207,7 +207,7 @@ module _ (frame : Setting) (around : Calling frame) (marking : Marking frame aro
   store_same line acc here k live env t w st right meets good =
       ap (λ m. bind m (λ _ w1. Go (Next env t) w1)) (put_same here line (target_at acc t 0) (kept acc.cell (temporary acc.cell t (width acc))) w
       (cell_fits here k.next (width acc) line acc.cell (target_at acc t 0) (kept acc.cell (temporary acc.cell t (width acc))) env t w st.0 good (target_pointer frame acc t 0)
-      (λ e. kept_whole frame acc.cell (temporary acc.cell t (width acc)) e ∙ regional_temp frame acc.cell t (width acc) (kind_regional frame acc.cell right.0 e)) meets))
+      (λ e. kept_whole frame acc.cell (temporary acc.cell t (width acc)) e ∙ regional_temp frame acc.cell t (width acc) (kind_regional frame acc.cell e)) meets))
 
   pub compute_same : (line : ℕ) (acc : Access) (from : NumberType) (operator : Operator) (sign : Signedness) (ty : Ty) → ActSame (Code.update line acc (Compute from operator sign) ty)
   compute_same line acc from operator sign ty here k live env t w st right meets good =

@@ -13,7 +13,7 @@ use Rattle.rc_rlang.specs.RegionFlow.{nothing, going, first_of, steps_nodes, End
 use Rattle.rc_annotations.specs.Holding.{AllHold}
 use Rattle.rc_annotations.specs.Variables.{past}
 use Rattle.rc_annotations.specs.Worlds.{Grown, Made, Sane}
-use Rattle.rc_along.specs.Along.{Stand, Whole, given_to, RightSteps, RightRoutine, RoutineMeets, RightCode, RightCodes, ActMeets, HeadMeets, CodeMeets, CodesMeet, RoundsMeet, behind_meets, body_meets, nothing_more}
+use Rattle.rc_along.specs.Along.{Stand, given_to, RightSteps, RightRoutine, RoutineMeets, RightCode, RightCodes, ActMeets, HeadMeets, CodeMeets, CodesMeet, RoundsMeet, behind_meets, body_meets, nothing_more}
 use Rattle.rc_along.specs.MarkedRuns.{act_marked, code_marked, codes_marked, routine_marked}
 use Rattle.rc_core.specs.Live.{Ways, then_live, round}
 use Rattle.rc_core.specs.Live as L
@@ -79,14 +79,14 @@ module _ (frame : Setting) (around : Calling frame) (marking : Marking frame aro
 
   -- steps and a test
   pub head_same : (steps : Steps) (test : Test) (here at to_yes to_no : ℕ) (live : ℕ → Bool) (if_true if_false : Goal frame around) (env : List Value) (t : Temporaries) (w : World) (go_yes go_no go_yes' go_no' : Going frame around) → Stand (all frame) here (steps_nodes f steps here at) → Stand (all frame) at (test_nodes f (Some test) to_yes to_no)
-      → RightSteps r f (n frame) steps → Whole test.ty → HeadMeets deleting f calls inside steps (Some test) live if_true if_false env t w → At frame (first_of (steps_points steps) here at) env t w
+      → RightSteps r f (n frame) steps → HeadMeets deleting f calls inside steps (Some test) live if_true if_false env t w → At frame (first_of (steps_points steps) here at) env t w
       → AgainSame to_yes if_true go_yes go_yes' → AgainSame to_no if_false go_no go_no'
       → bind (steps_run source deleting f.locals steps calls' live env t w) (λ t1. branching (test_value (Some test) t1) (go_yes' env t1) (go_no' env t1)) ≡ bind (steps_run source deleting f.locals steps calls live env t w) (λ t1. branching (test_value (Some test) t1) (go_yes env t1) (go_no env t1))
-  head_same steps test here at to_yes to_no live if_true if_false env t w go_yes go_no go_yes' go_no' ss ts rs rt meets good hy hn =
+  head_same steps test here at to_yes to_no live if_true if_false env t w go_yes go_no go_yes' go_no' ss ts rs meets good hy hn =
       twin (λ t1 w1. (test_value (Some test) t1 ≡ true → At frame to_yes env t1 w1 × if_true env t1 w1) × (test_value (Some test) t1 ≡ false → At frame to_no env t1 w1 × if_false env t1 w1)) (steps_run source deleting f.locals steps calls live env t w) (steps_run source deleting f.locals steps calls' live env t w)
       (λ t1. branching (test_value (Some test) t1) (go_yes env t1) (go_no env t1)) (λ t1. branching (test_value (Some test) t1) (go_yes' env t1) (go_no' env t1))
       (steps_same frame around marking steps here at live env t w ss rs meets.0 good)
-      (head_good frame around steps test here at to_yes to_no live if_true if_false env t w ss ts rs rt meets good)
+      (head_good frame around steps test here at to_yes to_no live if_true if_false env t w ss ts rs meets good)
       (λ t1 w1 p. twin_branch (test_value (Some test) t1) (go_yes env t1) (go_yes' env t1) (go_no env t1) (go_no' env t1) w1 (λ e. hy env t1 w1 (p.0 e).0 (p.0 e).1) (λ e. hn env t1 w1 (p.1 e).0 (p.1 e).1))
 
   -- the body of a loop, what comes behind it, and the next round
@@ -113,13 +113,13 @@ module _ (frame : Setting) (around : Calling frame) (marking : Marking frame aro
   pub next_same : (x : ℕ) → AgainSame x (nothing_more deleting f calls inside) (λ env t w. Go (Next env t) w) (λ env t w. Go (Next env t) w)
   next_same x env t w i m = refl
 
-  pub loop_some_same : (line : ℕ) (steps : Steps) (test : Test) (third body : Code) (here : ℕ) (k : Ends) → RightSteps r f (n frame) steps → Whole test.ty
+  pub loop_some_same : (line : ℕ) (steps : Steps) (test : Test) (third body : Code) (here : ℕ) (k : Ends) → RightSteps r f (n frame) steps
       → let at = suc here + steps_points steps in let at_body = at + 1 in let at_third = at_body + code_points body in let back = first_of (code_points third) at_third here in let inside' = first_of (code_points body) at_body back in
       Stand (all frame) (suc here) (steps_nodes f steps (suc here) at) → Stand (all frame) at (test_nodes f (Some test) inside' k.next) → Does frame around body at_body (record { next = back; broken = k.next; continued = back }) → Does frame around third at_third (record k { next = here })
       → Same body at_body (record { next = back; broken = k.next; continued = back }) → Same third at_third (record k { next = here })
       → slice_get (all frame) here ≡ Some (going nothing (first_of (steps_points steps + 1) (suc here) inside')) → (ways : Ways) (env : List Value) (t : Temporaries) (w : World) → CodeMeets deleting f calls inside (Code.loop line steps (Some test) third body) ways env t w → At frame here env t w
       → code_marked source put deleting f.locals marked (Code.loop line steps (Some test) third body) here calls' ways env t w ≡ code_run source deleting f.locals (Code.loop line steps (Some test) third body) calls ways env t w
-  loop_some_same line steps test third body here k rs rt ss ts body_does third_does body_is third_is q ways env t w meets i =
+  loop_some_same line steps test third body here k rs ss ts body_does third_does body_is third_is q ways env t w meets i =
       let at = suc here + steps_points steps in
       let at_body = at + 1 in
       let at_third = at_body + code_points body in
@@ -133,7 +133,7 @@ module _ (frame : Setting) (around : Calling frame) (marking : Marking frame aro
       let go' : Going frame around → Going frame around = λ again env1 t1 w1. bind (code_marked source put deleting f.locals marked body at_body calls' ways1 env1 t1 w1) (behind_body (λ env2 t2 w2. bind (code_marked source put deleting f.locals marked third at_third calls' ways2 env2 t2 w2) (behind again))) in
       rounds_same here (λ Met env1 t1 w1. HeadMeets deleting f calls inside steps (Some test) live (Inner Met) (nothing_more deleting f calls inside) env1 t1 w1) (steps_run source deleting f.locals steps calls live) (steps_run source deleting f.locals steps calls' live) (Some test) go go'
       (λ Met again again' h env1 t1 w1 j m.
-      head_same steps test (suc here) at inside' k.next live (Inner Met) (nothing_more deleting f calls inside) env1 t1 w1 (go again) (λ env2 t2 w2. Go (Next env2 t2) w2) (go' again') (λ env2 t2 w2. Go (Next env2 t2) w2) ss ts rs rt m
+      head_same steps test (suc here) at inside' k.next live (Inner Met) (nothing_more deleting f calls inside) env1 t1 w1 (go again) (λ env2 t2 w2. Go (Next env2 t2) w2) (go' again') (λ env2 t2 w2. Go (Next env2 t2) w2) ss ts rs m
       (subst (λ p. At frame p env1 t1 w1) (first_more frame around (steps_points steps) 1 (suc here) inside' (omega arith)) (go_on frame around here _ env1 t1 w1 q j))
       (round_same third body here at_body at_third back k ways1 ways2 refl body_does third_does body_is third_is Met again again' h) (next_same k.next))
       (suc (source.turns_left w)) env t w i (meets (suc (source.turns_left w)))
@@ -159,12 +159,12 @@ module _ (frame : Setting) (around : Calling frame) (marking : Marking frame aro
       (suc (source.turns_left w)) env t w i (meets (suc (source.turns_left w)))
   loop_none_same line (more x rest) third body e here k body_does third_does body_is third_is q ways env t w meets i = cc
 
-  pub repeat_same : (line : ℕ) (body : Code) (steps : Steps) (test : Test) (here : ℕ) (k : Ends) → RightSteps r f (n frame) steps → Whole test.ty
+  pub repeat_same : (line : ℕ) (body : Code) (steps : Steps) (test : Test) (here : ℕ) (k : Ends) → RightSteps r f (n frame) steps
       → let at_tail = suc here + code_points body in let at_test = at_tail + steps_points steps in let tail = first_of (steps_points steps) at_tail at_test in
       Stand (all frame) at_tail (steps_nodes f steps at_tail at_test) → Stand (all frame) at_test (test_nodes f (Some test) here k.next) → Does frame around body (suc here) (record { next = tail; broken = k.next; continued = tail }) → Same body (suc here) (record { next = tail; broken = k.next; continued = tail })
       → slice_get (all frame) here ≡ Some (going nothing (first_of (code_points body) (suc here) tail)) → (ways : Ways) (env : List Value) (t : Temporaries) (w : World) → CodeMeets deleting f calls inside (Code.repeat line body steps test) ways env t w → At frame here env t w
       → code_marked source put deleting f.locals marked (Code.repeat line body steps test) here calls' ways env t w ≡ code_run source deleting f.locals (Code.repeat line body steps test) calls ways env t w
-  repeat_same line body steps test here k rs rt ss ts body_does body_is q ways env t w meets i =
+  repeat_same line body steps test here k rs ss ts body_does body_is q ways env t w meets i =
       let at_tail = suc here + code_points body in
       let at_test = at_tail + steps_points steps in
       let tail = first_of (steps_points steps) at_tail at_test in
@@ -182,7 +182,7 @@ module _ (frame : Setting) (around : Calling frame) (marking : Marking frame aro
       twin (λ way w2. GoodWay frame around kb way w2 × body_meets (Inner Met) way w2) (code_run source deleting f.locals body calls ways1 env1 t1 w1) (code_marked source put deleting f.locals marked body (suc here) calls' ways1 env1 t1 w1) (behind_body go) (behind_body go') (body_is ways1 env1 t1 w1 m.0 i1)
       (goes_both (GoodWay frame around kb) (body_meets (Inner Met)) (code_run source deleting f.locals body calls ways1 env1 t1 w1) (body_does ways1 env1 t1 w1 m.0 i1) (record { holds = m.1 }))
       (λ way w2 p. body_same k tail go go' (Inner Met) (λ env2 t2 w3 i2 m2.
-      head_same steps test at_tail at_test here k.next live Met (nothing_more deleting f calls inside) env2 t2 w3 again (λ env3 t3 w4. Go (Next env3 t3) w4) again' (λ env3 t3 w4. Go (Next env3 t3) w4) ss ts rs rt m2 i2 h (next_same k.next)) way w2 p.0 p.1))
+      head_same steps test at_tail at_test here k.next live Met (nothing_more deleting f calls inside) env2 t2 w3 again (λ env3 t3 w4. Go (Next env3 t3) w4) again' (λ env3 t3 w4. Go (Next env3 t3) w4) ss ts rs m2 i2 h (next_same k.next)) way w2 p.0 p.1))
       (suc (source.turns_left w)) env t w i (meets (suc (source.turns_left w)))
 
   mutual
@@ -212,10 +212,10 @@ module _ (frame : Setting) (around : Calling frame) (marking : Marking frame aro
         let arms = stand_right (all frame) at (suc at) T (X ++ Y) (omega arith) rest in
         let live = λ (v : ℕ). before_code x ways v || before_code y ways v in
         head_same steps test here at to_x to_y live (CodeMeets deleting f calls inside x ways) (CodeMeets deleting f calls inside y ways) env t w (code_run source deleting f.locals x calls ways) (code_run source deleting f.locals y calls ways) (code_marked source put deleting f.locals marked x (suc at) calls' ways) (code_marked source put deleting f.locals marked y at_y calls' ways)
-        (stand_left (all frame) here S (T ++ (X ++ Y)) st) (stand_left (all frame) at T (X ++ Y) rest) right.0 right.1 meets
+        (stand_left (all frame) here S (T ++ (X ++ Y)) st) (stand_left (all frame) at T (X ++ Y) rest) right.0 meets
         (subst (λ p. At frame p env t w) (ap (λ i. first_of i here k.next) (let e : steps_points steps + 1 + code_points x + code_points y ≡ steps_points steps + (1 + code_points x + code_points y) = omega arith in e) ∙ first_more frame around (steps_points steps) (1 + code_points x + code_points y) here k.next (omega arith)) i)
-        (λ env1 t1 w1 i1 m1. code_same x (suc at) k (stand_left (all frame) (suc at) X Y arms) right.2 ways env1 t1 w1 m1 i1)
-        (λ env1 t1 w1 i1 m1. code_same y at_y k (stand_right (all frame) (suc at) at_y X Y (let j = code_count f x (suc at) k in omega (arith, j)) arms) right.3 ways env1 t1 w1 m1 i1)
+        (λ env1 t1 w1 i1 m1. code_same x (suc at) k (stand_left (all frame) (suc at) X Y arms) right.1 ways env1 t1 w1 m1 i1)
+        (λ env1 t1 w1 i1 m1. code_same y at_y k (stand_right (all frame) (suc at) at_y X Y (let j = code_count f x (suc at) k in omega (arith, j)) arms) right.2 ways env1 t1 w1 m1 i1)
     code_same (Code.loop line steps None third body) here k st right ways env t w meets i =
         let at = suc here + steps_points steps in
         let at_body = at + 0 in
@@ -247,9 +247,9 @@ module _ (frame : Setting) (around : Calling frame) (marking : Marking frame aro
         let arms = stand_right (all frame) at at_body T (B ++ C) (omega arith) rest in
         let at_b = stand_left (all frame) at_body B C arms in
         let at_c = stand_right (all frame) at_body at_third B C (let j = code_count f body at_body k1 in omega (arith, j)) arms in
-        loop_some_same line steps test third body here k right.0 right.1
+        loop_some_same line steps test third body here k right.0
         (stand_left (all frame) (suc here) S (T ++ (B ++ C)) st.1) (stand_left (all frame) at T (B ++ C) rest)
-        (code_good frame around body at_body k1 at_b right.3) (code_good frame around third at_third k2 at_c right.2) (code_same body at_body k1 at_b right.3) (code_same third at_third k2 at_c right.2)
+        (code_good frame around body at_body k1 at_b right.2) (code_good frame around third at_third k2 at_c right.1) (code_same body at_body k1 at_b right.2) (code_same third at_third k2 at_c right.1)
         st.0 ways env t w meets (subst (λ p. At frame p env t w) (positive (1 + steps_points steps + 1 + code_points body + code_points third) here k.next (omega arith)) i)
     code_same (Code.repeat line body steps test) here k st right ways env t w meets i =
         let at_tail = suc here + code_points body in
@@ -261,9 +261,9 @@ module _ (frame : Setting) (around : Calling frame) (marking : Marking frame aro
         let T = test_nodes f (Some test) here k.next in
         let rest = stand_right (all frame) (suc here) at_tail B (S ++ T) (let j = code_count f body (suc here) k1 in omega (arith, j)) st.1 in
         let at_b = stand_left (all frame) (suc here) B (S ++ T) st.1 in
-        repeat_same line body steps test here k right.0 right.1
+        repeat_same line body steps test here k right.0
         (stand_left (all frame) at_tail S T rest) (stand_right (all frame) at_tail at_test S T (let j = steps_count f steps at_tail at_test in omega (arith, j)) rest)
-        (code_good frame around body (suc here) k1 at_b right.2) (code_same body (suc here) k1 at_b right.2)
+        (code_good frame around body (suc here) k1 at_b right.1) (code_same body (suc here) k1 at_b right.1)
         st.0 ways env t w meets (subst (λ p. At frame p env t w) (positive (1 + code_points body + steps_points steps + 1) here k.next (omega arith)) i)
     code_same (Code.break line) here k st right ways env t w meets i = refl
     code_same (Code.continue line) here k st right ways env t w meets i = refl

@@ -13,7 +13,7 @@ use Rattle.rc_annotations.specs.Holding.{AllHold}
 use Rattle.rc_annotations.specs.Effects.{Absent, EachIs}
 use Rattle.rc_annotations.specs.Variables.{picked, past, picks}
 use Rattle.rc_annotations.specs.Worlds.{Grown, Made, Sane}
-use Rattle.rc_along.specs.Along.{Stand, Whole, given_to, RightRoutine, RoutineMeets}
+use Rattle.rc_along.specs.Along.{Stand, given_to, RightRoutine, RoutineMeets}
 use Rattle.rc_annotations.proofs.Truths.{derivable_holds, holds_same}
 use Rattle.rc_core.specs.Live as L
 use Rattle.rc_annotations.proofs.Variables as V
@@ -30,25 +30,25 @@ module _ (frame : Setting) (around : Calling frame) where
   open around use {deleting, calls, inside, keeps_calls}
 
   -- behind the body a result is zero or null
-  pub cleared_good : (at : ℕ) (env : List Value) (t : Temporaries) (w : World) (ty : Ty) → Whole ty → slice_get (all frame) at ≡ Some (going (one_of (is_regional ty) (nulled (temp_at frame 0)) nothing) (suc at)) → At frame at env t w → At frame (suc at) env (with_temporary ty t 0 (zero_of ty)) w
-  cleared_good at env t w ty whole' node good = cleared (is_regional ty) refl node
+  pub cleared_good : (at : ℕ) (env : List Value) (t : Temporaries) (w : World) (ty : Ty) → slice_get (all frame) at ≡ Some (going (one_of (is_regional ty) (nulled (temp_at frame 0)) nothing) (suc at)) → At frame at env t w → At frame (suc at) env (with_temporary ty t 0 (zero_of ty)) w
+  cleared_good at env t w ty node good = cleared (is_regional ty) refl node
     where
       cleared : (b : Bool) → is_regional ty ≡ b → slice_get (all frame) at ≡ Some (going (one_of b (nulled (temp_at frame 0)) nothing) (suc at)) → At frame (suc at) env (with_temporary ty t 0 (zero_of ty)) w
       cleared true q p =
           let null' : Null ≡ zero_of ty = sym (null_zero ty q) in
-          cross_assigned frame at (suc at) (nulled (temp_at frame 0)) (temp_at frame 0) (zero_of ty) env env t (with_temporary ty t 0 (zero_of ty)) w w (leads frame at _ (suc at) p) good (stays_itself w good.sane) refl (set_values frame ty env t 0 (zero_of ty) (kind_regional frame ty whole' q)) refl
+          cross_assigned frame at (suc at) (nulled (temp_at frame 0)) (temp_at frame 0) (zero_of ty) env env t (with_temporary ty t 0 (zero_of ty)) w w (leads frame at _ (suc at) p) good (stays_itself w good.sane) refl (set_values frame ty env t 0 (zero_of ty) (kind_regional frame ty q)) refl
           (subst (Made w.heap) null' (λ m. absurd m)) (subst Absent (null' ∙ sym (new_temp frame env t (zero_of ty))) (λ m. m))
-      cleared false q p = cross frame at (suc at) nothing env env t (with_temporary ty t 0 (zero_of ty)) w w (leads frame at nothing (suc at) p) good (stays_itself w good.sane) refl (keep_values frame ty env t 0 (zero_of ty) (kind_numeric frame ty whole' q)) refl tt
+      cleared false q p = cross frame at (suc at) nothing env env t (with_temporary ty t 0 (zero_of ty)) w w (leads frame at nothing (suc at) p) good (stays_itself w good.sane) refl (keep_values frame ty env t 0 (zero_of ty) (kind_numeric frame ty q)) refl tt
 
   -- behind the body zero or null is returned
-  pub end_good : (at : ℕ) (env : List Value) (t : Temporaries) (w : World) → ((ty : Ty) → f.result ≡ Some ty → Whole ty × (0 < (n frame))) → Stand (all frame) at (end_nodes f f.result at) → At frame at env t w → Left frame around (zero_result f.result) w
+  pub end_good : (at : ℕ) (env : List Value) (t : Temporaries) (w : World) → ((ty : Ty) → f.result ≡ Some ty → 0 < (n frame)) → Stand (all frame) at (end_nodes f f.result at) → At frame at env t w → Left frame around (zero_result f.result) w
   end_good at env t w right st i = by f.result refl right st
     where
       set_there : (k : Kind) (s : Temporaries) (v : Value) → at_kind k (set_kind k s 0 v) 0 ≡ v
       set_there numeric s v = refl
       set_there regional s v = refl
 
-      by : (result : Option Ty) → result ≡ f.result → ((ty : Ty) → result ≡ Some ty → Whole ty × (0 < (n frame))) → Stand (all frame) at (end_nodes f result at) → Left frame around (zero_result result) w
+      by : (result : Option Ty) → result ≡ f.result → ((ty : Ty) → result ≡ Some ty → 0 < (n frame)) → Stand (all frame) at (end_nodes f result at) → Left frame around (zero_result result) w
       by None e right st = left_at frame around None ((λ ty q reg. (ty, e ∙ q, reg)), λ ty q. cc) at env t w st i
       by (Some ty) e right st =
           let s1 : Temporaries = with_temporary ty t 0 (zero_of ty) in
@@ -57,9 +57,9 @@ module _ (frame : Setting) (around : Calling frame) where
           cleared : (b : Bool) → is_regional ty ≡ b → slice_get (all frame) at ≡ Some (going (one_of b (nulled (temp_at frame 0)) nothing) (suc at)) → At frame (suc at) env (with_temporary ty t 0 (zero_of ty)) w
           cleared true q p =
               let null' : Null ≡ zero_of ty = sym (null_zero ty q) in
-              cross_assigned frame at (suc at) (nulled (temp_at frame 0)) (temp_at frame 0) (zero_of ty) env env t (with_temporary ty t 0 (zero_of ty)) w w (leads frame at _ (suc at) p) i (stays_itself w i.sane) refl (set_values frame ty env t 0 (zero_of ty) (kind_regional frame ty (right ty refl).0 q)) refl
+              cross_assigned frame at (suc at) (nulled (temp_at frame 0)) (temp_at frame 0) (zero_of ty) env env t (with_temporary ty t 0 (zero_of ty)) w w (leads frame at _ (suc at) p) i (stays_itself w i.sane) refl (set_values frame ty env t 0 (zero_of ty) (kind_regional frame ty q)) refl
               (subst (Made w.heap) null' (λ m. absurd m)) (subst Absent (null' ∙ sym (new_temp frame env t (zero_of ty))) (λ m. m))
-          cleared false q p = cross frame at (suc at) nothing env env t (with_temporary ty t 0 (zero_of ty)) w w (leads frame at nothing (suc at) p) i (stays_itself w i.sane) refl (keep_values frame ty env t 0 (zero_of ty) (kind_numeric frame ty (right ty refl).0 q)) refl tt
+          cleared false q p = cross frame at (suc at) nothing env env t (with_temporary ty t 0 (zero_of ty)) w w (leads frame at nothing (suc at) p) i (stays_itself w i.sane) refl (keep_values frame ty env t 0 (zero_of ty) (kind_numeric frame ty q)) refl tt
 
   -- at the entry
   pub zero_absent : (ty : Ty) → Absent (zero_of ty)

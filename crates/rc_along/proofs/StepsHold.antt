@@ -39,8 +39,8 @@ module _ (frame : Setting) (around : Calling frame) where
   set_good p to line h ty (Code.copy x) live env t w lt right l good meets = by (is_regional ty) refl l
     where
       by : (b : Bool) → is_regional ty ≡ b → Leads frame p (one_of b (moved (temp_at frame h) (local_variable f x)) nothing) to → Goes (At frame to env) (bind (Go (get_or env x Null) w) (λ v w1. Go (with_temporary ty t h v) w1))
-      by true e l = sets frame p to (moved (temp_at frame h) (local_variable f x)) ty h (Go (get_or env x Null) w) env t w (kind_regional frame ty right.0 e) refl l good (says_copy frame env t w h (local_variable f x) (get_or env x Null) good.sane (old_local frame env t (get_or env x Null) x (right.1 ∙ e)) (local_made frame p env t w x good (right.1 ∙ e)))
-      by false e l = counts frame p to ty h (Go (get_or env x Null) w) env t w (kind_numeric frame ty right.0 e) l good (gives (Only frame w) (get_or env x Null) w (stays_itself w good.sane))
+      by true e l = sets frame p to (moved (temp_at frame h) (local_variable f x)) ty h (Go (get_or env x Null) w) env t w (kind_regional frame ty e) refl l good (says_copy frame env t w h (local_variable f x) (get_or env x Null) good.sane (old_local frame env t (get_or env x Null) x (right ∙ e)) (local_made frame p env t w x good (right ∙ e)))
+      by false e l = counts frame p to ty h (Go (get_or env x Null) w) env t w (kind_numeric frame ty e) l good (gives (Only frame w) (get_or env x Null) w (stays_itself w good.sane))
   set_good p to line h ty (Code.load acc) live env t w lt right l good meets = by (is_regional ty) refl l
     where
       m : Run World Value
@@ -50,8 +50,8 @@ module _ (frame : Setting) (around : Calling frame) where
       at_s = target_pointer frame acc t h
 
       by : (b : Bool) → is_regional ty ≡ b → Leads frame p (one_of b (loaded (temp_at frame h) (temp_at frame h) (note_in acc.cell)) (looked_at (temp_at frame h))) to → Goes (At frame to env) (bind m (λ v w1. Go (with_temporary ty t h v) w1))
-      by true e l = sets frame p to (loaded (temp_at frame h) (temp_at frame h) (note_in acc.cell)) ty h m env t w (kind_regional frame ty right e) refl l good (says_loaded frame env t w h h (note_in acc.cell) (target_at acc t h) m lt at_s (load_named line (target_at acc t h) (note_in acc.cell) w meets) (load_says line (target_at acc t h) w good.sane))
-      by false e l = keeps frame p to (looked_at (temp_at frame h)) ty h m env t w right (kind_numeric frame ty right e) refl l good (λ v w1 q. subst is_present (sym (keep_values frame ty env t h v (kind_numeric frame ty right e) (temp_at frame h))) q)
+      by true e l = sets frame p to (loaded (temp_at frame h) (temp_at frame h) (note_in acc.cell)) ty h m env t w (kind_regional frame ty e) refl l good (says_loaded frame env t w h h (note_in acc.cell) (target_at acc t h) m lt at_s (load_named line (target_at acc t h) (note_in acc.cell) w meets) (load_says line (target_at acc t h) w good.sane))
+      by false e l = keeps frame p to (looked_at (temp_at frame h)) ty h m env t w (kind_numeric frame ty e) refl l good (λ v w1 q. subst is_present (sym (keep_values frame ty env t h v (kind_numeric frame ty e) (temp_at frame h))) q)
           (goes_more (Loaded w (target_at acc t h)) (Counts frame (looked_at (temp_at frame h)) env t w) m (λ v w1 b. (b.0, rw (V.temp_value f copied whole env t.regions h, ← at_s) b.2)) (load_says line (target_at acc t h) w good.sane))
   set_good p to line h ty (Code.step direction pointed k) live env t w lt right l good meets =
       sets frame p to (beside (temp_at frame h) (temp_at frame h)) ty h _ env t w right.0 refl l good (says_beside frame env t w h h _ lt (rw (regional_temp frame pointed t h right.1) (step_says line (t.regions h) (toward direction (number_in (temporary k t (suc h)))) w good.sane)))
@@ -86,11 +86,11 @@ module _ (frame : Setting) (around : Calling frame) where
     step_good (fork line h test result x y) here next live env t w st right meets good =
         let at_y = suc here + steps_points x in
         goes_branching (At frame next env) (holds test (temporary test t h)) (steps_run source deleting f.locals x calls live env t) (steps_run source deleting f.locals y calls live env t) w
-        (λ e. let q = says_yes frame env t w test h right.1 meets.0 (λ i. e) in
-        (steps_good x (suc here) next live env t w (stand_left (all frame) (suc here) (steps_nodes f x (suc here) next) (steps_nodes f y at_y next) st.1) right.2 (meets.1 e)
+        (λ e. let q = says_yes frame env t w test h meets.0 (λ i. e) in
+        (steps_good x (suc here) next live env t w (stand_left (all frame) (suc here) (steps_nodes f x (suc here) next) (steps_nodes f y at_y next) st.1) right.1 (meets.1 e)
         (cross frame here (first_of (steps_points x) (suc here) next) (yes_effect f test h) env env t t w w (record { node = _; e = 0; at = st.0; edge = refl }) good (stays_itself w good.sane) refl (λ u. refl) q.0 q.1)))
-        (λ e. let q = says_no frame env t w test h right.1 (λ i. e) in
-        (steps_good y at_y next live env t w (stand_right (all frame) (suc here) at_y (steps_nodes f x (suc here) next) (steps_nodes f y at_y next) (let k = steps_count f x (suc here) next in omega (arith, k)) st.1) right.3 (meets.2 e)
+        (λ e. let q = says_no frame env t w test h (λ i. e) in
+        (steps_good y at_y next live env t w (stand_right (all frame) (suc here) at_y (steps_nodes f x (suc here) next) (steps_nodes f y at_y next) (let k = steps_count f x (suc here) next in omega (arith, k)) st.1) right.2 (meets.2 e)
         (cross frame here (first_of (steps_points y) at_y next) (no_effect f test h) env env t t w w (record { node = _; e = 1; at = st.0; edge = refl }) good (stays_itself w good.sane) refl (λ u. refl) q.0 q.1)))
 
     pub steps_good : (x : Steps) (here next : ℕ) (live : ℕ → Bool) (env : List Value) (t : Temporaries) (w : World) → Stand (all frame) here (steps_nodes f x here next) → RightSteps r f (n frame) x → StepsMeet deleting f calls inside x live env t w → At frame (first_of (steps_points x) here next) env t w → Goes (At frame next env) (steps_run source deleting f.locals x calls live env t w)

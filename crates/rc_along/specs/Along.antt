@@ -13,7 +13,7 @@ use Rattle.rc_core.specs.Live.{Ways, then_live, round, at_end}
 use Rattle.rc_core.specs.Runs.{Go, Target, Calls}
 use Rattle.rc_core.specs.Source.{World, at_spot, source}
 use Rattle.rc_rlang.specs.RegionCode.{numeric, regional, kind_of, width, Operation, null, static, copy, load, step, step_from, call, new_region, new_subregion, region_of, allocate, allocate_array, Step, set, fork, Steps, none, more, Act, drop, perform, assign, store, update, move, delete, leave, Test, Code, simple, clear, block, branch, loop, repeat, break, continue, Codes, done, then, Routine, Rlang}
-use Rattle.rc_rlang.specs.RegionFlow.{Node, one_of, is_regional, is_regional_cell, note_in}
+use Rattle.rc_rlang.specs.RegionFlow.{Node, is_regional, is_regional_cell, note_in}
 use Rattle.rc_rlang.specs.RegionRuns.{Temporaries, temporary, temporaries_from, blank_temporaries, kept_all, kept_cell, holds, target_at, held, sized, test_value, step_run, steps_run, new_value, code_run, deletes, calls_within, Way, Next, Broke, Continued, Returned}
 use Rattle.rc_rlang.specs.RegionLive.{before_steps, before_act, before_code, before_codes, loop_head, repeat_tail}
 use Rattle.rc_annotations.specs.Annotations.{Annotation}
@@ -25,14 +25,6 @@ use Rattle.rc_annotations.specs.Worlds.{Grown, Made, Sane, Stays, note_at}
 abbrev pub Stand : List Node → (here : ℕ) → List Node → Type 0
 Stand all here [] = Unit {0}
 Stand all here (x ∷ xs) = (slice_get all here ≡ Some x) × Stand all (suc here) xs
-
--- a value's type, which is no struct: its kind tells whether it has a variable
-abbrev pub Whole : Ty → Type 0
-Whole ty = kind_of ty ≡ one_of (is_regional ty) regional numeric
-
-abbrev pub AllWhole : List Ty → Type 0
-AllWhole [] = Unit {0}
-AllWhole (ty ∷ tys) = Whole ty × AllWhole tys
 
 -- of a regional temporary: null, a handle or a pointer
 abbrev pub NoNumber : Value → Type 0
@@ -81,17 +73,15 @@ module _ (r : Rlang) (f : Routine) (n : ℕ) where
     pub callee : Routine
     pub found : slice_get r.functions k ≡ Some callee
     pub parameters : take callee.parameters callee.locals ≡ tys
-    pub wholes : AllWhole tys
     pub room : h + length tys ≤ n
     pub count : length tys ≡ callee.parameters
-    pub result : Whole ty
     pub gives_back : is_regional ty ≡ true → (u : Ty) × (callee.result ≡ Some u) × (is_regional u ≡ true)
 
   abbrev pub RightOperation : (h : ℕ) → Ty → Operation → Type 0
   RightOperation h ty null = kind_of ty ≡ regional
   RightOperation h ty (static object) = kind_of ty ≡ regional
-  RightOperation h ty (copy x) = Whole ty × (get_or (picks f) x false ≡ is_regional ty)
-  RightOperation h ty (load acc) = Whole ty
+  RightOperation h ty (copy x) = get_or (picks f) x false ≡ is_regional ty
+  RightOperation h ty (load acc) = Unit {0}
   RightOperation h ty (step direction pointed k) = (kind_of ty ≡ regional) × (kind_of pointed ≡ regional)
   RightOperation h ty (step_from k pointed) = (kind_of ty ≡ regional) × (kind_of pointed ≡ regional) × (suc h < n)
   RightOperation h ty (region_of of) = (kind_of ty ≡ regional) × (kind_of of ≡ regional)
@@ -105,7 +95,7 @@ module _ (r : Rlang) (f : Routine) (n : ℕ) where
   abbrev mutual
     pub RightStep : Step → Type 0
     RightStep (set line h ty op) = (h < n) × RightOperation h ty op
-    RightStep (fork line h test result x y) = (h < n) × Whole test × RightSteps x × RightSteps y
+    RightStep (fork line h test result x y) = (h < n) × RightSteps x × RightSteps y
 
     pub RightSteps : Steps → Type 0
     RightSteps none = Unit {0}
@@ -114,23 +104,23 @@ module _ (r : Rlang) (f : Routine) (n : ℕ) where
   abbrev pub RightAct : Act → Type 0
   RightAct drop = Unit {0}
   RightAct (perform line k tys) = CallRight 0 int k tys
-  RightAct (assign line x ty) = Whole ty × (get_or (picks f) x false ≡ is_regional ty) × (0 < n)
-  RightAct (store line acc) = Whole acc.cell × (0 < n) × (width acc < n)
+  RightAct (assign line x ty) = (get_or (picks f) x false ≡ is_regional ty) × (0 < n)
+  RightAct (store line acc) = (0 < n) × (width acc < n)
   RightAct (update line acc (Compute from operator sign) ty) = 0 < n
   RightAct (update line acc (Stepping direction) ty) = (is_regional acc.cell ≡ true) × (suc (width acc) < n)
   RightAct (move line kinds left right) = width left + width right < n
   RightAct (delete line) = 0 < n
-  RightAct (leave line result) = GivesBack f.result result × ((ty : Ty) → result ≡ Some ty → Whole ty × (0 < n))
+  RightAct (leave line result) = GivesBack f.result result × ((ty : Ty) → result ≡ Some ty → 0 < n)
 
   abbrev mutual
     pub RightCode : Code → Type 0
     RightCode (simple steps act) = RightSteps steps × RightAct act
-    RightCode (clear line x ty) = Whole ty × (get_or (picks f) x false ≡ is_regional ty)
+    RightCode (clear line x ty) = get_or (picks f) x false ≡ is_regional ty
     RightCode (block codes) = RightCodes codes
-    RightCode (branch steps test x y) = RightSteps steps × Whole test.ty × RightCode x × RightCode y
+    RightCode (branch steps test x y) = RightSteps steps × RightCode x × RightCode y
     RightCode (loop line steps None third body) = (steps ≡ none) × RightCode third × RightCode body
-    RightCode (loop line steps (Some test) third body) = RightSteps steps × Whole test.ty × RightCode third × RightCode body
-    RightCode (repeat line body steps test) = RightSteps steps × Whole test.ty × RightCode body
+    RightCode (loop line steps (Some test) third body) = RightSteps steps × RightCode third × RightCode body
+    RightCode (repeat line body steps test) = RightSteps steps × RightCode body
     RightCode (break line) = Unit {0}
     RightCode (continue line) = Unit {0}
 
@@ -142,7 +132,7 @@ module _ (r : Rlang) (f : Routine) (n : ℕ) where
   pub record RightRoutine : Type 0 where
     pub parameters : f.parameters ≤ length f.locals
     pub body : RightCode f.body
-    pub result : (ty : Ty) → f.result ≡ Some ty → Whole ty × (0 < n)
+    pub result : (ty : Ty) → f.result ≡ Some ty → 0 < n
 
 -- Where a run meets its types: a load, a store and each part of an update and of a struct copy name the annotation that the cell has, where
 -- the null and bounds tests of its place pass, and a tested region or pointer is no number; and so inside each call.

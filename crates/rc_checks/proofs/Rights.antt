@@ -14,67 +14,20 @@ use Rattle.rc_core.specs.declared.stmt.Change.{Change}
 use Rattle.rc_core.specs.declared.stmt.Change.TheVariants.{Compute, Step as Stepping}
 use Rattle.rc_core.specs.Execution.{local_type}
 use Rattle.rc_core.specs.Programs.{Stmt, block, declare, assign, store, update, copy, evaluate, delete, branch, while, repeat, for, break, continue, return, Stmts, done, then, Expr, constant, null, string, local, read, address, step, step_from, unary, binary, convert, not_zero, and, or, choose, is_null, same, call, new_region, new_subregion, region_of, allocate, allocate_array, putchar, getchar, Arguments, none, more, Place, global, pointed, indexed, Path, here, field, element, Function, Program}
-use Rattle.rc_core.specs.Typing.{number, arithmetic, value_type, is_struct, is_reference, is_pointer, result_if, is_comparison, parameters_of, NotNull, is_null_word, HasType, AreArguments, IsPlace, LeadsTo, IsValue, Runs, Takes, IsTyped, AreTyped}
-use Rattle.rc_core.specs.WellTyped.{IsVariable, IsWellTyped}
+use Rattle.rc_core.specs.Typing.{number, arithmetic, value_type, is_struct, is_pointer, result_if, is_comparison, parameters_of, NotNull, HasType, AreArguments, IsPlace, LeadsTo, IsValue, Runs, Takes, IsTyped, AreTyped}
+use Rattle.rc_core.specs.WellTyped.{IsWellTyped}
 use Rattle.rc_rlang.specs.RegionCode as To
 use Rattle.rc_kinds.proofs.Executions.{taken_has}
 use Rattle.rc_rlang.specs.Variables.{end_temporaries}
-use Rattle.rc_rlang.specs.RegionCode.{Kind, numeric, regional, kind_of, Access, width, Operation, Step, Steps, both, one, Test, Routine, Rlang}
-use Rattle.rc_rlang.specs.RegionFlow.{one_of, is_regional}
+use Rattle.rc_rlang.specs.RegionCode.{numeric, kind_if, kind_of, Access, width, Operation, Step, Steps, both, one, Test, Routine, Rlang}
+use Rattle.rc_rlang.specs.RegionFlow.{is_regional}
 use Rattle.rc_translation.specs.Translation.{expression_type, pointer_type, index_type, signedness, parameter_types, argument_types, global_type, expression_code, arguments_code, place_code, path_code, path_access, access, whole, condition_code, condition_test, optional_condition, has_result, evaluate_code, returned_type, statement_code, body_code, routine_of, region_of_program}
 use Rattle.rc_translation.proofs.ValueKinds.{kind_arithmetic, kind_number, kind_reference, kind_pointer, kind_value}
-use Rattle.rc_translation.proofs.TypesFound.{types_are, kind_found, place_is, number_not_null, char_not_null}
+use Rattle.rc_translation.proofs.TypesFound.{kind_found, place_is, number_not_null, char_not_null}
 use Rattle.rc_annotations.specs.Heights.{temporaries_in, temporaries_of}
 use Rattle.rc_rlang.specs.RegionVariables.{step_temporaries, steps_temporaries, code_temporaries, codes_temporaries, routine_temporaries}
 use Rattle.rc_along.specs.RunLaws.{AllRight}
-use Rattle.rc_along.specs.Along.{Whole, AllWhole, CallRight, RightOperation, RightSteps, RightAct, RightCode, RightCodes, RightRoutine}
-
--- types that have a variable or none
-
-pub whole_type : (t : Ty) → IsTrue (not (is_struct t)) → Whole t
-whole_type int h = refl
-whole_type unsigned h = refl
-whole_type char h = refl
-whole_type region h = refl
-whole_type (struct k) h = cc
-whole_type (pointer note target) h = refl
-
-pub whole_value : (t : Ty) → Whole t → Whole (value_type t)
-whole_value int h = refl
-whole_value unsigned h = refl
-whole_value char h = refl
-whole_value region h = refl
-whole_value (struct k) h = h
-whole_value (pointer note target) h = refl
-
-pub whole_arithmetic : (s : Signedness) → Whole (arithmetic s)
-whole_arithmetic Signed = refl
-whole_arithmetic Wrapping = refl
-
-pub whole_number : (k : NumberType) → Whole (number k)
-whole_number Int = refl
-whole_number Unsigned = refl
-whole_number Char = refl
-
-pub whole_reference : (t : Ty) → IsTrue (is_reference t) → Whole t
-whole_reference int h = cc
-whole_reference unsigned h = cc
-whole_reference char h = cc
-whole_reference region h = refl
-whole_reference (struct k) h = cc
-whole_reference (pointer note target) h = refl
-
-pub whole_pointer : (t : Ty) → IsTrue (is_pointer t) → Whole t
-whole_pointer int h = cc
-whole_pointer unsigned h = cc
-whole_pointer char h = cc
-whole_pointer region h = cc
-whole_pointer (struct k) h = cc
-whole_pointer (pointer note target) h = refl
-
-whole_result : (b : Bool) (s : Signedness) → Whole (result_if b s)
-whole_result true s = refl
-whole_result false s = whole_arithmetic s
+use Rattle.rc_along.specs.Along.{CallRight, RightOperation, RightSteps, RightAct, RightCode, RightCodes, RightRoutine}
 
 kind_result : (b : Bool) (s : Signedness) → kind_of (result_if b s) ≡ numeric
 kind_result true s = refl
@@ -88,11 +41,11 @@ regional_value region = refl
 regional_value (struct k) = refl
 regional_value (pointer note target) = refl
 
--- whole types of one kind both have a variable or none
-pub regional_same : (t u : Ty) → Whole t → Whole u → kind_of t ≡ kind_of u → is_regional t ≡ is_regional u
-regional_same t u wt wu e = by (is_regional t) (is_regional u) (sym wt ∙ e ∙ wu)
+-- types of one kind both have a variable or none
+pub regional_same : (t u : Ty) → kind_of t ≡ kind_of u → is_regional t ≡ is_regional u
+regional_same t u e = by (is_regional t) (is_regional u) e
   where
-    by : (a b : Bool) → one_of a regional numeric ≡ one_of b regional numeric → a ≡ b
+    by : (a b : Bool) → kind_if a ≡ kind_if b → a ≡ b
     by true true e = refl
     by true false e = cc
     by false true e = cc
@@ -155,60 +108,14 @@ module _ (program : Program) (well : IsWellTyped program) (g : ℕ) (f : Functio
   right_first : (line h : ℕ) (ty : Ty) (op : Operation) → steps_temporaries (one (To.set line h ty op)) ≤ n → RightOperation r fr n h ty op → Right (one (To.set line h ty op)) (h < n)
   right_first line h ty op le right = right_one line h ty op (height_one line h ty op n le) right
 
-  right_fork : (a : Steps) (line h : ℕ) (test ty : Ty) (x y : Steps) → steps_temporaries (both a (one (To.fork line h test ty x y))) ≤ n → Whole test → Right a (h < n)
+  right_fork : (a : Steps) (line h : ℕ) (test ty : Ty) (x y : Steps) → steps_temporaries (both a (one (To.fork line h test ty x y))) ≤ n → Right a (h < n)
       → (steps_temporaries x ≤ n → Right x (h < n)) → (steps_temporaries y ≤ n → Right y (h < n)) → Right (both a (one (To.fork line h test ty x y))) (h < n)
-  right_fork a line h test ty x y le whole ra rx ry =
+  right_fork a line h test ty x y le ra rx ry =
       let own = (heights_both a (one (To.fork line h test ty x y)) n le).1 in
       let parts = max_parts (max (suc h) (max (steps_temporaries x) (steps_temporaries y))) 0 n own in
       let inner = max_parts (suc h) (max (steps_temporaries x) (steps_temporaries y)) n parts.0 in
       let arms = max_parts (steps_temporaries x) (steps_temporaries y) n inner.1 in
-      right_both a (one (To.fork line h test ty x y)) (h < n) (h < n) ra (λ p. record { steps = ((p, whole, (rx arms.0).steps, (ry arms.1).steps), tt); after = p })
-
-  not_struct : (k : ℕ) (h : Function) → slice_get program.functions k ≡ Some h → (x : ℕ) (t : Ty) → slice_get h.locals x ≡ Some t → Whole t
-  not_struct k h e x t q = whole_type t ((well.functions k h e).locals x t q).1
-
-  result_whole : (o : Option Ty) (t : Ty) → IfSome o (IsVariable program.structs) → option_map value_type o ≡ Some t → Whole t
-  result_whole None t v e = cc
-  result_whole (Some u) t v e = let q : value_type u ≡ t = cc in subst Whole q (whole_value u (whole_type u v.1))
-
-  typed_whole : (e : Expr) (t : Ty) → HasType program locals e t → Whole t
-  typed_whole (constant line s k) t h = subst Whole (sym h.0) (whole_arithmetic s)
-  typed_whole (null line) t h = whole_reference t h.0
-  typed_whole (string line k) t h = subst Whole (sym h.0) refl
-  typed_whole (local line x) t h = subst Whole (sym h.1.1) (whole_value h.0 (not_struct g f there x h.0 h.1.0))
-  typed_whole (read line place) t h = subst Whole (sym h.1.2) (whole_value h.0 (whole_type h.0 h.1.1))
-  typed_whole (address line k) t h = subst Whole (sym h.1.1) refl
-  typed_whole (step line direction p i) t h = whole_pointer t h.0
-  typed_whole (step_from line i p) t h = whole_pointer t h.0
-  typed_whole (unary line operator s e) t h = subst Whole (sym h.0) (whole_arithmetic s)
-  typed_whole (binary line operator s a b) t h = subst Whole (sym h.0) (whole_result (is_comparison operator) s)
-  typed_whole (convert line from to e) t h = subst Whole (sym h.0) (whole_number to)
-  typed_whole (not_zero line e) t h = subst Whole (sym h.0) refl
-  typed_whole (and line a b) t h = subst Whole (sym h.0) refl
-  typed_whole (or line a b) t h = subst Whole (sym h.0) refl
-  typed_whole (choose line test a b) t h = subst Whole (sym h.2.1) (whole_arithmetic h.2.0)
-  typed_whole (is_null line wanted e) t h = subst Whole (sym h.0) refl
-  typed_whole (same line wanted a b) t h = subst Whole (sym h.0) refl
-  typed_whole (call line k arguments) t h = result_whole h.0.result t (well.functions k h.0 h.1.0).result h.1.1
-  typed_whole (new_region line) t h = subst Whole (sym h) refl
-  typed_whole (new_subregion line e) t h = subst Whole (sym h.0) refl
-  typed_whole (region_of line e) t h = subst Whole (sym h.0) refl
-  typed_whole (allocate line e u) t h = subst Whole (sym h.0) refl
-  typed_whole (allocate_array line e k u) t h = subst Whole (sym h.0) refl
-  typed_whole (putchar line e) t h = subst Whole (sym h.0) refl
-  typed_whole (getchar line) t h = subst Whole (sym h) refl
-
-  -- the type that is found for a value
-  found_whole : (e : Expr) (t : Ty) → HasType program locals e t → Whole (expression_type program locals e)
-  found_whole e t h = by (is_null_word e) refl
-    where
-      null_type : (e : Expr) → is_null_word e ≡ true → Whole (expression_type program locals e)
-      null_type (null line) q = refl
-      null_type _ q = cc
-
-      by : (b : Bool) → is_null_word e ≡ b → Whole (expression_type program locals e)
-      by true q = null_type e q
-      by false q = subst Whole (sym (types_are program locals e t (ap not q) h)) (typed_whole e t h)
+      right_both a (one (To.fork line h test ty x y)) (h < n) (h < n) ra (λ p. record { steps = ((p, (rx arms.0).steps, (ry arms.1).steps), tt); after = p })
 
   abbrev code : Expr → Ty → ℕ → Steps
   code e ty h = expression_code program locals e ty h
@@ -227,26 +134,19 @@ module _ (program : Program) (well : IsWellTyped program) (g : ℕ) (f : Functio
   types_in None = []
   types_in (Some h) = parameters_of h
 
-  all_whole : (m : ℕ) (tys : List Ty) → ((x : ℕ) (t : Ty) → slice_get tys x ≡ Some t → Whole t) → AllWhole (take m tys)
-  all_whole zero tys k = tt
-  all_whole (suc m) [] k = tt
-  all_whole (suc m) (ty ∷ tys) k = (k 0 ty refl, all_whole m tys (λ x t e. k (suc x) t e))
-
   take_length : (m : ℕ) (tys : List Ty) → m ≤ length tys → length (take m tys) ≡ m
   take_length zero tys le = refl
   take_length (suc m) [] le = absurd (omega (arith, le))
   take_length (suc m) (ty ∷ tys) le = ap suc (take_length m tys (omega (arith, le)))
 
   -- a call of a function with these parameters
-  pub call_right : (h : ℕ) (ty t : Ty) (k : ℕ) (callee : Function) → slice_get program.functions k ≡ Some callee → Whole ty → (is_regional ty ≡ true → (u : Ty) × (callee.result ≡ Some u) × (is_regional u ≡ true)) → h + length (parameters_of callee) ≤ n → CallRight r fr n h ty k (parameters_of callee)
-  call_right h ty t k callee e whole gives room = record {
+  pub call_right : (h : ℕ) (ty t : Ty) (k : ℕ) (callee : Function) → slice_get program.functions k ≡ Some callee → (is_regional ty ≡ true → (u : Ty) × (callee.result ≡ Some u) × (is_regional u ≡ true)) → h + length (parameters_of callee) ≤ n → CallRight r fr n h ty k (parameters_of callee)
+  call_right h ty t k callee e gives room = record {
     callee = routine_of program callee;
     found = slice_get-map (routine_of program) program.functions k ∙ ap (option_map (routine_of program)) e;
     parameters = refl;
-    wholes = all_whole callee.parameters callee.locals (not_struct k callee e);
     room = room;
     count = take_length callee.parameters callee.locals (well.functions k callee e).parameters;
-    result = whole;
     gives_back = gives;
   }
 
@@ -255,89 +155,86 @@ module _ (program : Program) (well : IsWellTyped program) (g : ℕ) (f : Functio
   gives_of (Some u) t ty e q b = let s : value_type u ≡ t = cc in (u, refl, sym (regional_value u) ∙ ap is_regional s ∙ sym q ∙ b)
 
   abbrev Does : Expr → Type 0
-  Does e = (t : Ty) → HasType program locals e t → (ty : Ty) (h : ℕ) → kind_of ty ≡ kind_of t → Whole ty → steps_temporaries (code e ty h) ≤ n → Right (code e ty h) (h < n)
+  Does e = (t : Ty) → HasType program locals e t → (ty : Ty) (h : ℕ) → kind_of ty ≡ kind_of t → steps_temporaries (code e ty h) ≤ n → Right (code e ty h) (h < n)
 
   -- an operand and an operation
-  right_operand : (e : Expr) → Does e → (u own : Ty) (line h : ℕ) (ty : Ty) (op : Operation) → HasType program locals e u → kind_of own ≡ kind_of u → Whole own → steps_temporaries (both (code e own h) (one (To.set line h ty op))) ≤ n
+  right_operand : (e : Expr) → Does e → (u own : Ty) (line h : ℕ) (ty : Ty) (op : Operation) → HasType program locals e u → kind_of own ≡ kind_of u → steps_temporaries (both (code e own h) (one (To.set line h ty op))) ≤ n
       → RightOperation r fr n h ty op → Right (both (code e own h) (one (To.set line h ty op))) (h < n)
-  right_operand e does u own line h ty op he hk hw le right =
-      right_set (code e own h) line h ty op (h < n) le (does u he own h hk hw (heights_both (code e own h) (one (To.set line h ty op)) n le).0) (λ p. right)
+  right_operand e does u own line h ty op he hk le right =
+      right_set (code e own h) line h ty op (h < n) le (does u he own h hk (heights_both (code e own h) (one (To.set line h ty op)) n le).0) (λ p. right)
 
-  right_two : (a b : Expr) → Does a → Does b → (u v own other : Ty) (line h : ℕ) (ty : Ty) (op : Operation) → HasType program locals a u → HasType program locals b v → kind_of own ≡ kind_of u → kind_of other ≡ kind_of v → Whole own → Whole other
+  right_two : (a b : Expr) → Does a → Does b → (u v own other : Ty) (line h : ℕ) (ty : Ty) (op : Operation) → HasType program locals a u → HasType program locals b v → kind_of own ≡ kind_of u → kind_of other ≡ kind_of v
       → steps_temporaries (both (code a own h) (both (code b other (suc h)) (one (To.set line h ty op)))) ≤ n → (suc h < n → RightOperation r fr n h ty op) → Right (both (code a own h) (both (code b other (suc h)) (one (To.set line h ty op)))) (h < n)
-  right_two a b does_a does_b u v own other line h ty op ha hb ka kb wa wb le right =
+  right_two a b does_a does_b u v own other line h ty op ha hb ka kb le right =
       let last = one (To.set line h ty op) in
       let p = heights_both (code a own h) (both (code b other (suc h)) last) n le in
       let q = heights_both (code b other (suc h)) last n p.1 in
-      right_both (code a own h) (both (code b other (suc h)) last) (h < n) (h < n) (does_a u ha own h ka wa p.0) (λ first.
-      right_both (code b other (suc h)) last (suc h < n) (h < n) (does_b v hb other (suc h) kb wb q.0) (λ second. right_one line h ty op first (right second)))
+      right_both (code a own h) (both (code b other (suc h)) last) (h < n) (h < n) (does_a u ha own h ka p.0) (λ first.
+      right_both (code b other (suc h)) last (suc h < n) (h < n) (does_b v hb other (suc h) kb q.0) (λ second. right_one line h ty op first (right second)))
 
   index_kind : (i : Expr) (s : Signedness) → kind_of (index_type program locals i) ≡ kind_of (arithmetic s)
   index_kind i s = kind_arithmetic (signedness program locals (found i)) ∙ sym (kind_arithmetic s)
 
-  index_whole : (i : Expr) → Whole (index_type program locals i)
-  index_whole i = whole_arithmetic (signedness program locals (found i))
-
   right_index : (i : Expr) → Does i → (s : Signedness) → HasType program locals i (arithmetic s) → (h : ℕ) → steps_temporaries (code i (index_type program locals i) h) ≤ n → Right (code i (index_type program locals i) h) (h < n)
-  right_index i does s hi h le = does (arithmetic s) hi (index_type program locals i) h (index_kind i s) (index_whole i) le
+  right_index i does s hi h le = does (arithmetic s) hi (index_type program locals i) h (index_kind i s) le
 
   right_behind : (a x : Steps) (h : ℕ) → Right a (h < n) → RightSteps r fr n x → Right (both a x) (h < n)
   right_behind a x h ra rx = right_both a x (h < n) (h < n) ra (λ p. record { steps = rx; after = p })
 
   mutual
-    pub right_expression : (e : Expr) (t : Ty) → HasType program locals e t → (ty : Ty) (h : ℕ) → kind_of ty ≡ kind_of t → Whole ty → steps_temporaries (code e ty h) ≤ n → Right (code e ty h) (h < n)
-    right_expression (constant line s k) t he ty h hk hw le = right_first line h ty (To.constant s k) le (hk ∙ ap kind_of he.0 ∙ kind_arithmetic s)
-    right_expression (null line) t he ty h hk hw le = right_first line h ty To.null le (hk ∙ kind_reference t he.0)
-    right_expression (string line k) t he ty h hk hw le = right_first line h ty (To.static (length program.globals + k)) le (hk ∙ ap kind_of he.0)
-    right_expression (local line x) t he ty h hk hw le =
-        right_first line h ty (To.copy x) le (hw, mapped_at locals x he.0 he.1.0 ∙ sym (regional_same ty he.0 hw (not_struct g f there x he.0 he.1.0) (hk ∙ ap kind_of he.1.1 ∙ kind_value he.0)))
-    right_expression (read line place) t he ty h hk hw le =
+    pub right_expression : (e : Expr) (t : Ty) → HasType program locals e t → (ty : Ty) (h : ℕ) → kind_of ty ≡ kind_of t → steps_temporaries (code e ty h) ≤ n → Right (code e ty h) (h < n)
+    right_expression (constant line s k) t he ty h hk le = right_first line h ty (To.constant s k) le (hk ∙ ap kind_of he.0 ∙ kind_arithmetic s)
+    right_expression (null line) t he ty h hk le = right_first line h ty To.null le (hk ∙ kind_reference t he.0)
+    right_expression (string line k) t he ty h hk le = right_first line h ty (To.static (length program.globals + k)) le (hk ∙ ap kind_of he.0)
+    right_expression (local line x) t he ty h hk le =
+        right_first line h ty (To.copy x) le (mapped_at locals x he.0 he.1.0 ∙ sym (regional_same ty he.0 (hk ∙ ap kind_of he.1.1 ∙ kind_value he.0)))
+    right_expression (read line place) t he ty h hk le =
         right_set (place_code program locals line place h) line h ty (To.load (access program locals place)) (h < n) le
         (right_place line place he.0 he.1.0 h (heights_both (place_code program locals line place h) (one (To.set line h ty (To.load (access program locals place)))) n le).0)
-        (λ below. hw)
-    right_expression (address line k) t he ty h hk hw le = right_first line h ty (To.static k) le (hk ∙ ap kind_of he.1.1)
-    right_expression (step line direction p i) t he ty h hk hw le =
-        right_two p i (right_expression p) (right_expression i) t (arithmetic he.3.0) (pointer_type program locals p) (index_type program locals i) line h ty (To.step direction (pointer_type program locals p) (index_type program locals i)) he.2 he.3.1 (sym (kind_pointer t he.0)) (index_kind i he.3.0) refl (index_whole i) le
+        (λ below. tt)
+    right_expression (address line k) t he ty h hk le = right_first line h ty (To.static k) le (hk ∙ ap kind_of he.1.1)
+    right_expression (step line direction p i) t he ty h hk le =
+        right_two p i (right_expression p) (right_expression i) t (arithmetic he.3.0) (pointer_type program locals p) (index_type program locals i) line h ty (To.step direction (pointer_type program locals p) (index_type program locals i)) he.2 he.3.1 (sym (kind_pointer t he.0)) (index_kind i he.3.0) le
         (λ second. (hk ∙ kind_pointer t he.0, refl))
-    right_expression (step_from line i p) t he ty h hk hw le =
-        right_two i p (right_expression i) (right_expression p) (arithmetic he.3.0) t (index_type program locals i) (pointer_type program locals p) line h ty (To.step_from (index_type program locals i) (pointer_type program locals p)) he.3.1 he.2 (index_kind i he.3.0) (sym (kind_pointer t he.0)) (index_whole i) refl le
+    right_expression (step_from line i p) t he ty h hk le =
+        right_two i p (right_expression i) (right_expression p) (arithmetic he.3.0) t (index_type program locals i) (pointer_type program locals p) line h ty (To.step_from (index_type program locals i) (pointer_type program locals p)) he.3.1 he.2 (index_kind i he.3.0) (sym (kind_pointer t he.0)) le
         (λ second. (hk ∙ kind_pointer t he.0, refl, second))
-    right_expression (unary line Negate s e) t he ty h hk hw le =
-        right_operand e (right_expression e) (arithmetic s) (arithmetic s) line h ty (To.unary Negate s) he.1 refl (whole_arithmetic s) le (hk ∙ ap kind_of he.0 ∙ kind_arithmetic s)
-    right_expression (unary line Plus s e) t he ty h hk hw le = right_expression e (arithmetic s) he.1 ty h (hk ∙ ap kind_of he.0) hw le
-    right_expression (unary line Complement s e) t he ty h hk hw le =
-        right_operand e (right_expression e) (arithmetic s) (arithmetic s) line h ty (To.unary Complement s) he.1 refl (whole_arithmetic s) le (hk ∙ ap kind_of he.0 ∙ kind_arithmetic s)
-    right_expression (binary line operator s a b) t he ty h hk hw le =
-        right_two a b (right_expression a) (right_expression b) (arithmetic s) (arithmetic he.2.0) (arithmetic s) (found b) line h ty (To.binary operator s (found b)) he.1 he.2.1.1 refl (kind_found program locals b (arithmetic he.2.0) he.2.1.1) (whole_arithmetic s) (found_whole b (arithmetic he.2.0) he.2.1.1) le
+    right_expression (unary line Negate s e) t he ty h hk le =
+        right_operand e (right_expression e) (arithmetic s) (arithmetic s) line h ty (To.unary Negate s) he.1 refl le (hk ∙ ap kind_of he.0 ∙ kind_arithmetic s)
+    right_expression (unary line Plus s e) t he ty h hk le = right_expression e (arithmetic s) he.1 ty h (hk ∙ ap kind_of he.0) le
+    right_expression (unary line Complement s e) t he ty h hk le =
+        right_operand e (right_expression e) (arithmetic s) (arithmetic s) line h ty (To.unary Complement s) he.1 refl le (hk ∙ ap kind_of he.0 ∙ kind_arithmetic s)
+    right_expression (binary line operator s a b) t he ty h hk le =
+        right_two a b (right_expression a) (right_expression b) (arithmetic s) (arithmetic he.2.0) (arithmetic s) (found b) line h ty (To.binary operator s (found b)) he.1 he.2.1.1 refl (kind_found program locals b (arithmetic he.2.0) he.2.1.1) le
         (λ second. hk ∙ ap kind_of he.0 ∙ kind_result (is_comparison operator) s)
-    right_expression (convert line from to e) t he ty h hk hw le =
-        right_operand e (right_expression e) (number from) (number from) line h ty (To.convert from to) he.2 refl (whole_number from) le (hk ∙ ap kind_of he.0 ∙ kind_number to)
-    right_expression (not_zero line e) t he ty h hk hw le =
-        right_operand e (right_expression e) (number he.1.0) (found e) line h ty (To.not_zero (found e)) he.1.1 (kind_found program locals e (number he.1.0) he.1.1) (found_whole e (number he.1.0) he.1.1) le (hk ∙ ap kind_of he.0)
-    right_expression (and line a b) t he ty h hk hw le =
+    right_expression (convert line from to e) t he ty h hk le =
+        right_operand e (right_expression e) (number from) (number from) line h ty (To.convert from to) he.2 refl le (hk ∙ ap kind_of he.0 ∙ kind_number to)
+    right_expression (not_zero line e) t he ty h hk le =
+        right_operand e (right_expression e) (number he.1.0) (found e) line h ty (To.not_zero (found e)) he.1.1 (kind_found program locals e (number he.1.0) he.1.1) le (hk ∙ ap kind_of he.0)
+    right_expression (and line a b) t he ty h hk le =
         let x = both (code b (found b) h) (one (To.set line h ty (To.truth (found b)))) in
         let y = one (To.set line h ty (To.constant Signed (pos 0))) in
-        right_fork (code a (found a) h) line h (found a) ty x y le (found_whole a he.3.0 he.3.1)
-        (right_expression a he.3.0 he.3.1 (found a) h (kind_found program locals a he.3.0 he.3.1) (found_whole a he.3.0 he.3.1) (heights_both (code a (found a) h) (one (To.fork line h (found a) ty x y)) n le).0)
-        (λ lx. right_operand b (right_expression b) he.4.0 (found b) line h ty (To.truth (found b)) he.4.1 (kind_found program locals b he.4.0 he.4.1) (found_whole b he.4.0 he.4.1) lx (hk ∙ ap kind_of he.0))
+        right_fork (code a (found a) h) line h (found a) ty x y le
+        (right_expression a he.3.0 he.3.1 (found a) h (kind_found program locals a he.3.0 he.3.1) (heights_both (code a (found a) h) (one (To.fork line h (found a) ty x y)) n le).0)
+        (λ lx. right_operand b (right_expression b) he.4.0 (found b) line h ty (To.truth (found b)) he.4.1 (kind_found program locals b he.4.0 he.4.1) lx (hk ∙ ap kind_of he.0))
         (λ ly. right_first line h ty (To.constant Signed (pos 0)) ly (hk ∙ ap kind_of he.0))
-    right_expression (or line a b) t he ty h hk hw le =
+    right_expression (or line a b) t he ty h hk le =
         let x = one (To.set line h ty (To.constant Signed (pos 1))) in
         let y = both (code b (found b) h) (one (To.set line h ty (To.truth (found b)))) in
-        right_fork (code a (found a) h) line h (found a) ty x y le (found_whole a he.3.0 he.3.1)
-        (right_expression a he.3.0 he.3.1 (found a) h (kind_found program locals a he.3.0 he.3.1) (found_whole a he.3.0 he.3.1) (heights_both (code a (found a) h) (one (To.fork line h (found a) ty x y)) n le).0)
+        right_fork (code a (found a) h) line h (found a) ty x y le
+        (right_expression a he.3.0 he.3.1 (found a) h (kind_found program locals a he.3.0 he.3.1) (heights_both (code a (found a) h) (one (To.fork line h (found a) ty x y)) n le).0)
         (λ lx. right_first line h ty (To.constant Signed (pos 1)) lx (hk ∙ ap kind_of he.0))
-        (λ ly. right_operand b (right_expression b) he.4.0 (found b) line h ty (To.truth (found b)) he.4.1 (kind_found program locals b he.4.0 he.4.1) (found_whole b he.4.0 he.4.1) ly (hk ∙ ap kind_of he.0))
-    right_expression (choose line test a b) t he ty h hk hw le =
-        right_fork (code test (found test) h) line h (found test) ty (code a ty h) (code b ty h) le (found_whole test he.1.0 he.1.1)
-        (right_expression test he.1.0 he.1.1 (found test) h (kind_found program locals test he.1.0 he.1.1) (found_whole test he.1.0 he.1.1) (heights_both (code test (found test) h) (one (To.fork line h (found test) ty (code a ty h) (code b ty h))) n le).0)
-        (λ lx. right_expression a t he.3 ty h hk hw lx)
-        (λ ly. right_expression b t he.4 ty h hk hw ly)
-    right_expression (is_null line wanted e) t he ty h hk hw le =
-        right_operand e (right_expression e) he.2.0 (found e) line h ty (To.is_null wanted (found e)) he.2.1.1 (kind_found program locals e he.2.0 he.2.1.1) (found_whole e he.2.0 he.2.1.1) le (hk ∙ ap kind_of he.0)
-    right_expression (same line wanted a b) t he ty h hk hw le =
-        right_two a b (right_expression a) (right_expression b) he.3.0 he.3.0 (found a) (found a) line h ty (To.same wanted (found a)) he.3.1.1 he.3.1.2 (kind_found program locals a he.3.0 he.3.1.1) (kind_found program locals a he.3.0 he.3.1.1) (found_whole a he.3.0 he.3.1.1) (found_whole a he.3.0 he.3.1.1) le (λ second. hk ∙ ap kind_of he.0)
-    right_expression (call line k es) t he ty h hk hw le =
+        (λ ly. right_operand b (right_expression b) he.4.0 (found b) line h ty (To.truth (found b)) he.4.1 (kind_found program locals b he.4.0 he.4.1) ly (hk ∙ ap kind_of he.0))
+    right_expression (choose line test a b) t he ty h hk le =
+        right_fork (code test (found test) h) line h (found test) ty (code a ty h) (code b ty h) le
+        (right_expression test he.1.0 he.1.1 (found test) h (kind_found program locals test he.1.0 he.1.1) (heights_both (code test (found test) h) (one (To.fork line h (found test) ty (code a ty h) (code b ty h))) n le).0)
+        (λ lx. right_expression a t he.3 ty h hk lx)
+        (λ ly. right_expression b t he.4 ty h hk ly)
+    right_expression (is_null line wanted e) t he ty h hk le =
+        right_operand e (right_expression e) he.2.0 (found e) line h ty (To.is_null wanted (found e)) he.2.1.1 (kind_found program locals e he.2.0 he.2.1.1) le (hk ∙ ap kind_of he.0)
+    right_expression (same line wanted a b) t he ty h hk le =
+        right_two a b (right_expression a) (right_expression b) he.3.0 he.3.0 (found a) (found a) line h ty (To.same wanted (found a)) he.3.1.1 he.3.1.2 (kind_found program locals a he.3.0 he.3.1.1) (kind_found program locals a he.3.0 he.3.1.1) le (λ second. hk ∙ ap kind_of he.0)
+    right_expression (call line k es) t he ty h hk le =
         let tys : parameter_types program k ≡ parameters_of he.0 = ap types_in he.1.0 in
         let now = λ (ts us : List Ty). both (arguments_code program locals es ts h) (one (To.set line h ty (To.call k us))) in
         let us : argument_types program locals es (parameters_of he.0) ≡ parameters_of he.0 = arguments_same es (parameters_of he.0) he.1.2 in
@@ -348,16 +245,16 @@ module _ (program : Program) (well : IsWellTyped program) (g : ℕ) (f : Functio
         let lt = height_one line h ty (To.call k (parameters_of he.0)) n parts.1 in
         right_set (arguments_code program locals es (parameters_of he.0) h) line h ty (To.call k (parameters_of he.0)) (h + length (parameters_of he.0) ≤ n) le1
         (right_arguments es (parameters_of he.0) he.1.2 h (omega (arith, lt)) parts.0)
-        (λ room. call_right h ty t k he.0 he.1.0 hw (gives_of he.0.result t ty he.1.1 (regional_same ty t hw (typed_whole (call line k es) t he) hk)) room)))
-    right_expression (new_region line) t he ty h hk hw le = right_first line h ty To.new_region le (hk ∙ ap kind_of he)
-    right_expression (new_subregion line e) t he ty h hk hw le = right_operand e (right_expression e) region region line h ty To.new_subregion he.1 refl refl le (hk ∙ ap kind_of he.0)
-    right_expression (region_of line e) t he ty h hk hw le =
-        right_operand e (right_expression e) he.2.0 (found e) line h ty (To.region_of (found e)) he.2.1.1 (kind_found program locals e he.2.0 he.2.1.1) (found_whole e he.2.0 he.2.1.1) le (hk ∙ ap kind_of he.0, kind_found program locals e he.2.0 he.2.1.1 ∙ kind_pointer he.2.0 he.2.1.0)
-    right_expression (allocate line e u) t he ty h hk hw le = right_operand e (right_expression e) region region line h ty (To.allocate u (cells program.structs u)) he.2 refl refl le (hk ∙ ap kind_of he.0)
-    right_expression (allocate_array line e k u) t he ty h hk hw le =
-        right_two e k (right_expression e) (right_expression k) region int region int line h ty (To.allocate_array u (cells program.structs u)) he.2 he.3 refl refl refl refl le (λ second. hk ∙ ap kind_of he.0)
-    right_expression (putchar line e) t he ty h hk hw le = right_operand e (right_expression e) int int line h ty To.putchar he.1 refl refl le (hk ∙ ap kind_of he.0)
-    right_expression (getchar line) t he ty h hk hw le = right_first line h ty To.getchar le (hk ∙ ap kind_of he)
+        (λ room. call_right h ty t k he.0 he.1.0 (gives_of he.0.result t ty he.1.1 (regional_same ty t hk)) room)))
+    right_expression (new_region line) t he ty h hk le = right_first line h ty To.new_region le (hk ∙ ap kind_of he)
+    right_expression (new_subregion line e) t he ty h hk le = right_operand e (right_expression e) region region line h ty To.new_subregion he.1 refl le (hk ∙ ap kind_of he.0)
+    right_expression (region_of line e) t he ty h hk le =
+        right_operand e (right_expression e) he.2.0 (found e) line h ty (To.region_of (found e)) he.2.1.1 (kind_found program locals e he.2.0 he.2.1.1) le (hk ∙ ap kind_of he.0, kind_found program locals e he.2.0 he.2.1.1 ∙ kind_pointer he.2.0 he.2.1.0)
+    right_expression (allocate line e u) t he ty h hk le = right_operand e (right_expression e) region region line h ty (To.allocate u (cells program.structs u)) he.2 refl le (hk ∙ ap kind_of he.0)
+    right_expression (allocate_array line e k u) t he ty h hk le =
+        right_two e k (right_expression e) (right_expression k) region int region int line h ty (To.allocate_array u (cells program.structs u)) he.2 he.3 refl refl le (λ second. hk ∙ ap kind_of he.0)
+    right_expression (putchar line e) t he ty h hk le = right_operand e (right_expression e) int int line h ty To.putchar he.1 refl le (hk ∙ ap kind_of he.0)
+    right_expression (getchar line) t he ty h hk le = right_first line h ty To.getchar le (hk ∙ ap kind_of he)
 
     pub right_arguments : (es : Arguments) (tys : List Ty) → AreArguments program locals es tys → (h : ℕ) → h ≤ n → steps_temporaries (arguments_code program locals es tys h) ≤ n → Right (arguments_code program locals es tys h) (h + length tys ≤ n)
     right_arguments none [] ha h lh le = record { steps = tt; after = omega (arith, lh) }
@@ -366,7 +263,7 @@ module _ (program : Program) (well : IsWellTyped program) (g : ℕ) (f : Functio
     right_arguments (more e es) (ty ∷ tys) ha h lh le =
         let own = value_type ty in
         let parts = heights_both (code e own h) (arguments_code program locals es tys (suc h)) n le in
-        right_both (code e own h) (arguments_code program locals es tys (suc h)) (h < n) (h + length (ty ∷ tys) ≤ n) (right_expression e own ha.0 own h refl (typed_whole e own ha.0) parts.0) (λ lt.
+        right_both (code e own h) (arguments_code program locals es tys (suc h)) (h < n) (h + length (ty ∷ tys) ≤ n) (right_expression e own ha.0 own h refl parts.0) (λ lt.
         let q = right_arguments es tys ha.1 (suc h) (omega (arith, lt)) parts.1 in
         record { steps = q.steps; after = let room = q.after in omega (arith, room) })
 
@@ -378,14 +275,14 @@ module _ (program : Program) (well : IsWellTyped program) (g : ℕ) (f : Functio
     right_place line (pointed p path) t hp h le =
         let pt = pointer_type program locals p in
         let parts = heights_both (code p pt h) (path_code program locals path (suc h)) n le in
-        right_behind (code p pt h) (path_code program locals path (suc h)) h (right_expression p (pointer Plain hp.1.0) hp.1.1.0 pt h refl refl parts.0) (right_path path hp.1.0 t hp.1.1.1 (suc h) parts.1)
+        right_behind (code p pt h) (path_code program locals path (suc h)) h (right_expression p (pointer Plain hp.1.0) hp.1.1.0 pt h refl parts.0) (right_path path hp.1.0 t hp.1.1.1 (suc h) parts.1)
     right_place line (indexed p i path) t hp h le =
         let pt = pointer_type program locals p in
         let it = index_type program locals i in
         let rest = path_code program locals path (suc (suc h)) in
         let a = heights_both (code p pt h) (both (code i it (suc h)) rest) n le in
         let b = heights_both (code i it (suc h)) rest n a.1 in
-        right_behind (code p pt h) (both (code i it (suc h)) rest) h (right_expression p (pointer Plain hp.1.0) hp.1.1.0 pt h refl refl a.0)
+        right_behind (code p pt h) (both (code i it (suc h)) rest) h (right_expression p (pointer Plain hp.1.0) hp.1.1.0 pt h refl a.0)
         (right_behind (code i it (suc h)) rest (suc h) (right_index i (right_expression i) hp.1.1.1.0 hp.1.1.1.1 (suc h) b.0) (right_path path hp.1.0 t hp.1.1.2 (suc (suc h)) b.1)).steps
 
     right_path : (path : Path) (u t : Ty) → LeadsTo program locals path u t → (h : ℕ) → steps_temporaries (path_code program locals path h) ≤ n → RightSteps r fr n (path_code program locals path h)
@@ -404,27 +301,24 @@ module _ (program : Program) (well : IsWellTyped program) (g : ℕ) (f : Functio
   right_simple : (x : Steps) (act : To.Act) (P : Type 0) → Right x P → (P → RightAct r fr n act) → CodeIs (To.simple x act)
   right_simple x act P ra k = (ra.steps, k ra.after)
 
-  local_whole : (x : ℕ) (t : Ty) → slice_get locals x ≡ Some t → Whole t
-  local_whole x t e = not_struct g f there x t e
-
   right_assign : (line x : ℕ) (t ty : Ty) (e : Expr) → slice_get locals x ≡ Some t → ty ≡ t → HasType program locals e (value_type t) → code_temporaries (To.simple (code e (value_type ty) 0) (To.assign line x ty)) ≤ n → CodeIs (To.simple (code e (value_type ty) 0) (To.assign line x ty))
   right_assign line x t ty e at alike he le =
       subst (λ u. code_temporaries (To.simple (code e (value_type u) 0) (To.assign line x u)) ≤ n → CodeIs (To.simple (code e (value_type u) 0) (To.assign line x u))) (sym alike)
       (λ le1.
-      right_simple (code e (value_type t) 0) (To.assign line x t) (0 < n) (right_expression e (value_type t) he (value_type t) 0 refl (whole_value t (local_whole x t at)) (max_parts (steps_temporaries (code e (value_type t) 0)) 0 n le1).0)
-      (λ lt. (local_whole x t at, mapped_at locals x t at, lt))) le
+      right_simple (code e (value_type t) 0) (To.assign line x t) (0 < n) (right_expression e (value_type t) he (value_type t) 0 refl (max_parts (steps_temporaries (code e (value_type t) 0)) 0 n le1).0)
+      (λ lt. (mapped_at locals x t at, lt))) le
 
   record PlaceThen (k : ℕ) : Type 0 where
     first : 0 < n
     below : k < n
 
-  right_place_then : (line : ℕ) (place : Place) (pt : Ty) → IsPlace program locals place pt → (e : Expr) (v own : Ty) → HasType program locals e v → kind_of own ≡ kind_of v → Whole own
+  right_place_then : (line : ℕ) (place : Place) (pt : Ty) → IsPlace program locals place pt → (e : Expr) (v own : Ty) → HasType program locals e v → kind_of own ≡ kind_of v
       → let a = access program locals place in steps_temporaries (both (place_code program locals line place 0) (code e own (width a))) ≤ n → Right (both (place_code program locals line place 0) (code e own (width a))) (PlaceThen (width a))
-  right_place_then line place pt hp e v own he hk hw le =
+  right_place_then line place pt hp e v own he hk le =
       let a = access program locals place in
       let parts = heights_both (place_code program locals line place 0) (code e own (width a)) n le in
       right_both (place_code program locals line place 0) (code e own (width a)) (0 < n) (PlaceThen (width a)) (right_place line place pt hp 0 parts.0) (λ first.
-      let q = right_expression e v he own (width a) hk hw parts.1 in
+      let q = right_expression e v he own (width a) hk parts.1 in
       record { steps = q.steps; after = record { first = first; below = q.after } })
 
   path_cell : (path : Path) (a : Access) → (path_access program locals path a).cell ≡ a.cell
@@ -441,10 +335,9 @@ module _ (program : Program) (well : IsWellTyped program) (g : ℕ) (f : Functio
   right_store line place pt hp h e he le =
       let a = access program locals place in
       let x = both (place_code program locals line place 0) (code e (value_type a.cell) (width a)) in
-      let whole : Whole a.cell = subst Whole (sym (cell_is place pt hp)) (whole_type pt h) in
       right_simple x (To.store line a) (PlaceThen (width a))
-      (right_place_then line place pt hp e (value_type pt) (value_type a.cell) he (ap (λ c. kind_of (value_type c)) (cell_is place pt hp)) (whole_value a.cell whole) (max_parts (steps_temporaries x) 0 n le).0)
-      (λ p. (whole, p.first, p.below))
+      (right_place_then line place pt hp e (value_type pt) (value_type a.cell) he (ap (λ c. kind_of (value_type c)) (cell_is place pt hp)) (max_parts (steps_temporaries x) 0 n le).0)
+      (λ p. (p.first, p.below))
 
   pointer_regional : (t : Ty) → IsTrue (is_pointer t) → is_regional t ≡ true
   pointer_regional int h = cc
@@ -460,7 +353,7 @@ module _ (program : Program) (well : IsWellTyped program) (g : ℕ) (f : Functio
       let x = both (place_code program locals line place 0) (code e (found e) (width a)) in
       let has = taken_has program f pt change e takes in
       let parts = max_parts (steps_temporaries x) (suc (suc (width a))) n le in
-      right_simple x (To.update line a change (found e)) (PlaceThen (width a)) (right_place_then line place pt hp e has.0 (found e) has.1 (kind_found program locals e has.0 has.1) (found_whole e has.0 has.1) parts.0) (λ p. act change takes parts.1 p.first)
+      right_simple x (To.update line a change (found e)) (PlaceThen (width a)) (right_place_then line place pt hp e has.0 (found e) has.1 (kind_found program locals e has.0 has.1) parts.0) (λ p. act change takes parts.1 p.first)
     where
       act : (change : Change) → Takes program locals pt change e → suc (suc (width (access program locals place))) ≤ n → 0 < n → RightAct r fr n (To.update line (access program locals place) change (found e))
       act (Compute from operator s) takes room first = first
@@ -478,7 +371,7 @@ module _ (program : Program) (well : IsWellTyped program) (g : ℕ) (f : Functio
 
   right_dropped : (e : Expr) (u : Ty) → HasType program locals e u → code_temporaries (To.simple (code e (found e) 0) To.drop) ≤ n → CodeIs (To.simple (code e (found e) 0) To.drop)
   right_dropped e u he le =
-      right_simple (code e (found e) 0) To.drop (0 < n) (right_expression e u he (found e) 0 (kind_found program locals e u he) (found_whole e u he) (max_parts (steps_temporaries (code e (found e) 0)) 0 n le).0) (λ lt. tt)
+      right_simple (code e (found e) 0) To.drop (0 < n) (right_expression e u he (found e) 0 (kind_found program locals e u he) (max_parts (steps_temporaries (code e (found e) 0)) 0 n le).0) (λ lt. tt)
 
   right_perform : (line k : ℕ) (es : Arguments) (callee : Function) → slice_get program.functions k ≡ Some callee → AreArguments program locals es (parameters_of callee)
       → code_temporaries (To.simple (arguments_code program locals es (parameter_types program k) 0) (To.perform line k (argument_types program locals es (parameter_types program k)))) ≤ n
@@ -488,7 +381,7 @@ module _ (program : Program) (well : IsWellTyped program) (g : ℕ) (f : Functio
       subst (λ ts. steps_temporaries (arguments_code program locals es ts 0) ≤ n → CodeIs (To.simple (arguments_code program locals es ts 0) (To.perform line k (argument_types program locals es ts)))) (sym (ap types_in e))
       (λ le1.
       subst (λ us. CodeIs (To.simple (arguments_code program locals es tys 0) (To.perform line k us))) (sym (arguments_same es tys ha))
-      (right_simple (arguments_code program locals es tys 0) (To.perform line k tys) (0 + length tys ≤ n) (right_arguments es tys ha 0 (omega arith) le1) (λ room. call_right 0 int int k callee e refl (λ b. cc) room)))
+      (right_simple (arguments_code program locals es tys 0) (To.perform line k tys) (0 + length tys ≤ n) (right_arguments es tys ha 0 (omega arith) le1) (λ room. call_right 0 int int k callee e (λ b. cc) room)))
       (max_parts (steps_temporaries (arguments_code program locals es (parameter_types program k) 0)) 1 n le).0
 
   abbrev gives_in : Option Function → Bool
@@ -538,14 +431,13 @@ module _ (program : Program) (well : IsWellTyped program) (g : ℕ) (f : Functio
 
   abbrev Head : Steps → Option Test → Type 0
   Head x None = x ≡ To.none
-  Head x (Some test) = RightSteps r fr n x × Whole test.ty
+  Head x (Some test) = RightSteps r fr n x
 
-  right_tested : (e : Expr) (u : Ty) → HasType program locals e u → (test : Test) → test.ty ≡ found e → steps_temporaries (whole program locals e) ≤ n → Head (whole program locals e) (Some test)
-  right_tested e u he test alike le =
-      ((right_expression e u he (found e) 0 (kind_found program locals e u he) (found_whole e u he) le).steps, subst Whole (sym alike) (found_whole e u he))
+  right_tested : (e : Expr) (u : Ty) → HasType program locals e u → (test : Test) → steps_temporaries (whole program locals e) ≤ n → Head (whole program locals e) (Some test)
+  right_tested e u he test le = (right_expression e u he (found e) 0 (kind_found program locals e u he) le).steps
 
   right_whole : (line : ℕ) (wanted : Bool) (e : Expr) (u : Ty) → HasType program locals e u → steps_temporaries (whole program locals e) ≤ n → Head (whole program locals e) (Some (record { line = line; ty = found e; wanted = wanted }))
-  right_whole line wanted e u he le = right_tested e u he (record { line = line; ty = found e; wanted = wanted }) refl le
+  right_whole line wanted e u he le = right_tested e u he (record { line = line; ty = found e; wanted = wanted }) le
 
   number_there : (e : Expr) (k : NumberType) → HasType program locals e (number k) → NotNull e
   number_there e Int he = number_not_null program locals e Signed _ refl he
@@ -554,7 +446,7 @@ module _ (program : Program) (well : IsWellTyped program) (g : ℕ) (f : Functio
 
   right_condition : (line : ℕ) (wanted : Bool) (e : Expr) → IsValue program locals e → steps_temporaries (condition_code program locals e) ≤ n → Head (condition_code program locals e) (Some (condition_test program locals line wanted e))
   right_condition line wanted (not_zero own e) v le = right_condition line (not wanted) e (number_there e v.1.1.1.0 v.1.1.1.1, (number v.1.1.1.0, v.1.1.1.1)) le
-  right_condition line wanted (is_null own isnull e) v le = right_tested e v.1.1.2.0 v.1.1.2.1.1 (condition_test program locals line wanted (is_null own isnull e)) refl le
+  right_condition line wanted (is_null own isnull e) v le = right_tested e v.1.1.2.0 v.1.1.2.1.1 (condition_test program locals line wanted (is_null own isnull e)) le
   right_condition line wanted (constant own s k) v le = right_whole line wanted (constant own s k) v.1.0 v.1.1 le
   right_condition line wanted (null own) v le = right_whole line wanted (null own) v.1.0 v.1.1 le
   right_condition line wanted (string own k) v le = right_whole line wanted (string own k) v.1.0 v.1.1 le
@@ -581,7 +473,7 @@ module _ (program : Program) (well : IsWellTyped program) (g : ℕ) (f : Functio
 
   right_loop : (line : ℕ) (x : Steps) (test : Option Test) (third a : To.Code) → Head x test → CodeIs third → CodeIs a → CodeIs (To.loop line x test third a)
   right_loop line x None third a h r3 ra = (h, r3, ra)
-  right_loop line x (Some test) third a h r3 ra = (h.0, h.1, r3, ra)
+  right_loop line x (Some test) third a h r3 ra = (h, r3, ra)
 
   right_optional : (line : ℕ) (test : Option Expr) → IfSome test (IsValue program locals) → steps_temporaries (optional_condition program locals test) ≤ n → Head (optional_condition program locals test) (option_map (condition_test program locals line true) test)
   right_optional line None v le = refl
@@ -591,21 +483,18 @@ module _ (program : Program) (well : IsWellTyped program) (g : ℕ) (f : Functio
   right_returned line e rt er he le =
       subst (λ ty. steps_temporaries (code e ty 0) ≤ n → CodeIs (To.simple (code e ty 0) (To.leave line (option_map value_type f.result)))) (sym (ap returned_type er))
       (λ le1.
-      right_simple (code e (value_type rt) 0) (To.leave line (option_map value_type f.result)) (0 < n) (right_expression e (value_type rt) he (value_type rt) 0 refl (typed_whole e (value_type rt) he) le1) (λ lt. (
+      right_simple (code e (value_type rt) 0) (To.leave line (option_map value_type f.result)) (0 < n) (right_expression e (value_type rt) he (value_type rt) 0 refl le1) (λ lt. (
         (λ ty q reg. (value_type ty, ap (option_map value_type) q, regional_value ty ∙ reg)),
-        (λ ty q. let alike : value_type rt ≡ ty = some_same (sym (ap (option_map value_type) er) ∙ q) in (subst Whole alike (typed_whole e (value_type rt) he), lt)),
+        (λ ty q. lt),
       )))
       (max_parts (steps_temporaries (code e (returned_type f.result) 0)) 0 n le).0
-    where
-      some_same : {t u : Ty} → Some t ≡ Some u → t ≡ u
-      some_same e = cc
 
   mutual
     right_statement : (loop : Bool) (s : Stmt) → IsTyped program f loop s → code_temporaries (statement_code program f s) ≤ n → CodeIs (statement_code program f s)
     right_statement loop (block body) h le = right_statements loop body h le
     right_statement loop (declare line x None) h le =
         let alike = get_or_from_slice_get locals x h.0 int h.1.0 in
-        subst (λ ty. CodeIs (To.clear line x ty)) (sym alike) (local_whole x h.0 h.1.0, mapped_at locals x h.0 h.1.0)
+        subst (λ ty. CodeIs (To.clear line x ty)) (sym alike) (mapped_at locals x h.0 h.1.0)
     right_statement loop (declare line x (Some e)) h le = right_assign line x h.0 (local_type f x) e h.1.0 (get_or_from_slice_get locals x h.0 int h.1.0) h.1.1 le
     right_statement loop (assign line x e) h le = right_assign line x h.0 (local_type f x) e h.1.0 (get_or_from_slice_get locals x h.0 int h.1.0) h.1.1 le
     right_statement loop (store line place e) h le = right_store line place h.0 h.1.0 h.1.1 e h.1.2 le
@@ -613,24 +502,24 @@ module _ (program : Program) (well : IsWellTyped program) (g : ℕ) (f : Functio
     right_statement loop (copy line s left right) h le = right_copy line s left right h.0 h.1 le
     right_statement loop (evaluate line e) h le = right_evaluate line e h le
     right_statement loop (delete line e) h le =
-        right_simple (code e region 0) (To.delete line) (0 < n) (right_expression e region h region 0 refl refl (max_parts (steps_temporaries (code e region 0)) 0 n le).0) (λ lt. lt)
+        right_simple (code e region 0) (To.delete line) (0 < n) (right_expression e region h region 0 refl (max_parts (steps_temporaries (code e region 0)) 0 n le).0) (λ lt. lt)
     right_statement loop (branch line test a b) h le =
         let x = condition_code program locals test in
         let parts = max_parts (steps_temporaries x) (max (code_temporaries (statement_code program f a)) (code_temporaries (statement_code program f b))) n le in
         let arms = max_parts (code_temporaries (statement_code program f a)) (code_temporaries (statement_code program f b)) n parts.1 in
         let q = right_condition line true test h.0 parts.0 in
-        (q.0, q.1, right_statement loop a h.1 arms.0, right_statement loop b h.2 arms.1)
+        (q, right_statement loop a h.1 arms.0, right_statement loop b h.2 arms.1)
     right_statement loop (while line test a) h le =
         let x = condition_code program locals test in
         let parts = max_parts (steps_temporaries x) (max (code_temporaries (statement_code program f a)) 0) n le in
         let arms = max_parts (code_temporaries (statement_code program f a)) 0 n parts.1 in
         let q = right_condition line true test h.0 parts.0 in
-        (q.0, q.1, tt, right_statement true a h.1 arms.0)
+        (q, tt, right_statement true a h.1 arms.0)
     right_statement loop (repeat line a test) h le =
         let x = condition_code program locals test in
         let parts = max_parts (code_temporaries (statement_code program f a)) (steps_temporaries x) n le in
         let q = right_condition line true test h.1 parts.1 in
-        (q.0, q.1, right_statement true a h.0 parts.0)
+        (q, right_statement true a h.0 parts.0)
     right_statement loop (for line first test third a) h le =
         let x = optional_condition program locals test in
         let ct = option_map (condition_test program locals line true) test in
@@ -658,13 +547,9 @@ module _ (program : Program) (well : IsWellTyped program) (g : ℕ) (f : Functio
       record {
         parameters = (well.functions g f there).parameters;
         body = right_statement false f.body (well.functions g f there).body p.0;
-        result = λ ty e. (returned_whole f.result ty (well.functions g f there).result e, at_least f.result ty e p.1);
+        result = λ ty e. at_least f.result ty e p.1;
       }
     where
-      returned_whole : (o : Option Ty) (ty : Ty) → IfSome o (IsVariable program.structs) → o ≡ Some ty → Whole ty
-      returned_whole None ty v e = cc
-      returned_whole (Some u) ty v e = let q : u ≡ ty = cc in subst Whole q (whole_type u v.1)
-
       at_least : (o : Option Ty) (ty : Ty) → o ≡ Some ty → end_temporaries o ≤ n → 0 < n
       at_least None ty e le = cc
       at_least (Some u) ty e le = le

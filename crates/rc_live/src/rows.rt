@@ -65,7 +65,7 @@ fn is_reference(ty: &Ty) -> bool
         Ty::Unsigned => false,
         Ty::Char => false,
         Ty::Region => true,
-        Ty::Struct(_) => true,
+        Ty::Struct(_) => false,
         Ty::Pointer(..) => true,
     }
 }

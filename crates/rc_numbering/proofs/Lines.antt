@@ -14,7 +14,7 @@ use Rattle.rc_core.specs.Arithmetic.{type_of}
 use Rattle.rc_core.specs.Typing.{IsDefined, is_reference, is_shift}
 use Rattle.rc_core.specs.Live.{Ways, then_live, round, at_end}
 use Rattle.rc_rlang.specs.RegionCode as From
-use Rattle.rc_rlang.specs.RegionCode.{regional, kind_of, Access, width, Operation, Step, Steps, Act, Test, Code, Codes, Routine, Rlang}
+use Rattle.rc_rlang.specs.RegionCode.{Access, width, Operation, Step, Steps, Act, Test, Code, Codes, Routine, Rlang}
 use Rattle.rc_rlang.specs.RegionFits.{place_types, pushed, act_types, step_types, steps_types, ActFits}
 use Rattle.rc_rlang.specs.RegionKinds.{OperationKinded, StepKinded, StepsKinded, CodeKinded, CodesKinded}
 use Rattle.rc_rlang.specs.RegionLive.{before_steps, before_act, before_code, before_codes, loop_head, repeat_tail}
@@ -33,15 +33,15 @@ use Rattle.rc_stack_rules.specs.LoaderRules.{kinds}
 use Rattle.rc_stack_rules.specs.Loadable.{all_locals}
 use Rattle.rc_stack_rules.specs.Named.{ActSets, CodeSets, CodesSet, HasLocals}
 use Rattle.rc_numbering.specs.Means.{ResultDefined}
-use Rattle.rc_numbering.specs.Sayable.{is_char, Sayable, EachSayable, AllSayable, OperationSayable, StepSayable, StepsSayable, CellsFit, ChangeSayable, ActSayable, TestSayable, CodeSayable, CodesSayable, result_types}
+use Rattle.rc_numbering.specs.Sayable.{is_char, has_null, Sayable, EachSayable, AllSayable, OperationSayable, StepSayable, StepsSayable, CellsFit, ChangeSayable, ActSayable, TestSayable, CodeSayable, CodesSayable, result_types}
 
-reference_kind : (t : Ty) → IsTrue (is_reference t) → kind_of t ≡ regional
-reference_kind int e = absurd (cc e)
-reference_kind unsigned e = absurd (cc e)
-reference_kind char e = absurd (cc e)
-reference_kind region e = refl
-reference_kind (struct k) e = refl
-reference_kind (pointer note target) e = refl
+pub reference_has_null : (t : Ty) → IsTrue (is_reference t) → IsTrue (has_null t)
+reference_has_null int e = absurd (cc e)
+reference_has_null unsigned e = absurd (cc e)
+reference_has_null char e = absurd (cc e)
+reference_has_null region e = refl
+reference_has_null (struct k) e = refl
+reference_has_null (pointer note target) e = refl
 
 module _ (r : Rlang) (f : Routine) (slot : ℕ → Ty → ℕ) (deleting : ℕ → Bool) (Has : ℕ → Ty → Type 0)
     (slot_is : (h : ℕ) (ty : Ty) → Has h ty → is_char (get_or (all_locals f) (slot h ty) int) ≡ is_char (wide ty))
@@ -139,7 +139,7 @@ module _ (r : Rlang) (f : Routine) (slot : ℕ → Ty → ℕ) (deleting : ℕ �
 
   set_said : (h : ℕ) (ty : Ty) (op : Operation) (live : ℕ → Bool) → OperationKeeps Has types h op → OperationSayable r f ty op → OperationKinded (all_locals f) global_ty result_ty ty op → IsDefined r.structs ty → Each (set_code slot deleting types h ty op live)
   set_said h ty (From.constant s n) live keeps said kinded d = (said, tt)
-  set_said h ty From.null live keeps said kinded d = ((d, reference_kind ty kinded), tt)
+  set_said h ty From.null live keeps said kinded d = ((d, reference_has_null ty kinded), tt)
   set_said h ty (From.static g) live keeps said kinded d = (said, tt)
   set_said h ty (From.copy x) live keeps said kinded d = (tt, tt)
   set_said h ty (From.load a) live keeps said kinded d = (said, tt)

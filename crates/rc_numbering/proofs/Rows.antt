@@ -221,7 +221,7 @@ module _ (r : Rlang) (f : Routine) where
   regional_there unsigned e = absurd (cc e)
   regional_there char e = absurd (cc e)
   regional_there region e = refl
-  regional_there (struct k) e = refl
+  regional_there (struct k) e = absurd (cc e)
   regional_there (pointer note target) e = refl
 
   get_front : (xs ys : List Ty) (x : ℕ) → x < length xs → get_or (xs ++ ys) x int ≡ get_or xs x int

@@ -14,11 +14,11 @@ use Rattle.rc_core.specs.declared.stmt.Change.{Change}
 use Rattle.rc_core.specs.declared.stmt.Change.TheVariants.{Compute, Step as Stepping}
 use Rattle.rc_core.specs.Types.{Ty, int, unsigned, char, region, struct, pointer, CellKind, int_cell, unsigned_cell, char_cell, region_cell, pointer_cell}
 use Rattle.rc_core.specs.Layout.{Layout, cells, size}
-use Rattle.rc_core.specs.Typing.{number, arithmetic, value_type, is_pointer, is_reference, is_struct, is_comparison, IsDefined}
+use Rattle.rc_core.specs.Typing.{number, arithmetic, value_type, is_pointer, is_struct, is_comparison, IsDefined}
 use Rattle.rc_core.specs.Programs.{Global}
 use Rattle.rc_core.specs.WellTyped.{IsVariable}
 use Rattle.rc_safety.proofs.Lists.{every_append, every_split, every_map, every_get_or}
-use Rattle.rc_rlang.specs.RegionCode.{regional, kind_of, Access, Operation, constant, null, static, copy, load, step, step_from, unary, binary, convert, not_zero, truth, is_null, same, call, new_region, new_subregion, region_of, allocate, allocate_array, putchar, getchar, Step, set, fork, Steps, none, more, Act, drop, perform, assign, store, update, move, delete, leave, Test, Code, simple, clear, block, branch, loop, repeat, break, continue, Codes, done, then, Routine, Rlang}
+use Rattle.rc_rlang.specs.RegionCode.{Access, Operation, constant, null, static, copy, load, step, step_from, unary, binary, convert, not_zero, truth, is_null, same, call, new_region, new_subregion, region_of, allocate, allocate_array, putchar, getchar, Step, set, fork, Steps, none, more, Act, drop, perform, assign, store, update, move, delete, leave, Test, Code, simple, clear, block, branch, loop, repeat, break, continue, Codes, done, then, Routine, Rlang}
 use Rattle.rc_rlang.specs.RegionNames.{object_type, given_type, routine_type, result_type, cells_before, HasThere, AccessStands, CellStands, OperationStands, StepStands, StepsStand, ChangeStands, ActStands, CodeStands, CodesStand}
 use Rattle.rc_rlang.specs.RegionNames.{IsCalled as IsNamed}
 use Rattle.rc_rlang.specs.RegionFits.{place_types, operands, pushed, dropped, step_types, steps_types, StepFits, StepsFit, ActFits, test_types, CodeFits, CodesFit}
@@ -28,6 +28,7 @@ use Rattle.rc_translation.proofs.RulesWhole.{IsWholeRoutine, IsWhole}
 use Rattle.rc_emission.specs.StatementCode.{cell_type, further}
 use Rattle.rc_stack_rules.specs.LoaderRules.{kinds}
 use Rattle.rc_numbering.specs.Sayable.{is_char, has_unary_row, cell_for, AccessFits, result_types, IsCalled, result_in, OperationSayable, StepSayable, StepsSayable, CellsFit, ChangeSayable, ActSayable, TestSayable, CodeSayable, CodesSayable}
+use Rattle.rc_numbering.proofs.Lines.{reference_has_null}
 use Rattle.rc_numbering.proofs.Placed.{one_fits, access_fits}
 
 abbrev result_given : Option Routine → Option Ty
@@ -60,14 +61,6 @@ pointer_no_struct char p = refl
 pointer_no_struct region p = refl
 pointer_no_struct (struct k) p = absurd (false≢true p)
 pointer_no_struct (pointer note target) p = refl
-
-reference_kind : (t : Ty) → IsTrue (is_reference t) → kind_of t ≡ regional
-reference_kind int e = absurd (false≢true e)
-reference_kind unsigned e = absurd (false≢true e)
-reference_kind char e = absurd (false≢true e)
-reference_kind region e = refl
-reference_kind (struct k) e = refl
-reference_kind (pointer note target) e = refl
 
 unary_has_row : (operator : UnaryOperator) → ¬ (operator ≡ Plus) → IsTrue (has_unary_row operator)
 unary_has_row Negate n = refl
@@ -221,8 +214,8 @@ module _ (r : Rlang) (whole : IsWhole r) where
     operation_said ty (convert from to) taken stands = tt
     operation_said ty (not_zero of) taken stands = taken.0
     operation_said ty (truth of) taken stands = taken.0
-    operation_said ty (is_null wanted of) taken stands = (taken.0, reference_kind of stands)
-    operation_said ty (same wanted of) taken stands = (taken.0, reference_kind of stands)
+    operation_said ty (is_null wanted of) taken stands = (taken.0, reference_has_null of stands)
+    operation_said ty (same wanted of) taken stands = (taken.0, reference_has_null of stands)
     operation_said ty (call g tys) taken stands = (is_called g tys true stands, subst IsSome (sym (result_there g tys true stands)) stands.1.2)
     operation_said ty new_region taken stands = tt
     operation_said ty new_subregion taken stands = tt

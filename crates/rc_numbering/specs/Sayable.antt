@@ -15,7 +15,7 @@ use Rattle.rc_core.specs.Layout.{Layout, cells, size}
 use Rattle.rc_core.specs.Arithmetic.{type_of}
 use Rattle.rc_core.specs.Typing.{fits, is_pointer, is_struct, IsDefined}
 use Rattle.rc_core.specs.Programs.{Struct}
-use Rattle.rc_rlang.specs.RegionCode.{regional, kind_of, Access, Operation, Act, Routine, Rlang}
+use Rattle.rc_rlang.specs.RegionCode.{Access, Operation, Act, Routine, Rlang}
 use Rattle.rc_rlang.specs.RegionCode as From
 use Rattle.rc_emission.specs.StackCode.{Instruction, Line}
 use Rattle.rc_emission.specs.StackCode as To
@@ -33,6 +33,15 @@ is_char char = true
 is_char region = false
 is_char (struct k) = false
 is_char (pointer note target) = false
+
+-- null is written, and values are tested for null and compared, by instructions for all types but numbers
+abbrev pub has_null : Ty → Bool
+has_null int = false
+has_null unsigned = false
+has_null char = false
+has_null region = true
+has_null (struct k) = true
+has_null (pointer note target) = true
 
 abbrev pub has_row : Operator → Bool
 has_row operator.Multiply = true
@@ -107,13 +116,13 @@ module _ (r : Rlang) (f : Routine) (deleting : ℕ → Bool) where
 
   abbrev pub Sayable : Instruction → Type 0
   Sayable (To.number s n) = IsTrue (fits (type_of s) n)
-  Sayable (To.null ty) = IsDefined r.structs ty × (kind_of ty ≡ regional)
+  Sayable (To.null ty) = IsDefined r.structs ty × IsTrue (has_null ty)
   Sayable (To.global g) = g < length r.globals + length r.strings
   Sayable (To.set x ty) = is_char (get_or (all_locals f) x int) ≡ is_char ty
   Sayable (To.arithmetic operator s) = IsTrue (has_row operator)
   Sayable (To.unary operator s) = IsTrue (has_unary_row operator)
-  Sayable (To.null_test ty) = IsDefined r.structs ty × (kind_of ty ≡ regional)
-  Sayable (To.same ty) = IsDefined r.structs ty × (kind_of ty ≡ regional)
+  Sayable (To.null_test ty) = IsDefined r.structs ty × IsTrue (has_null ty)
+  Sayable (To.same ty) = IsDefined r.structs ty × IsTrue (has_null ty)
   Sayable (To.move ty s direction) = IsDefined r.structs ty × IsTrue (is_pointer ty)
   Sayable (To.load a) = AccessFits r.structs a
   Sayable (To.store a) = AccessFits r.structs a
@@ -149,8 +158,8 @@ module _ (r : Rlang) (f : Routine) where
   OperationSayable ty (From.convert from to) = Unit {0}
   OperationSayable ty (From.not_zero of) = IsDefined r.structs of
   OperationSayable ty (From.truth of) = IsDefined r.structs of
-  OperationSayable ty (From.is_null wanted of) = IsDefined r.structs of × (kind_of of ≡ regional)
-  OperationSayable ty (From.same wanted of) = IsDefined r.structs of × (kind_of of ≡ regional)
+  OperationSayable ty (From.is_null wanted of) = IsDefined r.structs of × IsTrue (has_null of)
+  OperationSayable ty (From.same wanted of) = IsDefined r.structs of × IsTrue (has_null of)
   OperationSayable ty (From.call g tys) = IsCalled r g tys × IsSome (result_in r g)
   OperationSayable ty From.new_region = Unit {0}
   OperationSayable ty From.new_subregion = Unit {0}

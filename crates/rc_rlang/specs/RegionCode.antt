@@ -4,14 +4,15 @@
 -- waits in a temporary, so loops, jumps and returns are in statements alone. An operation names the types that its operands are
 -- read by. Nothing here has a number of its own: a function's points are its entry and then the steps, acts, branches and jumps in
 -- the order of this text, so each stands where it is counted; a site is a place among the stores.
-use Rattle.std.specs.Prelude.{ℕ, suc, ◌+◌, ℤ, Bool, List, length, Option, Some, None}
+use Rattle.std.specs.Prelude.{ℕ, suc, ◌+◌, ℤ, Bool, true, false, List, length, Option, Some, None}
 use Rattle.rc_core.specs.declared.ty.NumberType.{NumberType}
 use Rattle.rc_core.specs.declared.ty.Signedness.{Signedness}
 use Rattle.rc_core.specs.declared.operators.UnaryOperator.{UnaryOperator}
 use Rattle.rc_core.specs.declared.operators.Operator.{Operator}
 use Rattle.rc_core.specs.declared.operators.Direction.{Direction}
 use Rattle.rc_core.specs.declared.stmt.Change.{Change}
-use Rattle.rc_core.specs.Types.{Ty, int, unsigned, char, region, struct, pointer}
+use Rattle.rc_core.specs.Types.{Ty}
+use Rattle.rc_core.specs.Typing.{is_reference}
 use Rattle.rc_core.specs.Layout.{Layout}
 use Rattle.rc_core.specs.Programs.{Struct, Global}
 
@@ -20,13 +21,13 @@ pub data Kind : Type 0 where
   numeric : Kind
   regional : Kind
 
+abbrev pub kind_if : Bool → Kind
+kind_if true = regional
+kind_if false = numeric
+
+-- of a type: regional just where its values have region variables
 abbrev pub kind_of : Ty → Kind
-kind_of int = numeric
-kind_of unsigned = numeric
-kind_of char = numeric
-kind_of region = regional
-kind_of (struct number) = regional
-kind_of (pointer note target) = regional
+kind_of ty = kind_if (is_reference ty)
 
 -- the length of an array field, the cells of one of its elements, and the type of the index
 pub record Index : Type 0 where
