@@ -9,6 +9,7 @@ use Rattle.rc_core.specs.declared.stmt.Change.TheVariants.{Compute, Step as Step
 use Rattle.rc_core.specs.Types.{Ty, int, unsigned, char, region, struct, pointer, CellKind, int_cell, unsigned_cell, char_cell, region_cell, pointer_cell}
 use Rattle.rc_core.specs.Layout.{Layout, note_of}
 use Rattle.rc_core.specs.Live.{Ways}
+use Rattle.rc_rlang.specs.declared.order.Order.TheVariants.{Points}
 use Rattle.rc_rlang.specs.RegionCode.{Access, width, Steps, none, Act, drop, perform, assign, store, update, move, delete, leave, Test, Code, simple, clear, block, branch, loop, repeat, break, continue, Codes, done, then}
 use Rattle.rc_rlang.specs.RegionPoints.{steps_points, branch_points, code_points}
 use Rattle.rc_rlang.specs.RegionLive.{before_act}
@@ -230,7 +231,7 @@ module _ (n : Numbering) where
     both_silent a b x y = marks_append a b ∙ ap (λ xs. xs ++ marks_told n b) x ∙ y
 
     mutual
-      pub code_marks : (c : Code) (here : ℕ) (k : Ways) (p : Place) → Marks (code_lines slot deleting types (code_labelled n marked c here) k p) (points (code_sites c here))
+      pub code_marks : (c : Code) (here : ℕ) (k : Ways) (p : Place) → Marks (code_lines slot deleting types (code_labelled n marked c here) k p) (points (code_sites Points c here))
       code_marks (simple steps act) here k p =
           let at_act = here + steps_points steps in
           past (steps_lines slot deleting types (steps_labelled n steps) [] [] (before_act (act_labelled n marked act at_act) k.next)) _ _ (steps_marks steps (before_act (act_labelled n marked act at_act) k.next))
@@ -241,18 +242,18 @@ module _ (n : Numbering) where
       code_marks (branch steps test a b) here k p =
           let at_a = suc (here + steps_points steps) in
           past (steps_lines slot deleting types (steps_labelled n steps) [] [] _) _ _ (steps_marks steps _)
-          (past (exit_lines (Some (test_labelled n test)) _) _ _ (exit_marks (Some test) _) (together _ _ (code_sites a at_a) (code_sites b (at_a + code_points a)) (code_marks a at_a k _) (jumped _ _ _ _ (code_marks b (at_a + code_points a) k _))))
+          (past (exit_lines (Some (test_labelled n test)) _) _ _ (exit_marks (Some test) _) (together _ _ (code_sites Points a at_a) (code_sites Points b (at_a + code_points a)) (code_marks a at_a k _) (jumped _ _ _ _ (code_marks b (at_a + code_points a) k _))))
       code_marks (loop line steps test third a) here k p =
           let at_a = suc here + steps_points steps + branch_points test in
           let at_third = at_a + code_points a in
           past (steps_lines slot deleting types (steps_labelled n steps) [] [] _) _ _ (steps_marks steps _)
-          (past (exit_lines (option_map (test_labelled n) test) _) _ _ (exit_marks test _) (together _ _ (code_sites a at_a) (code_sites third at_third) (code_marks a at_a _ _) (before _ (line_of (plain n line) (To.back p.at) ∷ []) _ (code_marks third at_third _ _) refl)))
+          (past (exit_lines (option_map (test_labelled n) test) _) _ _ (exit_marks test _) (together _ _ (code_sites Points a at_a) (code_sites Points third at_third) (code_marks a at_a _ _) (before _ (line_of (plain n line) (To.back p.at) ∷ []) _ (code_marks third at_third _ _) refl)))
       code_marks (repeat line a steps test) here k p =
           before _ _ _ (code_marks a (suc here) _ _)
           (both_silent (steps_lines slot deleting types (steps_labelled n steps) [] [] _) _ (steps_marks steps _) (both_silent (exit_lines (Some (test_labelled n test)) 1) (line_of (plain n line) (To.back p.at) ∷ []) (exit_marks (Some test) 1) refl))
       code_marks (break line) here k p = record { is = refl }
       code_marks (continue line) here k p = record { is = refl }
 
-      codes_marks : (cs : Codes) (here : ℕ) (k : Ways) (p : Place) → Marks (codes_lines slot deleting types (codes_labelled n marked cs here) k p) (points (codes_sites cs here))
+      codes_marks : (cs : Codes) (here : ℕ) (k : Ways) (p : Place) → Marks (codes_lines slot deleting types (codes_labelled n marked cs here) k p) (points (codes_sites Points cs here))
       codes_marks done here k p = record { is = refl }
-      codes_marks (then c rest) here k p = together _ _ (code_sites c here) (codes_sites rest (here + code_points c)) (code_marks c here _ _) (codes_marks rest (here + code_points c) k _)
+      codes_marks (then c rest) here k p = together _ _ (code_sites Points c here) (codes_sites Points rest (here + code_points c)) (code_marks c here _ _) (codes_marks rest (here + code_points c) k _)

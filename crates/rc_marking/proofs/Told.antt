@@ -3,6 +3,7 @@ use Rattle.std.proofs.Common.{◌≡◌, ℕ, suc, ◌+◌, Bool, List, [], ◌�
 use Rattle.std.specs.Prelude.{cond, count_by, fold}
 use Rattle.std.proofs.lemmas.List.Sums.{sum_by-append}
 use Rattle.rc_core.specs.declared.ty.Note.{Note}
+use Rattle.rc_rlang.specs.declared.order.Order.TheVariants.{Points}
 use Rattle.rc_rlang.specs.RegionCode.{Code, simple, clear, block, branch, loop, repeat, break, continue, Codes, done, then, Routine, Rlang}
 use Rattle.rc_rlang.specs.RegionPoints.{steps_points, branch_points, code_points}
 use Rattle.rc_rlang.specs.Sites.{Site, code_sites, codes_sites}
@@ -37,27 +38,25 @@ module _ {A B : Type 0} (test : B → Bool) (make : A → B) where
 -- the order of the text and that of the points have the same sites
 module _ (test : Site → Bool) where
   mutual
-    in_code : (c : Code) (here : ℕ) → count_by test (listed c here) ≡ count_by test (code_sites c here)
+    in_code : (c : Code) (here : ℕ) → count_by test (listed c here) ≡ count_by test (code_sites Points c here)
     in_code (simple steps act) here = refl
     in_code (clear line x ty) here = refl
     in_code (block codes) here = in_codes codes here
     in_code (branch steps asked a b) here =
-        let at_a = suc here + steps_points steps in
-        let same : at_a ≡ suc (here + steps_points steps) = omega arith in
-        both test (listed a at_a) (listed b (at_a + code_points a)) (code_sites a at_a) (code_sites b (at_a + code_points a)) (in_code a at_a) (in_code b (at_a + code_points a))
-        ∙ ap (λ at. count_by test (code_sites a at ++ code_sites b (at + code_points a))) same
+        let at_a = suc (here + steps_points steps) in
+        both test (listed a at_a) (listed b (at_a + code_points a)) (code_sites Points a at_a) (code_sites Points b (at_a + code_points a)) (in_code a at_a) (in_code b (at_a + code_points a))
     in_code (loop line steps asked third body) here =
         let at_body = suc here + steps_points steps + branch_points asked in
         let at_third = at_body + code_points body in
-        turned test (listed third at_third) (listed body at_body) (code_sites third at_third) (code_sites body at_body) (in_code third at_third) (in_code body at_body)
+        turned test (listed third at_third) (listed body at_body) (code_sites Points third at_third) (code_sites Points body at_body) (in_code third at_third) (in_code body at_body)
     in_code (repeat line body steps asked) here = in_code body (suc here)
     in_code (break line) here = refl
     in_code (continue line) here = refl
 
-    in_codes : (cs : Codes) (here : ℕ) → count_by test (listed (block cs) here) ≡ count_by test (codes_sites cs here)
+    in_codes : (cs : Codes) (here : ℕ) → count_by test (listed (block cs) here) ≡ count_by test (codes_sites Points cs here)
     in_codes done here = refl
     in_codes (then c rest) here =
-        both test (listed c here) (listed (block rest) (here + code_points c)) (code_sites c here) (codes_sites rest (here + code_points c)) (in_code c here) (in_codes rest (here + code_points c))
+        both test (listed c here) (listed (block rest) (here + code_points c)) (code_sites Points c here) (codes_sites Points rest (here + code_points c)) (in_code c here) (in_codes rest (here + code_points c))
 
 module _ (passes : (line : ℕ) → Note → Bool → Bool) (marks : (function point : ℕ) → Bool) where
   abbrev of_entry : Entry → Bool
@@ -75,7 +74,7 @@ module _ (passes : (line : ℕ) → Note → Bool → Bool) (marks : (function p
   in_functions : (g : ℕ) (fs : List Routine) → count_by of_entry (entries_from marks g fs) ≡ count_by of_placed (placed_from g fs)
   in_functions g [] = refl
   in_functions g (f ∷ fs) =
-      let sites = code_sites f.body 1 in
+      let sites = code_sites Points f.body 1 in
       let made = map (entry_of (marks g)) (listed f.body 1) in
       let placed = map (in_function g) sites in
       let one : count_by of_entry made ≡ count_by of_placed placed = of_made of_entry (entry_of (marks g)) (listed f.body 1) ∙ in_code (of_site g) f.body 1 ∙ sym (of_made of_placed (in_function g) sites) in

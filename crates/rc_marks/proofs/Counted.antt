@@ -3,6 +3,7 @@ use Rattle.std.proofs.Common.{◌≡◌, ℕ, zero, suc, ◌+◌, Bool, true, fa
 use Rattle.std.specs.Prelude.{◌↔◌, cond, count_by, fold, get_or}
 use Rattle.std.proofs.lemmas.List.{map-append}
 use Rattle.rc_core.specs.declared.ty.Note.{Note}
+use Rattle.rc_rlang.specs.declared.order.Order.TheVariants.{Points}
 use Rattle.rc_rlang.specs.RegionCode.{Routine, Rlang}
 use Rattle.rc_rlang.specs.Sites.{Site, code_sites}
 use Rattle.rc_annotations.specs.Annotations.{Removable}
@@ -32,11 +33,11 @@ module _ (marks : (function point : ℕ) → Bool) where
 
   marks_placed : (k : ℕ) (fs : List Routine) → functions_marks marks k fs ≡ map mark_at (placed_from k fs)
   marks_placed k [] = refl
-  marks_placed k (f ∷ fs) = (λ i. own_marks k (code_sites f.body 1) i ++ marks_placed (suc k) fs i) ∙ sym (map-append mark_at (map (in_function k) (code_sites f.body 1)) (placed_from (suc k) fs))
+  marks_placed k (f ∷ fs) = (λ i. own_marks k (code_sites Points f.body 1) i ++ marks_placed (suc k) fs i) ∙ sym (map-append mark_at (map (in_function k) (code_sites Points f.body 1)) (placed_from (suc k) fs))
 
-  stores_placed : (k : ℕ) (fs : List Routine) → flat_map (λ (f : Routine). map store_of (code_sites f.body 1)) fs ≡ map store_at (placed_from k fs)
+  stores_placed : (k : ℕ) (fs : List Routine) → flat_map (λ (f : Routine). map store_of (code_sites Points f.body 1)) fs ≡ map store_at (placed_from k fs)
   stores_placed k [] = refl
-  stores_placed k (f ∷ fs) = (λ i. own_stores k (code_sites f.body 1) i ++ stores_placed (suc k) fs i) ∙ sym (map-append store_at (map (in_function k) (code_sites f.body 1)) (placed_from (suc k) fs))
+  stores_placed k (f ∷ fs) = (λ i. own_stores k (code_sites Points f.body 1) i ++ stores_placed (suc k) fs i) ∙ sym (map-append store_at (map (in_function k) (code_sites Points f.body 1)) (placed_from (suc k) fs))
 
   -- each store takes the bit at its number
   got : (before : List Bool) (b : Bool) (rest : List Bool) → get_or (before ++ b ∷ rest) (length before) false ≡ b

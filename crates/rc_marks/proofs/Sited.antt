@@ -5,6 +5,7 @@ use Rattle.rc_core.specs.declared.ty.Note.{Note}
 use Rattle.rc_core.specs.declared.ty.Note.TheVariants.{Plain, SameRegion, ParentPtr, Traditional}
 use Rattle.rc_core.specs.Types.{Ty, int, unsigned, char, region, struct, pointer}
 use Rattle.rc_core.specs.Layout.{Layout, note_of}
+use Rattle.rc_rlang.specs.declared.order.Order.TheVariants.{Points}
 use Rattle.rc_rlang.specs.RegionCode.{Act, store, update, move, Code, simple, clear, block, branch, loop, repeat, break, continue, Codes, done, then, Routine}
 use Rattle.rc_rlang.specs.RegionFlow.{note_in}
 use Rattle.rc_rlang.specs.RegionPoints.{steps_points, branch_points, code_points}
@@ -42,25 +43,25 @@ act_sited (move line cells left right) here = cells_sited cells line here
 act_sited act here = refl
 
 mutual
-  code_sited : (c : Code) (here : ℕ) → map store_of (code_sites c here) ≡ code_stores c
+  code_sited : (c : Code) (here : ℕ) → map store_of (code_sites Points c here) ≡ code_stores c
   code_sited (simple steps act) here = act_sited act (here + steps_points steps)
   code_sited (clear line x ty) here = refl
   code_sited (block codes) here = codes_sited codes here
   code_sited (branch steps test a b) here =
       let at_a = suc (here + steps_points steps) in
-      joined (code_sites a at_a) (code_sites b (at_a + code_points a)) (code_stores a) (code_stores b) (code_sited a at_a) (code_sited b (at_a + code_points a))
+      joined (code_sites Points a at_a) (code_sites Points b (at_a + code_points a)) (code_stores a) (code_stores b) (code_sited a at_a) (code_sited b (at_a + code_points a))
   code_sited (loop line steps test third body) here =
       let at_body = suc here + steps_points steps + branch_points test in
-      joined (code_sites body at_body) (code_sites third (at_body + code_points body)) (code_stores body) (code_stores third) (code_sited body at_body) (code_sited third (at_body + code_points body))
+      joined (code_sites Points body at_body) (code_sites Points third (at_body + code_points body)) (code_stores body) (code_stores third) (code_sited body at_body) (code_sited third (at_body + code_points body))
   code_sited (repeat line body steps test) here = code_sited body (suc here)
   code_sited (break line) here = refl
   code_sited (continue line) here = refl
 
-  codes_sited : (cs : Codes) (here : ℕ) → map store_of (codes_sites cs here) ≡ codes_stores cs
+  codes_sited : (cs : Codes) (here : ℕ) → map store_of (codes_sites Points cs here) ≡ codes_stores cs
   codes_sited done here = refl
   codes_sited (then c rest) here =
-      joined (code_sites c here) (codes_sites rest (here + code_points c)) (code_stores c) (codes_stores rest) (code_sited c here) (codes_sited rest (here + code_points c))
+      joined (code_sites Points c here) (codes_sites Points rest (here + code_points c)) (code_stores c) (codes_stores rest) (code_sited c here) (codes_sited rest (here + code_points c))
 
-pub functions_sited : (fs : List Routine) → flat_map (λ (f : Routine). map store_of (code_sites f.body 1)) fs ≡ flat_map (λ (f : Routine). code_stores f.body) fs
+pub functions_sited : (fs : List Routine) → flat_map (λ (f : Routine). map store_of (code_sites Points f.body 1)) fs ≡ flat_map (λ (f : Routine). code_stores f.body) fs
 functions_sited [] = refl
 functions_sited (f ∷ fs) = λ k. code_sited f.body 1 k ++ functions_sited fs k

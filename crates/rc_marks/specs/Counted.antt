@@ -3,6 +3,7 @@
 use Rattle.std.specs.Prelude.{◌≡◌, ◌↔◌, ℕ, suc, Bool, true, false, ◌&&◌, nat_eq, List, [], ◌∷◌, ◌++◌, map, count_by}
 use Rattle.rc_core.specs.declared.ty.Note.{Note}
 use Rattle.rc_core.specs.declared.ty.Note.TheVariants.{Plain, SameRegion, ParentPtr, Traditional}
+use Rattle.rc_rlang.specs.declared.order.Order.TheVariants.{Points}
 use Rattle.rc_rlang.specs.RegionCode.{Routine, Rlang}
 use Rattle.rc_rlang.specs.Sites.{Site, code_sites}
 use Rattle.rc_annotations.specs.Annotations.{Removable}
@@ -26,7 +27,7 @@ in_function k s = record { function = k; point = s.point; line = s.line; note = 
 -- the first function has this number
 abbrev pub placed_from : ℕ → List Routine → List Placed
 placed_from k [] = []
-placed_from k (f ∷ fs) = map (in_function k) (code_sites f.body 1) ++ placed_from (suc k) fs
+placed_from k (f ∷ fs) = map (in_function k) (code_sites Points f.body 1) ++ placed_from (suc k) fs
 
 abbrev pub all_sites : Rlang → List Placed
 all_sites r = placed_from 0 r.functions

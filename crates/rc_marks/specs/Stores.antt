@@ -4,6 +4,7 @@ use Rattle.std.specs.Prelude.{◌≡◌, ℕ, List, [], ◌∷◌, ◌++◌, map
 use Rattle.rc_core.specs.declared.ty.Note.{Note}
 use Rattle.rc_core.specs.declared.ty.Note.TheVariants.{Plain, SameRegion, ParentPtr, Traditional}
 use Rattle.rc_core.specs.Types.{Ty, int, unsigned, char, region, struct, pointer}
+use Rattle.rc_rlang.specs.declared.order.Order.TheVariants.{Points}
 use Rattle.rc_rlang.specs.RegionCode.{Routine, Rlang}
 use Rattle.rc_rlang.specs.Sites.{Site, code_sites}
 use Rattle.rc_emission.specs.StackCode.{Instruction, Line}
@@ -34,7 +35,7 @@ abbrev pub store_of : Site → Store
 store_of s = record { line = s.line; note = s.note }
 
 abbrev pub stores : Rlang → List Store
-stores r = flat_map (λ (f : Routine). map store_of (code_sites f.body 1)) r.functions
+stores r = flat_map (λ (f : Routine). map store_of (code_sites Points f.body 1)) r.functions
 
 -- ---- of stack code
 

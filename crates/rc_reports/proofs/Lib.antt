@@ -1,3 +1,2 @@
 mod Cells
-mod InOrder
 pub mod One

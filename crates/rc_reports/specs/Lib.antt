@@ -1,4 +1,3 @@
 pub mod Listed
-pub mod Ordered
 pub mod Reports
 pub mod Inspected

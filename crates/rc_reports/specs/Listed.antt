@@ -1,14 +1,12 @@
--- The stores of a function to annotated cells, in the order in which they stand in the text: the third part of a loop's head stands before
--- its body, though it runs, and has its points, behind it.
+-- The stores of a function to annotated cells, in the order in which they stand in the text.
 use Rattle.std.specs.Prelude.{ℕ, List, map}
+use Rattle.rc_rlang.specs.declared.order.Order.TheVariants.{Text}
 use Rattle.rc_rlang.specs.RegionCode.{Code}
-use Rattle.rc_rlang.specs.Sites.{Site}
-use Rattle.rc_reports.specs.declared.listing.Order.TheVariants.{Text}
+use Rattle.rc_rlang.specs.Sites.{Site, code_sites}
 use Rattle.rc_reports.specs.declared.site.Site.{Site as CodeSite}
-use Rattle.rc_reports.specs.Ordered.{ordered}
 
 abbrev pub listed : Code → (here : ℕ) → List Site
-listed code here = ordered Text code here
+listed code here = code_sites Text code here
 
 -- sites in code stand for those of the definitions
 abbrev pub site_of : CodeSite → Site

@@ -6,9 +6,9 @@ ghost use Rattle.rc_core.specs.Programs.{Struct};
 ghost use Rattle.rc_rlang.specs.Counted.{AreLayouts, Counted};
 ghost use Rattle.rc_rlang.specs.Shapes.{act_of, code_of, codes_of, routine_in};
 ghost use Rattle.rc_rlang.specs.RegionPoints.{code_points, codes_points};
-ghost use Rattle.rc_rlang.specs.Sites.{act_sites, cells_sites, code_sites, store_sites};
+ghost use Rattle.rc_rlang.specs.Sites.{act_sites, cells_sites, code_sites, codes_sites, store_sites};
+ghost use Rattle.rc_rlang.specs.declared.order.Order.TheVariants.{Points};
 ghost use Rattle.rc_reports.specs.Listed.{listed, sites_of};
-ghost use Rattle.rc_reports.specs.Ordered.{all_ordered, ordered};
 
 use crate::site::Site;
 use rc_base::NoMemory;
@@ -16,16 +16,9 @@ use rc_core::ty::{Note, Ty};
 use rc_core::{Kind, Layouts};
 use rc_graph::{cell_note, note_in};
 use rc_rlang::code::{Act, Code, Routine};
+use rc_rlang::order::Order;
 use rc_rlang::{act_points, branch_points, change_points, steps_points};
 use std::alloc::Global;
-
-/// An order of stores. The two differ at loops alone: the third part of a loop's head stands before its
-/// body, and has its points behind it.
-#[derive(Clone, Copy)]
-pub(crate) enum Order {
-    Text,
-    Points,
-}
 
 /// The sum.
 ///
@@ -121,7 +114,7 @@ fn list_code(
     out: &mut Vec<Site>,
 ) -> Result<u32, NoMemory>
     requires laid { AreLayouts layouts.now }
-    ensures sites { (structs : List Struct) → AreLaidOut structs layouts.now → OnOk result (sites_of out.new.items ≡ sites_of out.old.items ++ ordered order (code_of structs code.now) here) }
+    ensures sites { (structs : List Struct) → AreLaidOut structs layouts.now → OnOk result (sites_of out.new.items ≡ sites_of out.old.items ++ code_sites order (code_of structs code.now) here) }
     ensures behind { (structs : List Struct) → AreLaidOut structs layouts.now → IfOk result (λ n. n ≡ here + code_points (code_of structs code.now)) }
 {
     match code {
@@ -132,7 +125,8 @@ fn list_code(
         }
         Code::Block { body } => list_codes(alloc, layouts, order, body.as_slice(), here, out),
         Code::Branch { steps, yes, no, .. } => {
-            let at_yes = past(sum(1, here)?, steps_points(steps.as_slice()))?;
+            let at_test = past(here, steps_points(steps.as_slice()))?;
+            let at_yes = sum(1, at_test)?;
             let at_no = list_code(alloc, layouts, order, yes, at_yes, out)?;
             list_code(alloc, layouts, order, no, at_no, out)
         }
@@ -182,7 +176,7 @@ fn list_codes(
     out: &mut Vec<Site>,
 ) -> Result<u32, NoMemory>
     requires laid { AreLayouts layouts.now }
-    ensures sites { (structs : List Struct) → AreLaidOut structs layouts.now → OnOk result (sites_of out.new.items ≡ sites_of out.old.items ++ all_ordered order (codes_of structs body.now) here) }
+    ensures sites { (structs : List Struct) → AreLaidOut structs layouts.now → OnOk result (sites_of out.new.items ≡ sites_of out.old.items ++ codes_sites order (codes_of structs body.now) here) }
     ensures behind { (structs : List Struct) → AreLaidOut structs layouts.now → IfOk result (λ n. n ≡ here + codes_points (codes_of structs body.now)) }
 {
     let mut at = here;
@@ -217,7 +211,7 @@ pub fn sites_by_points(
     routine: &Routine,
 ) -> Result<Vec<Site>, NoMemory>
     requires laid { AreLayouts layouts.now }
-    ensures { (structs : List Struct) → AreLaidOut structs layouts.now → IfOk result (λ all. sites_of all.items ≡ code_sites (routine_in structs routine.now).body 1) }
+    ensures { (structs : List Struct) → AreLaidOut structs layouts.now → IfOk result (λ all. sites_of all.items ≡ code_sites Points (routine_in structs routine.now).body 1) }
 {
     let mut all = Vec::new(alloc);
     list_code(alloc, layouts, Order::Points, &routine.body, 1, &mut all)?;

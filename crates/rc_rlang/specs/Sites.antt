@@ -1,7 +1,8 @@
 -- The sites of region code: its stores to cells whose types are annotated, each of which may have to check what it stores. A store and an
--- update have one where their cell is annotated, and a struct copy one for each annotated cell, in the order of the cells. They are
--- in the order of their points, so that those of a loop's body stand before those of its third part. A site stands at the point that
--- stores: an update's last one, and the second of the two that each cell of a copy has.
+-- update have one where their cell is annotated, and a struct copy one for each annotated cell, in the order of the cells. They come
+-- in the order of the text or in that of their points. The two differ at loops alone: the third part of a loop's head stands before its
+-- body, and has its points behind it. A site stands at the point that stores: an update's last one, and the second of the two that each
+-- cell of a copy has.
 use Rattle.std.specs.Prelude.{ℕ, suc, ◌+◌, List, [], ◌∷◌, ◌++◌}
 use Rattle.rc_core.specs.declared.ty.Note.{Note}
 use Rattle.rc_core.specs.declared.ty.Note.TheVariants.{Plain, SameRegion, ParentPtr, Traditional}
@@ -9,6 +10,8 @@ use Rattle.rc_core.specs.declared.stmt.Change.{Change}
 use Rattle.rc_core.specs.declared.stmt.Change.TheVariants.{Compute, Step as Stepping}
 use Rattle.rc_core.specs.Layout.{Layout, note_of}
 use Rattle.rc_core.specs.Arithmetic.{type_of}
+use Rattle.rc_rlang.specs.declared.order.Order.{Order}
+use Rattle.rc_rlang.specs.declared.order.Order.TheVariants.{Text, Points}
 use Rattle.rc_rlang.specs.Points.{conversion_points}
 use Rattle.rc_rlang.specs.RegionCode.{Act, store, update, move, Code, simple, clear, block, branch, loop, repeat, break, continue, Codes, done, then}
 use Rattle.rc_rlang.specs.RegionFlow.{note_in}
@@ -41,21 +44,26 @@ act_sites (update line a change ty) here = store_sites (note_in a.cell) line (he
 act_sites (move line cells left right) here = cells_sites cells line here
 act_sites act here = []
 
-abbrev mutual
-  pub code_sites : Code → (here : ℕ) → List Site
-  code_sites (simple steps act) here = act_sites act (here + steps_points steps)
-  code_sites (clear line x ty) here = []
-  code_sites (block codes) here = codes_sites codes here
-  code_sites (branch steps test a b) here =
-      let at_a = suc (here + steps_points steps) in
-      code_sites a at_a ++ code_sites b (at_a + code_points a)
-  code_sites (loop line steps test third body) here =
-      let at_body = suc here + steps_points steps + branch_points test in
-      code_sites body at_body ++ code_sites third (at_body + code_points body)
-  code_sites (repeat line body steps test) here = code_sites body (suc here)
-  code_sites (break line) here = []
-  code_sites (continue line) here = []
+-- of a loop, whose body and third part have these
+abbrev pub loop_sites : Order → (body third : List Site) → List Site
+loop_sites Text body third = third ++ body
+loop_sites Points body third = body ++ third
 
-  pub codes_sites : Codes → (here : ℕ) → List Site
-  codes_sites done here = []
-  codes_sites (then c rest) here = code_sites c here ++ codes_sites rest (here + code_points c)
+abbrev mutual
+  pub code_sites : Order → Code → (here : ℕ) → List Site
+  code_sites o (simple steps act) here = act_sites act (here + steps_points steps)
+  code_sites o (clear line x ty) here = []
+  code_sites o (block codes) here = codes_sites o codes here
+  code_sites o (branch steps test a b) here =
+      let at_a = suc (here + steps_points steps) in
+      code_sites o a at_a ++ code_sites o b (at_a + code_points a)
+  code_sites o (loop line steps test third body) here =
+      let at_body = suc here + steps_points steps + branch_points test in
+      loop_sites o (code_sites o body at_body) (code_sites o third (at_body + code_points body))
+  code_sites o (repeat line body steps test) here = code_sites o body (suc here)
+  code_sites o (break line) here = []
+  code_sites o (continue line) here = []
+
+  pub codes_sites : Order → Codes → (here : ℕ) → List Site
+  codes_sites o done here = []
+  codes_sites o (then c rest) here = code_sites o c here ++ codes_sites o rest (here + code_points c)

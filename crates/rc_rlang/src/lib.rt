@@ -7,14 +7,15 @@
 //! `specs/IsRlang` is all of it, and an `Rlang` keeps it. `specs/Shapes` leads from the types of the code
 //! to the definitions. `specs/Touches` says which points delete and what points do to locals,
 //! `specs/LiveLists` which locals are listed at those that delete, `specs/LivePaths` the same by paths,
-//! `specs/LiveMaps` what a map of such lists is, and `specs/Sites` which stores have checks.
-//! `specs/Points` counts a program's points on the program, and `specs/Variables` the region variables of
-//! each of its functions; `points` counts the points of region code on the code.
+//! `specs/LiveMaps` what a map of such lists is, and `specs/Sites` which stores have checks, in either of
+//! two orders. `specs/Points` counts a program's points on the program, and `specs/Variables` the region
+//! variables of each of its functions; `points` counts the points of region code on the code.
 #![tactic(auto)]
 
 pub mod access;
 pub mod code;
 pub mod live_map;
+pub mod order;
 mod points;
 pub mod rlang;
 pub mod steps;

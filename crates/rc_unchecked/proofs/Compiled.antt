@@ -2,6 +2,7 @@
 use Rattle.std.proofs.Common.{◌≡◌, ℕ, suc, Bool, false, List, [], ◌∷◌, ◌++◌, map, get_or, refl, sym, ap, ◌∙◌}
 use Rattle.rc_core.specs.Programs.{Program}
 use Rattle.rc_core.specs.WellTyped.{IsWellTyped}
+use Rattle.rc_rlang.specs.declared.order.Order.TheVariants.{Points}
 use Rattle.rc_rlang.specs.RegionCode.{Routine}
 use Rattle.rc_rlang.specs.Bounds.{IsWithinBounds}
 use Rattle.rc_rlang.specs.Sites.{Site, code_sites}
@@ -22,7 +23,7 @@ module _ (m n : (function point : ℕ) → Bool) (same : (g p : ℕ) → m g p �
 
   functions_same : (g : ℕ) (fs : List Routine) → functions_marks m g fs ≡ functions_marks n g fs
   functions_same g [] = refl
-  functions_same g (f ∷ fs) = ap (λ bits. bits ++ functions_marks m (suc g) fs) (sites_same g (code_sites f.body 1)) ∙ ap (λ bits. routine_marks (n g) f ++ bits) (functions_same (suc g) fs)
+  functions_same g (f ∷ fs) = ap (λ bits. bits ++ functions_marks m (suc g) fs) (sites_same g (code_sites Points f.body 1)) ∙ ap (λ bits. routine_marks (n g) f ++ bits) (functions_same (suc g) fs)
 
   pub images_same : (program : Program) → image_with m program ≡ image_with n program
   images_same program = ap (λ (bits : List Bool). marked_image (λ number. get_or bits number false) (region_of_program program)) (functions_same 0 (region_of_program program).functions)

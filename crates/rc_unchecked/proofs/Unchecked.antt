@@ -9,6 +9,7 @@ use Rattle.rc_core.specs.Programs.{Program}
 use Rattle.rc_core.specs.Runs.{Run, Go, Stopped, Ends, Stale}
 use Rattle.rc_core.specs.Source.{World, source}
 use Rattle.rc_core.specs.WellTyped.{IsWellTyped}
+use Rattle.rc_rlang.specs.declared.order.Order.TheVariants.{Points}
 use Rattle.rc_rlang.specs.RegionCode.{Routine, Rlang}
 use Rattle.rc_rlang.specs.IsRlang.{IsRlang}
 use Rattle.rc_rlang.specs.Bounds.{IsWithinBounds}
@@ -138,7 +139,7 @@ module _ (r : Rlang) (marks : (function point : ℕ) → Bool) (none : (g p : �
 
   in_functions : (g : ℕ) (fs : List Routine) → NoBits (functions_marks marks g fs)
   in_functions g [] n = refl
-  in_functions g (f ∷ fs) n = behind (map (λ (s : Site). marks g s.point) (code_sites f.body 1)) (functions_marks marks (suc g) fs) (at_sites g (code_sites f.body 1)) (in_functions (suc g) fs) n
+  in_functions g (f ∷ fs) n = behind (map (λ (s : Site). marks g s.point) (code_sites Points f.body 1)) (functions_marks marks (suc g) fs) (at_sites g (code_sites Points f.body 1)) (in_functions (suc g) fs) n
 
   pub bare_image : marked_image (mask_of marks r) r ≡ image_of r
   bare_image = let same : mask_of marks r ≡ (λ n. false) = λ i n. in_functions 0 r.functions n i in ap (λ (mask : ℕ → Bool). marked_image mask r) same ∙ no_marks r
