@@ -92,7 +92,7 @@ pub fn numbers_below(alloc: Global, n: u32) -> Result<Vec<u32>, NoMemory>
     ensures long { IfOk result (λ numbers. length numbers.items ≡ n) }
     ensures each { IfOk result (λ numbers. (x : ℕ) → x < n → get_or numbers.items x 0 ≡ x) }
 {
-    let mut numbers = Vec::new(alloc);
+    let mut numbers = Vec::with_capacity(alloc, n as usize)?;
     for number in 0..n {
         put(&mut numbers, number)?;
     }

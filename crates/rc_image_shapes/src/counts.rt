@@ -45,7 +45,7 @@ fn greatest_height(parts: &Parts, function: &Function) -> usize
 }
 
 /// How many hidden copies a function has.
-fn copies_of(function: &Function) -> usize
+pub(crate) fn copies_of(function: &Function) -> usize
     requires { IsCountable function.now }
     ensures copies { result ≡ copies function.now }
     ensures most { result < 2 ^ 32 }

@@ -7,4 +7,4 @@ mod shape;
 mod tables;
 
 pub use counts::first_wide;
-pub use shape::{Shape, shape_of};
+pub use shape::{Shape, copies_in, shape_of};

@@ -3,10 +3,11 @@ ghost use Rattle.std.specs.Prelude.{◌≡◌, ◌<◌, ◌≤◌, length, IfOk}
 ghost use Rattle.rc_code.specs.Image.{FieldsFit};
 ghost use Rattle.rc_code.specs.Running.{function_at, reading_of};
 ghost use Rattle.rc_code.specs.Soundness.{Sound};
+ghost use Rattle.rc_claims.specs.Counts.{copies};
 ghost use Rattle.rc_sealed.specs.Faults.{IsWide};
 ghost use Rattle.rc_image_shapes.specs.Shapes.{IsShape};
 
-use crate::counts::counts_of;
+use crate::counts::{copies_of, counts_of};
 use crate::tables::{local_variables, targets_of};
 use rc_base::NoMemory;
 use rc_code::Parts;
@@ -60,4 +61,15 @@ pub fn shape_of(alloc: Global, parts: &Parts, number: u32) -> Result<Shape, NoMe
         locals,
         targets,
     })
+}
+
+/// How many hidden copies a function has that isn't wide.
+pub fn copies_in(parts: &Parts, number: u32) -> u32
+    requires fields { FieldsFit parts.now }
+    requires there { number < length parts.now.functions }
+    requires narrow { IsWide parts.now number → ⊥ }
+    ensures copies { result ≡ copies (function_at (reading_of parts.now) number) }
+    ensures few { result < 128 }
+{
+    narrow(copies_of(function_of(parts, number)))
 }

@@ -35,7 +35,7 @@ pub(crate) fn local_variables(
     requires { (x : ℕ) → copies + trues (map is_regional locals.now) x ≤ 128 }
     ensures { IfOk result (λ table. (x : ℕ) → x < length locals.now → get_or table.items x 0 ≡ copies + trues (map is_regional locals.now) x) }
 {
-    let mut table = Vec::new(alloc);
+    let mut table = Vec::with_capacity(alloc, locals.len())?;
     let mut variable = copies;
     for at in 0..locals.len() {
         let storage = locals[at];

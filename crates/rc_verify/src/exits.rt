@@ -17,7 +17,7 @@ use rc_crossing::fill;
 use rc_facts::FactSet;
 use rc_image_claims::{add_claims, numbers_below};
 use rc_image_counts::{function_of, is_regional};
-use rc_image_shapes::shape_of;
+use rc_image_shapes::copies_in;
 use std::alloc::Global;
 
 /// 1 for a result that is a region or a pointer, and else 0.
@@ -31,16 +31,15 @@ fn regional(result_kind: Option<Storage>) -> u32
 }
 
 /// How many variables the facts of a function's exit speak of.
-fn count_of(alloc: Global, parts: &Parts, number: u32) -> Result<u32, NoMemory>
+fn count_of(parts: &Parts, number: u32) -> u32
     requires fields { FieldsFit parts.now }
     requires sound { Sound parts.now }
     requires there { number < length parts.now.functions }
     requires narrow { IsWide parts.now number → ⊥ }
-    ensures count { IfOk result (λ count. count ≡ exit_count (function_at (reading_of parts.now) number)) }
-    ensures few { IfOk result (λ count. count ≤ 128) }
+    ensures count { result ≡ exit_count (function_at (reading_of parts.now) number) }
+    ensures few { result ≤ 128 }
 {
-    let shape = shape_of(alloc, parts, number)?;
-    Ok(shape.copies + regional(function_of(parts, number).result))
+    copies_in(parts, number) + regional(function_of(parts, number).result)
 }
 
 /// What is claimed of the function of that number.
@@ -60,7 +59,7 @@ fn exit_of(alloc: Global, parts: &Parts, proofs: &Proofs, number: u32) -> Result
     requires narrow { IsWide parts.now number → ⊥ }
     ensures { IfOk result (λ set. IsExit (function_at (reading_of parts.now) number) (known_at proofs.now number) set) }
 {
-    let count = count_of(alloc, parts, number)?;
+    let count = count_of(parts, number);
     let names = numbers_below(alloc, count)?;
     let mut facts = Vec::new(alloc);
     add_claims(

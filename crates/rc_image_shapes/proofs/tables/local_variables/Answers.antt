@@ -8,7 +8,7 @@ use Rattle.rc_image_shapes.proofs.tables.local_variables.Goals as goal
 pub loop-at-init : goal.loop-at-init
 loop-at-init c =
     let t = trues_none (map is_regional c.args.locals.now) in
-    record { variable = omega (arith, t); long = ap length c.new-table.ensures.items; each = λ x lt. absurd (omega (arith, lt)) }
+    record { variable = omega (arith, t); long = ap length c.in_ok-table.ensures.items; each = λ x lt. absurd (omega (arith, lt)) }
 
 pub count_on-next-requires : goal.count_on-next-requires
 count_on-next-requires c =

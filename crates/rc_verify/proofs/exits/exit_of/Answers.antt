@@ -19,7 +19,7 @@ fill-requires c =
     (subst (λ (ns : List ℕ). Listing facts c.new-facts.result.items c.as_slice.result.now ns) c.as_slice-2.ensures.value c.in_ok-add_claims.ensures)) in
     record {
       over = subst (λ (fs : List Fact). All (λ p. IsTrue (is_over c.in_ok-set.set.variables p)) fs) (sym c.as_slice-3.ensures.value)
-          (subst (λ m. All (λ p. IsTrue (is_over m p)) facts) (sym c.in_ok-set.ensures.variables) (listed_over c.in_ok-count.count names c.in_ok-names.ensures.each bytes c.in_ok-names.ensures.long facts are));
+          (subst (λ m. All (λ p. IsTrue (is_over m p)) facts) (sym c.in_ok-set.ensures.variables) (listed_over c.count_of-count.result names c.in_ok-names.ensures.each bytes c.in_ok-names.ensures.long facts are));
     }
 
 pub returns : goal.returns
@@ -31,10 +31,10 @@ returns c =
     (subst (λ (b : List ℕ). Listing facts c.new-facts.result.items b names) (c.as_slice.ensures ∙ ap (λ (k : Claims). k.exit) c.known_of.ensures)
     (subst (λ (ns : List ℕ). Listing facts c.new-facts.result.items c.as_slice.result.now ns) c.as_slice-2.ensures.value c.in_ok-add_claims.ensures)) in
     record {
-      variables = c.fill.ensures.variables ∙ c.in_ok-set.ensures.variables ∙ c.in_ok-count.ensures.count;
+      variables = c.fill.ensures.variables ∙ c.in_ok-set.ensures.variables ∙ c.count_of-count.ensures.count;
       facts = λ fact. c.fill.ensures.facts fact
           ∙ ap (λ b. b || is_listed c.as_slice-3.result.now fact) (c.in_ok-set.ensures.facts fact)
           ∙ ap (λ (fs : List Fact). is_listed fs fact) c.as_slice-3.ensures.value
-          ∙ listed_claims c.in_ok-count.count names c.in_ok-names.ensures.each bytes c.in_ok-names.ensures.long facts are fact
-          ∙ ap (λ m. claims m bytes fact) c.in_ok-count.ensures.count;
+          ∙ listed_claims c.count_of-count.result names c.in_ok-names.ensures.each bytes c.in_ok-names.ensures.long facts are fact
+          ∙ ap (λ m. claims m bytes fact) c.count_of-count.ensures.count;
     }
