@@ -2,6 +2,7 @@ pub mod Beginning
 pub mod Steps
 pub mod Trust
 pub mod Comings
+pub mod Far
 pub mod Growing
 pub mod Endings
 pub mod Starts

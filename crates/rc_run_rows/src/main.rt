@@ -23,7 +23,13 @@ use rc_row_files::compare_files;
 use row::Row;
 use std::process::ExitCode;
 
-const FILES: [&str; 4] = ["ends.rows", "stale.rows", "outside.rows", "programs.rows"];
+const FILES: [&str; 5] = [
+    "ends.rows",
+    "rounds.rows",
+    "stale.rows",
+    "outside.rows",
+    "programs.rows",
+];
 
 fn main(rt: HostRuntime) -> ExitCode {
     compare_files::<Row>(&rt, &FILES)
