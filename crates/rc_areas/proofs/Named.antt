@@ -10,8 +10,8 @@ use Rattle.rc_core.specs.declared.layout.CellKind.{CellKind}
 use Rattle.rc_core.specs.declared.layout.Layout.{Layout}
 use Rattle.rc_core.specs.declared.layouts.Kind.{Kind}
 use Rattle.rc_core.specs.declared.layouts.Kind.TheVariants.{Number, Region, Pointer}
-use Rattle.rc_core.specs.Laid.{kind_of}
-use Rattle.rc_core.specs.Shapes.{kind_of as cell_kind_of, kinds_in}
+use Rattle.rc_core.specs.Laid.{held_kind}
+use Rattle.rc_core.specs.Shapes.{cell_kind_of, kinds_in}
 use Rattle.rc_areas.specs.Naming.{kind_byte, name_of}
 use Rattle.rc_areas.specs.Shapes.{Shape, has_shape, is_kind, is_shape}
 use Rattle.rc_areas.proofs.Same.{same_shape}
@@ -88,10 +88,10 @@ alike a b i last long same = sym (shape_again a) ∙ ap (map byte_kind) (whole a
     whole s n is = sym (take-length (name_of s)) ∙ ap (λ k. take k (name_of s)) (length-map s kind_byte ∙ sym is)
 
 -- the kind of a layout's cell among those of its shape
-pub kind_among : (layout : Layout) (cells : List CellKind) (i : ℕ) (cell : CellKind) → cells ≡ layout.cells.items → i < length cells → cell ≡ get_or cells i cell → get_or (map kind_of (kinds_in layout)) i Number ≡ kind_of (cell_kind_of cell)
+pub kind_among : (layout : Layout) (cells : List CellKind) (i : ℕ) (cell : CellKind) → cells ≡ layout.cells.items → i < length cells → cell ≡ get_or cells i cell → get_or (map held_kind (kinds_in layout)) i Number ≡ held_kind (cell_kind_of cell)
 kind_among layout cells i cell same there is =
     let kinds = map cell_kind_of cells in
     let long = length-map cells cell_kind_of in
-    ap (λ cs. get_or (map kind_of (map cell_kind_of cs)) i Number) (sym same)
-    ∙ get_or-map kind_of kinds i (cell_kind_of cell) Number (omega (arith, there, long))
-    ∙ ap kind_of (get_or-map cell_kind_of cells i cell (cell_kind_of cell) there ∙ ap cell_kind_of (sym is))
+    ap (λ cs. get_or (map held_kind (map cell_kind_of cs)) i Number) (sym same)
+    ∙ get_or-map held_kind kinds i (cell_kind_of cell) Number (omega (arith, there, long))
+    ∙ ap held_kind (get_or-map cell_kind_of cells i cell (cell_kind_of cell) there ∙ ap cell_kind_of (sym is))

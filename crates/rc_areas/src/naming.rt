@@ -1,8 +1,8 @@
 // The names of shapes.
 ghost use Rattle.std.specs.Prelude.{◌≡◌, ◌↔◌, map, IfOk, IsTrue};
-ghost use Rattle.rc_core.specs.Laid.{kind_of};
+ghost use Rattle.rc_core.specs.Laid.{held_kind};
 ghost use Rattle.rc_core.specs.Shapes.{kinds_in};
-ghost use Rattle.rc_core.specs.Shapes.{kind_of as cell_kind_of};
+ghost use Rattle.rc_core.specs.Shapes.{cell_kind_of};
 ghost use Rattle.rc_core.specs.declared.layouts.Kind.TheVariants.{Number, Region, Pointer};
 ghost use Rattle.rc_areas.specs.Naming.{kind_byte, name_of, note_byte};
 ghost use Rattle.rc_areas.specs.Shapes.{is_kind};
@@ -38,7 +38,7 @@ fn kind_byte(kind: Kind) -> u8
 /// Whether a layout's cell holds a number.
 #[inline(always)]
 fn is_number(cell: &CellKind) -> bool
-    ensures { result ≡ is_kind Number (kind_of (cell_kind_of cell.now)) }
+    ensures { result ≡ is_kind Number (held_kind (cell_kind_of cell.now)) }
 {
     match cell {
         CellKind::Int => true,
@@ -52,7 +52,7 @@ fn is_number(cell: &CellKind) -> bool
 /// Whether a layout's cell holds a region.
 #[inline(always)]
 fn is_region(cell: &CellKind) -> bool
-    ensures { result ≡ is_kind Region (kind_of (cell_kind_of cell.now)) }
+    ensures { result ≡ is_kind Region (held_kind (cell_kind_of cell.now)) }
 {
     match cell {
         CellKind::Int => false,
@@ -66,7 +66,7 @@ fn is_region(cell: &CellKind) -> bool
 /// Whether a layout's cell holds a pointer with this annotation.
 #[inline(always)]
 fn is_pointer(cell: &CellKind, note: Note) -> bool
-    ensures { result ≡ is_kind (Pointer note) (kind_of (cell_kind_of cell.now)) }
+    ensures { result ≡ is_kind (Pointer note) (held_kind (cell_kind_of cell.now)) }
 {
     match cell {
         CellKind::Int => false,
@@ -79,7 +79,7 @@ fn is_pointer(cell: &CellKind, note: Note) -> bool
 
 /// The name of a layout's shape: a byte for each cell of an element.
 pub(crate) fn name_of(alloc: Global, layout: &Layout) -> Result<Vec<u8>, NoMemory>
-    ensures { IfOk result (λ name. name.items ≡ name_of (map kind_of (kinds_in layout.now))) }
+    ensures { IfOk result (λ name. name.items ≡ name_of (map held_kind (kinds_in layout.now))) }
 {
     let mut name = Vec::new(alloc);
     for cell in layout.cells.as_slice() {
@@ -94,7 +94,7 @@ pub(crate) fn name_of(alloc: Global, layout: &Layout) -> Result<Vec<u8>, NoMemor
 /// Whether a kind is that of a layout's cell.
 #[inline(always)]
 fn is_kind_of(kind: Kind, cell: &CellKind) -> bool
-    ensures { result ≡ is_kind kind (kind_of (cell_kind_of cell.now)) }
+    ensures { result ≡ is_kind kind (held_kind (cell_kind_of cell.now)) }
 {
     match kind {
         Kind::Number => is_number(cell),
@@ -105,7 +105,7 @@ fn is_kind_of(kind: Kind, cell: &CellKind) -> bool
 
 /// Whether a shape is that of a layout.
 pub(crate) fn is_of(shape: &[Kind], layout: &Layout) -> bool
-    ensures { IsTrue result ↔ (shape.now ≡ map kind_of (kinds_in layout.now)) }
+    ensures { IsTrue result ↔ (shape.now ≡ map held_kind (kinds_in layout.now)) }
 {
     let cells = layout.cells.as_slice();
     if shape.len() != cells.len() {

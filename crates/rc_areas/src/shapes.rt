@@ -1,7 +1,7 @@
 // The shapes that objects have.
 ghost use Rattle.std.specs.Prelude.{◌≡◌, ◌<◌, [], ◌∷◌, ◌++◌, Some, None, length, map, IfOk, OnOk, OnErr, slice_get, slice_index_or};
 ghost use Rattle.rc_core.specs.declared.layouts.Kind.TheVariants.{Number as NumberKind};
-ghost use Rattle.rc_core.specs.Laid.{kind_of};
+ghost use Rattle.rc_core.specs.Laid.{held_kind};
 ghost use Rattle.rc_core.specs.Shapes.{kinds_in};
 ghost use Rattle.rc_scope.specs.Names.{place_of};
 ghost use Rattle.rc_areas.specs.Naming.{name_of};
@@ -29,7 +29,7 @@ struct Shape {
 impl Shape {
     /// The shape of a layout.
     fn of(alloc: Global, layout: &Layout) -> Result<Shape, NoMemory>
-        ensures kinds { IfOk result (λ shape. items_of shape ≡ map kind_of (kinds_in layout.now)) }
+        ensures kinds { IfOk result (λ shape. items_of shape ≡ map held_kind (kinds_in layout.now)) }
         ensures counts { IfOk result (λ shape. IsMarked shape) }
     {
         let kinds = kinds_of(alloc, layout)?;
@@ -121,8 +121,8 @@ impl Shapes {
     ///
     /// Out of memory: nothing has changed.
     pub fn number(&mut self, layout: &Layout) -> Result<u32, NoMemory>
-        ensures number { IfOk result (λ n. slice_get self.new n ≡ Some (map kind_of (kinds_in layout.now))) }
-        ensures shapes { OnOk result (self.new ≡ with_shape (map kind_of (kinds_in layout.now)) self.old) }
+        ensures number { IfOk result (λ n. slice_get self.new n ≡ Some (map held_kind (kinds_in layout.now))) }
+        ensures shapes { OnOk result (self.new ≡ with_shape (map held_kind (kinds_in layout.now)) self.old) }
         ensures err { OnErr result (self.new ≡ self.old) }
     {
         let last = self.last;
@@ -136,8 +136,8 @@ impl Shapes {
 
     /// The same, by the shape's name.
     fn find_or_add(&mut self, layout: &Layout) -> Result<u32, NoMemory>
-        ensures number { IfOk result (λ n. slice_get self.new n ≡ Some (map kind_of (kinds_in layout.now))) }
-        ensures shapes { OnOk result (self.new ≡ with_shape (map kind_of (kinds_in layout.now)) self.old) }
+        ensures number { IfOk result (λ n. slice_get self.new n ≡ Some (map held_kind (kinds_in layout.now))) }
+        ensures shapes { OnOk result (self.new ≡ with_shape (map held_kind (kinds_in layout.now)) self.old) }
         ensures err { OnErr result (self.new ≡ self.old) }
     {
         let name = name_of(self.alloc, layout)?;
@@ -149,10 +149,10 @@ impl Shapes {
 
     /// Puts a new shape behind all others.
     fn add(&mut self, layout: &Layout, name: &[u8]) -> Result<u32, NoMemory>
-        requires name { name.now ≡ name_of (map kind_of (kinds_in layout.now)) }
+        requires name { name.now ≡ name_of (map held_kind (kinds_in layout.now)) }
         requires is_new { place_of (map name_of self.old) name.now ≡ None }
-        ensures number { IfOk result (λ n. slice_get self.new n ≡ Some (map kind_of (kinds_in layout.now))) }
-        ensures shapes { OnOk result (self.new ≡ self.old ++ map kind_of (kinds_in layout.now) ∷ []) }
+        ensures number { IfOk result (λ n. slice_get self.new n ≡ Some (map held_kind (kinds_in layout.now))) }
+        ensures shapes { OnOk result (self.new ≡ self.old ++ map held_kind (kinds_in layout.now) ∷ []) }
         ensures err { OnErr result (self.new ≡ self.old) }
     {
         let number = self.shapes.len();

@@ -125,7 +125,7 @@ allocated_refs s q n r kinds live =
     omega (arith, changed, ap (λ m. cond (nat_eq q r) 0 m) same)
 
 written_refs : (s : KeptStore) (p : Place) (v : Value) (r : ℕ) → IsThere s p
-    → refs (S.written p v s) r + cell_refs r p.pointer.region (S.kind_at s p) (S.value_at s p) ≡ refs s r + cell_refs r p.pointer.region (S.kind_at s p) v
+    → refs (S.written p v s) r + cell_refs r p.pointer.region (S.kind_at s p) (S.kept_value s p) ≡ refs s r + cell_refs r p.pointer.region (S.kind_at s p) v
 written_refs s p v r there =
     let q = p.pointer.region in
     let objects = objects_in s.regions q in
@@ -133,7 +133,7 @@ written_refs s p v r there =
     let changed = objects_changed r q s.regions (S.objects_with p.pointer.object p.pointer.index p.cell v objects) there.place.live in
     let values = values_changed r o.kinds o.values (cell_place o p.pointer.index p.cell) v there.kind there.value in
     let sums = sum_by-set (object_refs r) objects p.pointer.object (object_with p.pointer.index p.cell v o) no_object there.place.object in
-    let all : sum_by (object_refs r) (S.objects_with p.pointer.object p.pointer.index p.cell v objects) + one r (S.kind_at s p) (S.value_at s p) ≡ sum_by (object_refs r) objects + one r (S.kind_at s p) v = omega (arith, values, sums) in
+    let all : sum_by (object_refs r) (S.objects_with p.pointer.object p.pointer.index p.cell v objects) + one r (S.kind_at s p) (S.kept_value s p) ≡ sum_by (object_refs r) objects + one r (S.kind_at s p) v = omega (arith, values, sums) in
     let both = cond_plus (nat_eq q r) _ _ _ _ all in
     omega (arith, changed, both)
 

@@ -4,7 +4,7 @@ use Rattle.rc_core.specs.declared.layouts.Kind.{Kind}
 use Rattle.rc_core.specs.Heap.{Value, names}
 use Rattle.rc_store.specs.declared.cell.Place.{Place}
 use Rattle.rc_store.specs.Kept.{KeptStore, refs, view_refs}
-use Rattle.rc_store.specs.Stores.{HasPlace, IsLive, all_cells, allocated, at_place, cell_place, cells_in, deleted, kind_at, made, region_at, value_at, written}
+use Rattle.rc_store.specs.Stores.{HasPlace, IsLive, all_cells, allocated, at_place, cell_place, cells_in, deleted, kind_at, made, region_at, kept_value, written}
 use Rattle.rc_store.specs.Values.{is_counted}
 
 -- the references of one cell to r: none where it lies in r itself
@@ -21,7 +21,7 @@ pub record ReferencesFollow : Type 0 where
   pub made : (s : KeptStore) (parent r : ℕ) → refs (made parent s) r ≡ refs s r
   pub allocated : (s : KeptStore) (q n r : ℕ) (kinds : List Kind) → IsLive s q → refs (allocated q kinds n s) r ≡ refs s r
   pub written : (s : KeptStore) (p : Place) (v : Value) (r : ℕ) → IsThere s p
-      → refs (written p v s) r + cell_refs r p.pointer.region (kind_at s p) (value_at s p) ≡ refs s r + cell_refs r p.pointer.region (kind_at s p) v
+      → refs (written p v s) r + cell_refs r p.pointer.region (kind_at s p) (kept_value s p) ≡ refs s r + cell_refs r p.pointer.region (kind_at s p) v
   pub others : (s : KeptStore) (d r : ℕ) → d < length s.regions → r ≢ d → refs (deleted d s) r + view_refs r (region_at s.regions d) ≡ refs s r
   pub own : (s : KeptStore) (d : ℕ) → d < length s.regions → refs (deleted d s) d ≡ refs s d
   pub few : (s : KeptStore) (r : ℕ) → refs s r ≤ all_cells s + length s.pins

@@ -6,7 +6,7 @@ use Rattle.rc_core.specs.declared.layout.CellKind.{CellKind as CodeKind}
 use Rattle.rc_core.specs.Types.{CellKind}
 use Rattle.rc_core.specs.Layout.{Layout, copies, field_cells, fields_cells}
 use Rattle.rc_core.specs.declared.parts.Field.{Field as CodeField}
-use Rattle.rc_core.specs.Shapes.{kind_of, ty_of, field_of}
+use Rattle.rc_core.specs.Shapes.{cell_kind_of, ty_of, field_of}
 
 -- one more of the cells that are copied
 again : (k0 k : Layout) (start at : ℕ) (x d : CellKind) → k ≡ k0 ++ take (at - start) (drop start k0) → start ≤ at → at < length k0 → x ≡ get_or k at d → k ++ x ∷ [] ≡ k0 ++ take (at + 1 - start) (drop start k0)
@@ -21,11 +21,11 @@ again k0 k start at x d e s h q =
     ∙ append_assoc k0 (take (at - start) (drop start k0)) (x ∷ [])
     ∙ ap (λ c. k0 ++ c) (ap (λ y. take (at - start) (drop start k0) ++ y ∷ []) v ∙ sym (take_more (drop start k0) (at - start) d l) ∙ ap (λ i. take i (drop start k0)) (sym n))
 
-pub again_step : (old items new : List CodeKind) (start at : ℕ) (kind copy : CodeKind) → map kind_of items ≡ map kind_of old ++ take (at - start) (drop start (map kind_of old)) → start ≤ at → at < length old → length old ≤ length items → kind ≡ slice_index_or items at kind → kind_of copy ≡ kind_of kind → new ≡ items ++ copy ∷ [] → (map kind_of new ≡ map kind_of old ++ take (at + 1 - start) (drop start (map kind_of old))) × (length old ≤ length new)
+pub again_step : (old items new : List CodeKind) (start at : ℕ) (kind copy : CodeKind) → map cell_kind_of items ≡ map cell_kind_of old ++ take (at - start) (drop start (map cell_kind_of old)) → start ≤ at → at < length old → length old ≤ length items → kind ≡ slice_index_or items at kind → cell_kind_of copy ≡ cell_kind_of kind → new ≡ items ++ copy ∷ [] → (map cell_kind_of new ≡ map cell_kind_of old ++ take (at + 1 - start) (drop start (map cell_kind_of old))) × (length old ≤ length new)
 again_step old items new start at kind copy e s h l r c n =
-    let v : kind_of copy ≡ get_or (map kind_of items) at (kind_of kind) = c ∙ ap kind_of r ∙ sym (get_or-map kind_of items at kind (kind_of kind) (omega arith)) in
-    let m : at < length (map kind_of old) = omega (arith, length-map old kind_of) in (
-      ap (map kind_of) n ∙ map_push kind_of items copy ∙ again (map kind_of old) (map kind_of items) start at (kind_of copy) (kind_of kind) e s m v,
+    let v : cell_kind_of copy ≡ get_or (map cell_kind_of items) at (cell_kind_of kind) = c ∙ ap cell_kind_of r ∙ sym (get_or-map cell_kind_of items at kind (cell_kind_of kind) (omega arith)) in
+    let m : at < length (map cell_kind_of old) = omega (arith, length-map old cell_kind_of) in (
+      ap (map cell_kind_of) n ∙ map_push cell_kind_of items copy ∙ again (map cell_kind_of old) (map cell_kind_of items) start at (cell_kind_of copy) (cell_kind_of kind) e s m v,
       rw n (omega (arith, length-append items (copy ∷ []))),
     )
 
@@ -42,11 +42,11 @@ repeated k0 k new start end at s e o h q =
     ∙ append_assoc k0 (copies (Some (at - 1)) (drop start k0)) (drop start k0)
     ∙ ap (λ c. k0 ++ c) (copies-end (at - 1) (drop start k0) ∙ ap (λ i. copies (Some i) (drop start k0)) n)
 
-pub repeat_step : (old items new : List CodeKind) (start end at : ℕ) → start ≤ length old → end ≡ length old → 1 ≤ at → map kind_of items ≡ map kind_of old ++ copies (Some (at - 1)) (drop start (map kind_of old)) → length old ≤ length items → map kind_of new ≡ map kind_of items ++ take (end - start) (drop start (map kind_of items)) → (map kind_of new ≡ map kind_of old ++ copies (Some (at + 1 - 1)) (drop start (map kind_of old))) × (length old ≤ length new)
+pub repeat_step : (old items new : List CodeKind) (start end at : ℕ) → start ≤ length old → end ≡ length old → 1 ≤ at → map cell_kind_of items ≡ map cell_kind_of old ++ copies (Some (at - 1)) (drop start (map cell_kind_of old)) → length old ≤ length items → map cell_kind_of new ≡ map cell_kind_of items ++ take (end - start) (drop start (map cell_kind_of items)) → (map cell_kind_of new ≡ map cell_kind_of old ++ copies (Some (at + 1 - 1)) (drop start (map cell_kind_of old))) × (length old ≤ length new)
 repeat_step old items new start end at s e o h l q =
-    let m : length (map kind_of new) ≡ length (map kind_of items) + length (take (end - start) (drop start (map kind_of items))) = ap length q ∙ length-append (map kind_of items) (take (end - start) (drop start (map kind_of items))) in (
-      repeated (map kind_of old) (map kind_of items) (map kind_of new) start end at (omega arith) (omega (arith, length-map old kind_of)) o h q,
-      omega (arith, length-map new kind_of, length-map items kind_of),
+    let m : length (map cell_kind_of new) ≡ length (map cell_kind_of items) + length (take (end - start) (drop start (map cell_kind_of items))) = ap length q ∙ length-append (map cell_kind_of items) (take (end - start) (drop start (map cell_kind_of items))) in (
+      repeated (map cell_kind_of old) (map cell_kind_of items) (map cell_kind_of new) start end at (omega arith) (omega (arith, length-map old cell_kind_of)) o h q,
+      omega (arith, length-map new cell_kind_of, length-map items cell_kind_of),
     )
 
 pub repeat_end : (k0 k : Layout) (start count : ℕ) → 1 ≤ count → k ≡ k0 ++ copies (Some (count - 1)) (drop start k0) → k ≡ take start k0 ++ copies (Some count) (drop start k0)

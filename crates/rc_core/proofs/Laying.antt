@@ -17,11 +17,11 @@ use Rattle.rc_core.proofs.ShapeRows.{shape_at}
 use Rattle.rc_core.proofs.Unwrapping.{all_inside}
 use Rattle.rc_core.specs.declared.layouts.Kind.{Kind}
 use Rattle.rc_core.specs.declared.layouts.FieldPlace.{FieldPlace}
-use Rattle.rc_core.specs.Laid.{kind_of, LaidStruct, LaidStructs, HaveCells, kinds_in, kinds_laid, place_in, place_by, stride_by, place_of, IsLaidOut, AreLaidOut}
+use Rattle.rc_core.specs.Laid.{held_kind, LaidStruct, LaidStructs, HaveCells, kinds_in, kinds_laid, place_in, place_by, stride_by, place_of, IsLaidOut, AreLaidOut}
 use Rattle.rc_core.proofs.Entries.{get_there, get_missing, got_before, got_last}
 
 -- the cells of one struct
-pub kinds_found : (layouts : List Layout) (laid : LaidStructs) → HaveCells layouts laid → (k : ℕ) → kinds_in (slice_get laid k) ≡ map kind_of (get_or layouts k [])
+pub kinds_found : (layouts : List Layout) (laid : LaidStructs) → HaveCells layouts laid → (k : ℕ) → kinds_in (slice_get laid k) ≡ map held_kind (get_or layouts k [])
 kinds_found [] [] e k = refl
 kinds_found [] (s ∷ laid) e k = absurd cc
 kinds_found (l ∷ layouts) [] e k = absurd cc
@@ -29,9 +29,9 @@ kinds_found (l ∷ layouts) (s ∷ laid) e zero = cc
 kinds_found (l ∷ layouts) (s ∷ laid) e (suc k) = let rest : HaveCells layouts laid = cc in kinds_found layouts laid rest k
 
 -- copies of cells that are kept
-pub copies_kept : (n : ℕ) (layout : Layout) → map kind_of (copies (Some n) layout) ≡ flat_map (λ copy. copy) (replicate n (map kind_of layout))
+pub copies_kept : (n : ℕ) (layout : Layout) → map held_kind (copies (Some n) layout) ≡ flat_map (λ copy. copy) (replicate n (map held_kind layout))
 copies_kept zero layout = refl
-copies_kept (suc n) layout = map-append kind_of layout (copies (Some n) layout) ∙ ap (λ c. map kind_of layout ++ c) (copies_kept n layout)
+copies_kept (suc n) layout = map-append held_kind layout (copies (Some n) layout) ∙ ap (λ c. map held_kind layout ++ c) (copies_kept n layout)
 
 -- where the fields lie that stand behind so many cells
 abbrev pub places_from : List Layout → ℕ → List Field → List FieldPlace
@@ -68,9 +68,9 @@ place_found layouts at (f ∷ fs) (suc k) =
     ∙ ap (λ (n : ℕ). let p : FieldPlace = record { offset = n; count = count_in (slice_get fs k); stride = stride_by layouts (slice_get fs k) } in p) (sym (more (take k fs)))
 
 -- a struct that is laid out as a whole
-pub laid_out : (layouts : List Layout) (fields : List Field) (s : LaidStruct) → s.kinds ≡ map kind_of (fields_cells layouts fields) → s.places ≡ places_from layouts 0 fields → IsLaidOut layouts fields s
+pub laid_out : (layouts : List Layout) (fields : List Field) (s : LaidStruct) → s.kinds ≡ map held_kind (fields_cells layouts fields) → s.places ≡ places_from layouts 0 fields → IsLaidOut layouts fields s
 laid_out layouts fields s kinds places =
-    let n : length s.kinds ≡ 0 + length (fields_cells layouts fields) = ap length kinds ∙ length-map (fields_cells layouts fields) kind_of ∙ omega arith in
+    let n : length s.kinds ≡ 0 + length (fields_cells layouts fields) = ap length kinds ∙ length-map (fields_cells layouts fields) held_kind ∙ omega arith in
     let zero_more : (m : ℕ) → 0 + m ≡ m = λ m. omega arith in
     record {
       cells = kinds;
@@ -123,19 +123,19 @@ place_agrees a b n k fields h e =
 
 -- fields one after another
 pub record Laying (layouts : List Layout) (fields : List Field) (kinds : List Kind) (places : List FieldPlace) : Type 0 where
-  pub so_far : kinds ≡ map kind_of (fields_cells layouts fields)
+  pub so_far : kinds ≡ map held_kind (fields_cells layouts fields)
   pub places_so_far : places ≡ places_from layouts 0 fields
 
 cells_more : (layouts : List Layout) (fields : List Field) (f : Field) → fields_cells layouts (fields ++ f ∷ []) ≡ fields_cells layouts fields ++ field_cells layouts f
 cells_more layouts fields f = flat_map-append (field_cells layouts) fields (f ∷ []) ∙ ap (λ c. fields_cells layouts fields ++ c) (append-nil (field_cells layouts f))
 
-laying_more : (layouts : List Layout) (fields : List Field) (f : Field) (kinds one now : List Kind) (places places_now : List FieldPlace) (count : ℕ) → Laying layouts fields kinds places → one ≡ map kind_of (cells_by layouts f.ty) → count ≡ count_in (Some f) → now ≡ kinds ++ map kind_of (field_cells layouts f) → places_now ≡ places ++ record { offset = length kinds; count = count; stride = length one } ∷ [] → Laying layouts (fields ++ f ∷ []) now places_now
+laying_more : (layouts : List Layout) (fields : List Field) (f : Field) (kinds one now : List Kind) (places places_now : List FieldPlace) (count : ℕ) → Laying layouts fields kinds places → one ≡ map held_kind (cells_by layouts f.ty) → count ≡ count_in (Some f) → now ≡ kinds ++ map held_kind (field_cells layouts f) → places_now ≡ places ++ record { offset = length kinds; count = count; stride = length one } ∷ [] → Laying layouts (fields ++ f ∷ []) now places_now
 laying_more layouts fields f kinds one now places places_now count before o n e p =
-    let zero_more : length kinds ≡ 0 + length (fields_cells layouts fields) = ap length before.so_far ∙ length-map (fields_cells layouts fields) kind_of ∙ omega arith in
-    let long : length one ≡ length (cells_by layouts f.ty) = ap length o ∙ length-map (cells_by layouts f.ty) kind_of in
+    let zero_more : length kinds ≡ 0 + length (fields_cells layouts fields) = ap length before.so_far ∙ length-map (fields_cells layouts fields) held_kind ∙ omega arith in
+    let long : length one ≡ length (cells_by layouts f.ty) = ap length o ∙ length-map (cells_by layouts f.ty) held_kind in
     let one_place : ℕ → ℕ → ℕ → List FieldPlace = λ a b c. record { offset = a; count = b; stride = c } ∷ [] in
     record {
-      so_far = e ∙ ap (λ c. c ++ map kind_of (field_cells layouts f)) before.so_far ∙ sym (map-append kind_of (fields_cells layouts fields) (field_cells layouts f)) ∙ ap (map kind_of) (sym (cells_more layouts fields f));
+      so_far = e ∙ ap (λ c. c ++ map held_kind (field_cells layouts f)) before.so_far ∙ sym (map-append held_kind (fields_cells layouts fields) (field_cells layouts f)) ∙ ap (map held_kind) (sym (cells_more layouts fields f));
       places_so_far = p
           ∙ ap (λ ps. ps ++ one_place (length kinds) count (length one)) before.places_so_far
           ∙ ap (λ a. places_from layouts 0 fields ++ one_place a count (length one)) zero_more
@@ -144,7 +144,7 @@ laying_more layouts fields f kinds one now places places_now count before o n e 
           ∙ sym (places_more layouts 0 fields f);
     }
 
-pub field_step : (layouts : List Layout) (items : List CodeField) (i : ℕ) (f : CodeField) (kinds one now : List Kind) (places places_now : List FieldPlace) (count : ℕ) → i < length items → f ≡ get_or items i f → Laying layouts (map field_of (take i items)) kinds places → one ≡ map kind_of (cells_by layouts (ty_of f.ty)) → count ≡ count_in (Some (field_of f)) → now ≡ kinds ++ map kind_of (field_cells layouts (field_of f)) → places_now ≡ places ++ record { offset = length kinds; count = count; stride = length one } ∷ [] → Laying layouts (map field_of (take (i + 1) items)) now places_now
+pub field_step : (layouts : List Layout) (items : List CodeField) (i : ℕ) (f : CodeField) (kinds one now : List Kind) (places places_now : List FieldPlace) (count : ℕ) → i < length items → f ≡ get_or items i f → Laying layouts (map field_of (take i items)) kinds places → one ≡ map held_kind (cells_by layouts (ty_of f.ty)) → count ≡ count_in (Some (field_of f)) → now ≡ kinds ++ map held_kind (field_cells layouts (field_of f)) → places_now ≡ places ++ record { offset = length kinds; count = count; stride = length one } ∷ [] → Laying layouts (map field_of (take (i + 1) items)) now places_now
 field_step layouts items i f kinds one now places places_now count h q before o n e p =
     let more : map field_of (take (i + 1) items) ≡ map field_of (take i items) ++ field_of f ∷ [] =
     ap (map field_of) (take_more items i f h ∙ ap (λ g. take i items ++ g ∷ []) (sym q)) ∙ map_push field_of (take i items) f
@@ -169,7 +169,7 @@ nothing_laid structs = record { so_far = refl; places_so_far = λ s h. absurd (o
 
 laid_length : (structs : List Struct) (n : ℕ) (laid : LaidStructs) → n ≤ length structs → HaveCells (layouts_of (take n structs)) laid → length laid ≡ n
 laid_length structs n laid h e =
-    sym (length-map laid kinds_laid) ∙ ap length e ∙ length-map (layouts_of (take n structs)) (map kind_of) ∙ layouts_length [] (take n structs) ∙ omega (arith, length-take-le n structs h)
+    sym (length-map laid kinds_laid) ∙ ap length e ∙ length-map (layouts_of (take n structs)) (map held_kind) ∙ layouts_length [] (take n structs) ∙ omega (arith, length-take-le n structs h)
 
 front_agrees : (structs : List Struct) (n : ℕ) → n ≤ length structs → Agree n (layouts_of (take n structs)) (layouts_of structs)
 front_agrees structs n h k l =
@@ -201,9 +201,9 @@ module _ (structs : List Struct) (fit : StructsFit structs) (i : ℕ) (fields : 
   cells_of_more =
       map-append kinds_laid laid (l ∷ [])
       ∙ ap (λ ks. ks ++ l.kinds ∷ []) before.so_far
-      ∙ ap (λ k. map (map kind_of) (layouts_of (take i structs)) ++ k ∷ []) is.cells
-      ∙ sym (map-append (map kind_of) (layouts_of (take i structs)) (fields_cells (layouts_of (take i structs)) fields ∷ []))
-      ∙ ap (map (map kind_of)) (sym (ap layouts_of one_more ∙ layouts_joined [] (take i structs) (fields ∷ [])))
+      ∙ ap (λ k. map (map held_kind) (layouts_of (take i structs)) ++ k ∷ []) is.cells
+      ∙ sym (map-append (map held_kind) (layouts_of (take i structs)) (fields_cells (layouts_of (take i structs)) fields ∷ []))
+      ∙ ap (map (map held_kind)) (sym (ap layouts_of one_more ∙ layouts_joined [] (take i structs) (fields ∷ [])))
 
   place_here : (k : ℕ) → place_in (slice_get (laid ++ l ∷ []) i) k ≡ place_of structs i k
   place_here k =

@@ -8,12 +8,12 @@ use Rattle.rc_core.specs.declared.layouts.Kind.TheVariants.{Number, Region, Poin
 use Rattle.rc_core.specs.declared.layouts.FieldPlace.{FieldPlace}
 
 -- what a cell holds: a pointer's target is left out
-abbrev pub kind_of : CellKind → Kind
-kind_of int_cell = Number
-kind_of unsigned_cell = Number
-kind_of char_cell = Number
-kind_of region_cell = Region
-kind_of (pointer_cell note target) = Pointer note
+abbrev pub held_kind : CellKind → Kind
+held_kind int_cell = Number
+held_kind unsigned_cell = Number
+held_kind char_cell = Number
+held_kind region_cell = Region
+held_kind (pointer_cell note target) = Pointer note
 
 -- a struct's cells, and where its fields lie, in order
 pub record LaidStruct : Type 0 where
@@ -38,7 +38,7 @@ kinds_laid s = s.kinds
 
 -- they have the cells of these layouts, in order
 abbrev pub HaveCells : List Layout → LaidStructs → Type 0
-HaveCells layouts laid = map kinds_laid laid ≡ map (map kind_of) layouts
+HaveCells layouts laid = map kinds_laid laid ≡ map (map held_kind) layouts
 
 -- where a field lies among these, where the structs inside have these layouts
 abbrev pub stride_by : List Layout → Option Field → ℕ
@@ -54,7 +54,7 @@ place_by layouts fields field = record {
 
 -- it is the struct with these fields
 pub record IsLaidOut (layouts : List Layout) (fields : List Field) (s : LaidStruct) : Type 0 where
-  pub cells : s.kinds ≡ map kind_of (fields_cells layouts fields)
+  pub cells : s.kinds ≡ map held_kind (fields_cells layouts fields)
   pub places : (field : ℕ) → place_in (Some s) field ≡ place_by layouts fields field
 
 -- where a field lies, by the definitions of layout

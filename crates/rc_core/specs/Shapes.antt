@@ -27,15 +27,15 @@ ty_of Region = region
 ty_of (Struct number) = struct number
 ty_of (Pointer' note p target) = pointer note (ty_of target)
 
-abbrev pub kind_of : CodeKind → CellKind
-kind_of IntCell = int_cell
-kind_of UnsignedCell = unsigned_cell
-kind_of CharCell = char_cell
-kind_of RegionCell = region_cell
-kind_of (PointerCell note target) = pointer_cell note (ty_of target)
+abbrev pub cell_kind_of : CodeKind → CellKind
+cell_kind_of IntCell = int_cell
+cell_kind_of UnsignedCell = unsigned_cell
+cell_kind_of CharCell = char_cell
+cell_kind_of RegionCell = region_cell
+cell_kind_of (PointerCell note target) = pointer_cell note (ty_of target)
 
 abbrev pub kinds_in : CodeLayout → Layout
-kinds_in l = map kind_of l.cells.items
+kinds_in l = map cell_kind_of l.cells.items
 
 abbrev mutual
   pub expr_of : CodeExpr → Expr

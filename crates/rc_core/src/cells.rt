@@ -2,7 +2,7 @@
 
 ghost use Rattle.std.specs.Prelude.{◌≡◌, ◌-◌, ◌<◌, ◌≤◌, ◌++◌, ◌∷◌, ℕ, [], map, length, take, drop, Option, None, Some, ◌⊎◌, IfOk, OnOk, IfSome};
 ghost use Rattle.rc_core.specs.Layout.{cells, copies, field_cells, layouts_of};
-ghost use Rattle.rc_core.specs.Shapes.{ty_of, struct_of, field_of, kinds_in, kind_of, program_of};
+ghost use Rattle.rc_core.specs.Shapes.{ty_of, struct_of, field_of, kinds_in, cell_kind_of, program_of};
 ghost use Rattle.rc_core.specs.Typing.{IsDefined};
 ghost use Rattle.rc_core.specs.Types.{struct};
 ghost use Rattle.rc_core.specs.WellTyped.{IsInside, IsLength, StructsFit};
@@ -35,7 +35,7 @@ pub fn copy_of(alloc: Global, ty: &Ty) -> Result<Ty, NoMemory>
 }
 
 fn copy_of_kind(alloc: Global, kind: &CellKind) -> Result<CellKind, NoMemory>
-    ensures { IfOk result (λ k. kind_of k ≡ kind_of kind.now) }
+    ensures { IfOk result (λ k. cell_kind_of k ≡ cell_kind_of kind.now) }
 {
     match kind {
         CellKind::Int => Ok(CellKind::Int),
@@ -64,7 +64,7 @@ fn push_again(
 ) -> Result<(), NoMemory>
     requires start { start ≤ end }
     requires end { end ≤ length kinds.old.items }
-    ensures { OnOk result (map kind_of kinds.new.items ≡ map kind_of kinds.old.items ++ take (end - start) (drop start (map kind_of kinds.old.items))) }
+    ensures { OnOk result (map cell_kind_of kinds.new.items ≡ map cell_kind_of kinds.old.items ++ take (end - start) (drop start (map cell_kind_of kinds.old.items))) }
 {
     for at in start..end {
         let kind = copy_of_kind(alloc, &kinds[at])?;
@@ -83,7 +83,7 @@ fn repeat(
 ) -> Result<(), NoMemory>
     requires started { start ≤ length kinds.old.items }
     requires counted { 1 ≤ count }
-    ensures { OnOk result (map kind_of kinds.new.items ≡ take start (map kind_of kinds.old.items) ++ copies (Some count) (drop start (map kind_of kinds.old.items))) }
+    ensures { OnOk result (map cell_kind_of kinds.new.items ≡ take start (map cell_kind_of kinds.old.items) ++ copies (Some count) (drop start (map cell_kind_of kinds.old.items))) }
 {
     let end = kinds.len();
     for _copy in 1..count {
@@ -138,7 +138,7 @@ fn push_cells(
 ) -> Result<(), NoMemory>
     requires fit { StructsFit (map struct_of structs.now) }
     requires defined { IsDefined (map struct_of structs.now) (ty_of ty.now) }
-    ensures { OnOk result (map kind_of kinds.new.items ≡ map kind_of kinds.old.items ++ cells (map struct_of structs.now) (ty_of ty.now)) }
+    ensures { OnOk result (map cell_kind_of kinds.new.items ≡ map cell_kind_of kinds.old.items ++ cells (map struct_of structs.now) (ty_of ty.now)) }
 {
     match unwrapped(structs, ty) {
         Ty::Int => push(kinds, CellKind::Int),
@@ -163,7 +163,7 @@ fn push_field(
     requires fit { StructsFit (map struct_of structs.now) }
     requires defined { IsDefined (map struct_of structs.now) (ty_of field.now.ty) }
     requires counted { IsLength field.now.length }
-    ensures { OnOk result (map kind_of kinds.new.items ≡ map kind_of kinds.old.items ++ field_cells (layouts_of (map struct_of structs.now)) (field_of field.now)) }
+    ensures { OnOk result (map cell_kind_of kinds.new.items ≡ map cell_kind_of kinds.old.items ++ field_cells (layouts_of (map struct_of structs.now)) (field_of field.now)) }
 {
     let start = kinds.len();
     push_cells(alloc, kinds, structs, &field.ty)?;
@@ -182,7 +182,7 @@ fn push_struct(
 ) -> Result<(), NoMemory>
     requires fit { StructsFit (map struct_of structs.now) }
     requires defined { number < length structs.now }
-    ensures { OnOk result (map kind_of kinds.new.items ≡ map kind_of kinds.old.items ++ cells (map struct_of structs.now) (struct number)) }
+    ensures { OnOk result (map cell_kind_of kinds.new.items ≡ map cell_kind_of kinds.old.items ++ cells (map struct_of structs.now) (struct number)) }
 {
     let fields = &structs[number as usize].fields;
     for field in fields {

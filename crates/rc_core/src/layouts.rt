@@ -2,7 +2,7 @@
 // pointer, and sizes and places are counted in cells.
 
 ghost use Rattle.std.specs.Prelude.{◌≡◌, ◌++◌, List, Some, map, option_map, slice_get, IfOk, OnOk};
-ghost use Rattle.rc_core.specs.Laid.{AreLaidOut, HaveCells, IsLaidOut, kind_of, place_in, place_of};
+ghost use Rattle.rc_core.specs.Laid.{AreLaidOut, HaveCells, IsLaidOut, held_kind, place_in, place_of};
 ghost use Rattle.rc_core.specs.Layout.{Layout, cells, cells_by, copies, count_in, size};
 ghost use Rattle.rc_core.specs.Programs.{Struct as Fields};
 ghost use Rattle.rc_core.specs.Shapes.{field_of, struct_of, ty_of};
@@ -92,7 +92,7 @@ fn layout_at(layouts: &[StructLayout], structure: u32) -> Option<&StructLayout>
 
 /// The cells of a type, where the structs have these layouts.
 fn cells_by<'p>(layouts: &'p [StructLayout], ty: &Ty) -> &'p [Kind]
-    ensures { (of : List Layout) → HaveCells of layouts.now → result.now ≡ map kind_of (cells_by of (ty_of ty.now)) }
+    ensures { (of : List Layout) → HaveCells of layouts.now → result.now ≡ map held_kind (cells_by of (ty_of ty.now)) }
 {
     match ty {
         Ty::Int => &NUMBER,
@@ -118,7 +118,7 @@ fn cells_by<'p>(layouts: &'p [StructLayout], ty: &Ty) -> &'p [Kind]
 ///
 /// Out of memory.
 fn push_field(kinds: &mut Vec<Kind>, one: &[Kind], length: Option<u32>) -> Result<(), AllocError>
-    ensures { (layout : Layout) → one.now ≡ map kind_of layout → OnOk result (kinds.new.items ≡ kinds.old.items ++ map kind_of (copies length layout)) }
+    ensures { (layout : Layout) → one.now ≡ map held_kind layout → OnOk result (kinds.new.items ≡ kinds.old.items ++ map held_kind (copies length layout)) }
 {
     match length {
         None => Ok(kinds.extend_from_slice(one)?),
@@ -203,7 +203,7 @@ impl Layouts {
 
     /// The cells of a type, in order. A struct that isn't there has none.
     pub fn cells_of(&self, ty: &Ty) -> &[Kind]
-        ensures { (structs : List Fields) → AreLaidOut structs self.now → result.now ≡ map kind_of (cells structs (ty_of ty.now)) }
+        ensures { (structs : List Fields) → AreLaidOut structs self.now → result.now ≡ map held_kind (cells structs (ty_of ty.now)) }
     {
         cells_by(self.structs.as_slice(), ty)
     }

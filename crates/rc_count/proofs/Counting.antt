@@ -13,7 +13,7 @@ use Rattle.rc_core.specs.Heap.{Value, Number, Null, Handle, Pointer, fits, is_fr
 use Rattle.rc_base.specs.declared.ends.Limits.{Limits}
 use Rattle.rc_store.specs.declared.cell.Place.{Place}
 use Rattle.rc_store.specs.Kept.{KeptObject, KeptStore, KeptView, Regions, object_refs, refs, view_refs}
-use Rattle.rc_store.specs.Stores.{IsFresh, IsLive, MayStand, all_cells, allocated, cells_in, deleted, has_child, kind_at, limited, live_in, made, objects_in, or_none, parent_in, region_at, value_at, with_objects, written}
+use Rattle.rc_store.specs.Stores.{IsFresh, IsLive, MayStand, all_cells, allocated, cells_in, deleted, has_child, kind_at, limited, live_in, made, objects_in, or_none, parent_in, region_at, kept_value, with_objects, written}
 use Rattle.rc_store.specs.Values.{is_counted, note_of, suits}
 use Rattle.rc_cells.specs.Follow.{IsThere, cell_refs}
 use Rattle.rc_cells.proofs.Changes.{live_there, references_follow}
@@ -152,7 +152,7 @@ module _ (before : SpaceState) (s : KeptStore) (cells : ℕ) (counted : IsCounte
 
     pub counted_kept : (v : Value) (new : SpaceState) → MayStand s p v → note_of (kind_at s p) ≢ Plain → IsTrue (fits (parent_in s.regions) (note_of (kind_at s p)) p.pointer.region v) → ((r : ℕ) → count_of new r ≡ count_of before r) → IsCounted new (written p v s) cells
     counted_kept v new may noted fit same = record {
-      counts = λ r. omega (arith, same r, counted.counts r, references_follow.written s p v r there, noted_cell r p.pointer.region (kind_at s p) (value_at s p) noted, noted_cell r p.pointer.region (kind_at s p) v noted);
+      counts = λ r. omega (arith, same r, counted.counts r, references_follow.written s p v r there, noted_cell r p.pointer.region (kind_at s p) (kept_value s p) noted, noted_cell r p.pointer.region (kind_at s p) v noted);
       sum = counted.sum ∙ sym (cells_follow.written s p v there.place);
       few = counted.few;
       whole = stays_whole.written s p v counted.whole may fit;
@@ -160,15 +160,15 @@ module _ (before : SpaceState) (s : KeptStore) (cells : ℕ) (counted : IsCounte
 
     pub counted_number : (n : ℤ) (new : SpaceState) → IsTrue (suits (kind_at s p) (Number n)) → ((r : ℕ) → count_of new r ≡ count_of before r) → IsCounted new (written p (Number n) s) cells
     counted_number n new fit same = record {
-      counts = λ r. omega (arith, same r, counted.counts r, references_follow.written s p (Number n) r there, number_cell r p.pointer.region (kind_at s p) n (value_at s p) fit, number_cell r p.pointer.region (kind_at s p) n (Number n) fit);
+      counts = λ r. omega (arith, same r, counted.counts r, references_follow.written s p (Number n) r there, number_cell r p.pointer.region (kind_at s p) n (kept_value s p) fit, number_cell r p.pointer.region (kind_at s p) n (Number n) fit);
       sum = counted.sum ∙ sym (cells_follow.written s p (Number n) there.place);
       few = counted.few;
       whole = stays_whole.plain s p (Number n) counted.whole (record { place = there.place; fresh = refl; kind = fit }) (number_plain (kind_at s p) n fit);
     }
 
-    module _ (v old : Value) (is : old ≡ value_at s p) (plain : note_of (kind_at s p) ≡ Plain) (old_suits : IsTrue (suits (kind_at s p) (value_at s p))) (new_suits : IsTrue (suits (kind_at s p) v)) where
-      old_cell : (r : ℕ) → cell_refs r p.pointer.region (kind_at s p) (value_at s p) ≡ value_refs r p.pointer.region old
-      old_cell r = plain_cell r p.pointer.region (kind_at s p) (value_at s p) plain old_suits ∙ ap (value_refs r p.pointer.region) (sym is)
+    module _ (v old : Value) (is : old ≡ kept_value s p) (plain : note_of (kind_at s p) ≡ Plain) (old_suits : IsTrue (suits (kind_at s p) (kept_value s p))) (new_suits : IsTrue (suits (kind_at s p) v)) where
+      old_cell : (r : ℕ) → cell_refs r p.pointer.region (kind_at s p) (kept_value s p) ≡ value_refs r p.pointer.region old
+      old_cell r = plain_cell r p.pointer.region (kind_at s p) (kept_value s p) plain old_suits ∙ ap (value_refs r p.pointer.region) (sym is)
 
       new_cell : (r : ℕ) → cell_refs r p.pointer.region (kind_at s p) v ≡ value_refs r p.pointer.region v
       new_cell r = plain_cell r p.pointer.region (kind_at s p) v plain new_suits

@@ -1,7 +1,7 @@
 // A heap that counts.
 ghost use Rattle.std.specs.Prelude.{◌≡◌, ◌≢◌, ◌<◌, ◌≤◌, ◌+◌, ◌*◌, ◌++◌, ◌∷◌, [], ℕ, Some, false, length, map, IfOk, OnOk, OnErr, IsErrOf, IsTrue, ◌↔◌};
 ghost use Rattle.rc_core.specs.Heap.{Handle, fits};
-ghost use Rattle.rc_core.specs.Laid.{kind_of};
+ghost use Rattle.rc_core.specs.Laid.{held_kind};
 ghost use Rattle.rc_core.specs.Shapes.{kinds_in};
 ghost use Rattle.rc_store.specs.Kept.{refs};
 ghost use Rattle.rc_store.specs.declared.cell.Denied.TheVariants.{Reference, Root, Subregion};
@@ -125,7 +125,7 @@ impl<L: Ledger> CountHeap<L> {
         requires number { number ≡ length (objects_in self.old.regions region) }
         requires few { length (objects_in self.old.regions region) < 4294967296 }
         ensures number { IfOk result (λ o. o ≡ length (objects_in self.old.regions region)) }
-        ensures ok { OnOk result (self.new ≡ allocated region (map kind_of (kinds_in kind.now)) count self.old) }
+        ensures ok { OnOk result (self.new ≡ allocated region (map held_kind (kinds_in kind.now)) count self.old) }
         ensures err { OnErr result (self.new ≡ self.old) }
     {
         let size = size_of(count, kind.cells.len())?;

@@ -18,7 +18,7 @@ use Rattle.rc_core.specs.Execution.{with_local}
 use Rattle.rc_rlang.specs.RegionCode as From
 use Rattle.rc_rlang.specs.RegionCode.{Index, Access, width, shift_width, Operation, Act}
 use Rattle.rc_rlang.specs.RegionRuns.{Temporaries, set_kind, change_kind, with_cell, temporary, temporaries_from, chosen_from, target_shifted, target_at, at_kind, kept, kept_cell, kept_all, right_number, convert_value, Way, Next, Returned, pins_from, pinned, operation_value, new_value, cells_moved, act_run}
-use Rattle.rc_emission.specs.StackCode.{Instruction, Line, Onward, popped, value_at, chosen_values, target_of, last_of, given}
+use Rattle.rc_emission.specs.StackCode.{Instruction, Line, Onward, popped, nth_operand, chosen_values, target_of, last_of, given}
 use Rattle.rc_rlang.specs.RegionFits.{index_types, shift_types, place_types, pushed, act_types, ActFits}
 use Rattle.rc_emission.specs.OperationCode.{line_of, at, compared, count_code, convert_code, spills}
 use Rattle.rc_emission.specs.Served.{AllKept, ActKeeps}

@@ -18,7 +18,7 @@ use Rattle.rc_rlang.specs.RegionCode.{Kind, numeric, regional, kind_of, Index, A
 use Rattle.rc_rlang.specs.RegionRuns.{Temporaries, at_kind, temporary, with_temporary, temporaries_from, chosen_from, target_shifted, target_at, holds, counted, operation_value}
 use Rattle.rc_rlang.specs.RegionKinds.{signed_of}
 use Rattle.rc_emission.specs.Pieces.{stack_of}
-use Rattle.rc_emission.specs.StackCode.{Instruction, Line, popped, value_at, chosen_values, target_of, takes, Onward, given, act, walk}
+use Rattle.rc_emission.specs.StackCode.{Instruction, Line, popped, nth_operand, chosen_values, target_of, takes, Onward, given, act, walk}
 use Rattle.rc_rlang.specs.RegionFits.{index_types, shift_types, place_types, operands, pushed}
 use Rattle.rc_emission.specs.OperationCode.{line_of, at, zero_test, compared, count_code, operation_code}
 use Rattle.rc_emission.proofs.CharOfInt.{char_again}

@@ -75,8 +75,8 @@ popped (suc n) [] vs go w = Go Null w
 popped (suc n) (v ∷ stack) vs go w = popped n stack (v ∷ vs) go w
 
 -- the operand with a number, the first pushed being 0
-abbrev pub value_at : List Value → ℕ → Value
-value_at vs n = get_or vs n Null
+abbrev pub nth_operand : List Value → ℕ → Value
+nth_operand vs n = get_or vs n Null
 
 abbrev pub chosen_values : List Index → List Value → List Chosen
 chosen_values [] vs = []
@@ -126,20 +126,20 @@ module _ {W : Type 0} (ops : Ops W) (deleting : ℕ → Bool) where
   given line (null ty) calls env vs w = Go Null w
   given line (global g) calls env vs w = Go (static_value g) w
   given line (get x) calls env vs w = Go (local_at env x) w
-  given line (arithmetic operator s) calls env vs w = bind (computed line (calculate operator s (number_in (value_at vs 0)) (number_in (value_at vs 1))) w) give_number
-  given line (unary operator s) calls env vs w = bind (computed line (calculate_one operator s (number_in (value_at vs 0))) w) give_number
-  given line zero_test calls env vs w = Go (as_wanted false (is_true (value_at vs 0))) w
-  given line (null_test ty) calls env vs w = Go (as_wanted false (is_true (value_at vs 0))) w
-  given line (same ty) calls env vs w = Go (as_wanted true (same_value (value_at vs 0) (value_at vs 1))) w
-  given line (convert to) calls env vs w = Go (Number (converted to (number_in (value_at vs 0)))) w
-  given line (move ty s direction) calls env vs w = ops.step line (value_at vs 0) (toward direction (number_in (value_at vs 1))) w
+  given line (arithmetic operator s) calls env vs w = bind (computed line (calculate operator s (number_in (nth_operand vs 0)) (number_in (nth_operand vs 1))) w) give_number
+  given line (unary operator s) calls env vs w = bind (computed line (calculate_one operator s (number_in (nth_operand vs 0))) w) give_number
+  given line zero_test calls env vs w = Go (as_wanted false (is_true (nth_operand vs 0))) w
+  given line (null_test ty) calls env vs w = Go (as_wanted false (is_true (nth_operand vs 0))) w
+  given line (same ty) calls env vs w = Go (as_wanted true (same_value (nth_operand vs 0) (nth_operand vs 1))) w
+  given line (convert to) calls env vs w = Go (Number (converted to (number_in (nth_operand vs 0)))) w
+  given line (move ty s direction) calls env vs w = ops.step line (nth_operand vs 0) (toward direction (number_in (nth_operand vs 1))) w
   given line (load a) calls env vs w = ops.load line (target_of a a.shift vs) w
   given line new_region calls env vs w = ops.new_region line w
-  given line new_subregion calls env vs w = ops.new_subregion line (value_at vs 0) w
-  given line (region_of ty) calls env vs w = region_named line (value_at vs 0) w
-  given line (allocate ty layout) calls env vs w = ops.allocate line (value_at vs 0) (pos 1) layout w
-  given line (allocate_array ty layout) calls env vs w = ops.allocate line (value_at vs 0) (number_in (value_at vs 1)) layout w
-  given line putchar calls env vs w = bind (ops.put_byte (byte_of (number_in (value_at vs 0))) w) (λ _ w1. Go (Number (pos (byte_of (number_in (value_at vs 0))))) w1)
+  given line new_subregion calls env vs w = ops.new_subregion line (nth_operand vs 0) w
+  given line (region_of ty) calls env vs w = region_named line (nth_operand vs 0) w
+  given line (allocate ty layout) calls env vs w = ops.allocate line (nth_operand vs 0) (pos 1) layout w
+  given line (allocate_array ty layout) calls env vs w = ops.allocate line (nth_operand vs 0) (number_in (nth_operand vs 1)) layout w
+  given line putchar calls env vs w = bind (ops.put_byte (byte_of (number_in (nth_operand vs 0))) w) (λ _ w1. Go (Number (pos (byte_of (number_in (nth_operand vs 0))))) w1)
   given line getchar calls env vs w = bind (ops.get_byte w) give_number
   given line (call f tys pins) calls env vs w =
       branching (deleting f)
@@ -152,13 +152,13 @@ module _ {W : Type 0} (ops : Ops W) (deleting : ℕ → Bool) where
   act i calls next again stack env w = act_of i.line i.instruction
     where
       act_of : ℕ → Instruction → Run W Value
-      act_of line (set x ty) = popped 1 stack [] (λ vs rest. next 0 rest (with_local env x (kept ty (value_at vs 0))) w) w
+      act_of line (set x ty) = popped 1 stack [] (λ vs rest. next 0 rest (with_local env x (kept ty (nth_operand vs 0))) w) w
       act_of line (store a) = popped (suc (width a)) stack [] (λ vs rest. bind (ops.store line (target_of a a.shift vs) (kept a.cell (last_of vs)) w) (λ _. next 0 rest env)) w
-      act_of line (delete pins) = popped 1 stack [] (λ vs rest. bind (ops.delete line (pinned pins env) (value_at vs 0) w) (λ _. next 0 rest env)) w
+      act_of line (delete pins) = popped 1 stack [] (λ vs rest. bind (ops.delete line (pinned pins env) (nth_operand vs 0) w) (λ _. next 0 rest env)) w
       act_of line (perform f tys pins) = popped (length tys) stack [] (λ vs rest. bind (given line (call f tys pins) calls env vs w) (λ _. next 0 rest env)) w
-      act_of line (leave tys) = popped (length tys) stack [] (λ vs rest. Go (value_at vs 0) w) w
+      act_of line (leave tys) = popped (length tys) stack [] (λ vs rest. Go (nth_operand vs 0) w) w
       act_of line (jump n) = next n stack env w
-      act_of line (jump_zero n) = popped 1 stack [] (λ vs rest. branching (is_true (value_at vs 0)) (next 0 rest env) (next n rest env) w) w
+      act_of line (jump_zero n) = popped 1 stack [] (λ vs rest. branching (is_true (nth_operand vs 0)) (next 0 rest env) (next n rest env) w) w
       act_of line (back to) = bind (ops.take_turn w) (λ _. again to stack env)
       act_of line pop = popped 1 stack [] (λ vs rest. next 0 rest env w) w
       act_of line i = popped (takes i) stack [] (λ vs rest. bind (given line i calls env vs w) (λ v. next 0 (v ∷ rest) env)) w

@@ -3,7 +3,7 @@ use Rattle.std.proofs.Common.{◌≡◌, ◌<◌, ◌≤◌, ◌+◌, ◌∙◌,
 use Rattle.std.proofs.lemmas.List.{get_or-map, get_or_default, length-map, length-take-le, map-append, take_more}
 use Rattle.rc_core.specs.declared.ty.NumberType.TheVariants.{Int, Unsigned, Char}
 use Rattle.rc_core.specs.Heap.{Object}
-use Rattle.rc_core.specs.Laid.{kind_of}
+use Rattle.rc_core.specs.Laid.{held_kind}
 use Rattle.rc_core.specs.Layout.{Layout}
 use Rattle.rc_code.specs.declared.kind.Cell.{Cell}
 use Rattle.rc_code.specs.declared.kind.Cell.TheVariants as cell
@@ -49,8 +49,8 @@ global_is parts g layout elements first is count begins =
     sym (ap (λ l. kept_first l g.elements g.initial) is ∙ ap (λ n. kept_first layout n g.initial) count ∙ ap (kept_first layout elements) begins)
 
 -- one that begins with zeros and nulls is appended as it is
-pub zeros_more : (s : KeptStore) → IsAlone s → (layout : Layout) (n : ℕ) → allocated 0 (map kind_of layout) n s ≡ holding (first_of s ++ kept_first layout n initial.Zeros ∷ []) s
-zeros_more s alone layout n = one_more s alone (map kind_of layout) n ∙ sym (ap (λ o. holding (first_of s ++ o ∷ []) s) (keeps_the_store.blanks layout n))
+pub zeros_more : (s : KeptStore) → IsAlone s → (layout : Layout) (n : ℕ) → allocated 0 (map held_kind layout) n s ≡ holding (first_of s ++ kept_first layout n initial.Zeros ∷ []) s
+zeros_more s alone layout n = one_more s alone (map held_kind layout) n ∙ sym (ap (λ o. holding (first_of s ++ o ∷ []) s) (keeps_the_store.blanks layout n))
 
 -- ---- the walk
 

@@ -7,10 +7,10 @@ use Rattle.rc_core.specs.declared.layouts.Kind.{Kind}
 use Rattle.rc_core.specs.declared.layouts.Kind.TheVariants.{Number as NumberKind}
 use Rattle.rc_core.specs.declared.layout.CellKind.{CellKind}
 use Rattle.rc_core.specs.Types.{int_cell}
-use Rattle.rc_core.specs.Shapes.{kind_of as cell_kind_of}
+use Rattle.rc_core.specs.Shapes.{cell_kind_of}
 use Rattle.rc_core.specs.Heap.{Value, Number}
 use Rattle.rc_core.specs.Heap.{blank as blank_object}
-use Rattle.rc_core.specs.Laid.{kind_of}
+use Rattle.rc_core.specs.Laid.{held_kind}
 use Rattle.rc_core.specs.Layout.{Layout}
 use Rattle.rc_store.specs.Kept.{KeptObject, KeptStore, Regions, blank, kept_object}
 use Rattle.rc_store.specs.Stores.{IsLive, allocated, no_object, object_with, with_objects, written}
@@ -128,9 +128,9 @@ every_more P xs i x read p all =
     subst (λ k. Every P (take k xs)) one (every_suc P xs i x read p all)
 
 -- the kind of a layout's first cell
-pub first_cell : (items : List CellKind) (cell : CellKind) → map kind_of (map cell_kind_of items) ≡ NumberKind ∷ [] → cell ≡ get_or items 0 cell → cell_kind_of cell ≡ get_or (map cell_kind_of items) 0 int_cell
+pub first_cell : (items : List CellKind) (cell : CellKind) → map held_kind (map cell_kind_of items) ≡ NumberKind ∷ [] → cell ≡ get_or items 0 cell → cell_kind_of cell ≡ get_or (map cell_kind_of items) 0 int_cell
 first_cell items cell is read =
     let one = ap length is in
-    let same = length-map (map cell_kind_of items) kind_of in
+    let same = length-map (map cell_kind_of items) held_kind in
     let again = length-map items cell_kind_of in
     ap cell_kind_of read ∙ sym (get_or-map cell_kind_of items 0 cell int_cell (omega (arith, one, same, again)))

@@ -9,7 +9,7 @@ use Rattle.rc_core.specs.declared.layouts.Kind.TheVariants.{Number as NumberKind
 use Rattle.rc_core.specs.Types.{CellKind, int_cell, unsigned_cell, char_cell, region_cell, pointer_cell}
 use Rattle.rc_core.specs.Layout.{Layout}
 use Rattle.rc_core.specs.Layout.{note_of as cell_note_of}
-use Rattle.rc_core.specs.Laid.{kind_of}
+use Rattle.rc_core.specs.Laid.{held_kind}
 use Rattle.rc_core.specs.Heap.{Null, Object, Value, blank, fits, is_fresh, no_object, update}
 use Rattle.rc_core.specs.Heap.{kinds_of as cells_of}
 use Rattle.rc_core.specs.Source.{overwritten, place_of}
@@ -52,7 +52,7 @@ objects_kept : (v : Option View) → (Kept.or_none (option_map kept_view v)).obj
 objects_kept None = refl
 objects_kept (Some v) = refl
 
-note_kept : (k : CellKind) → note_of (kind_of k) ≡ cell_note_of k
+note_kept : (k : CellKind) → note_of (held_kind k) ≡ cell_note_of k
 note_kept int_cell = refl
 note_kept unsigned_cell = refl
 note_kept char_cell = refl
@@ -91,8 +91,8 @@ module _ (s : Store) where
       let element : p.pointer.index < o.count = omega (arith, has.cell.element, ap (λ (k : KeptObject). k.count) is) in
       let within : p.cell < length o.layout = omega (arith, has.cell.within, ap (λ (k : KeptObject). k.size) is) in
       ap (λ (k : KeptObject). note_of (get_or k.kinds (p.pointer.index * k.size + p.cell) NumberKind)) is
-      ∙ ap note_of (read_map kind_of (cells_of o) (p.pointer.index * length o.layout + p.cell) int_cell)
-      ∙ ap (λ k. note_of (kind_of k)) (kind_again o.count p.pointer.index p.cell o.layout int_cell element within)
+      ∙ ap note_of (read_map held_kind (cells_of o) (p.pointer.index * length o.layout + p.cell) int_cell)
+      ∙ ap (λ k. note_of (held_kind k)) (kind_again o.count p.pointer.index p.cell o.layout int_cell element within)
       ∙ note_kept (get_or o.layout p.cell int_cell)
 
 pub shows_the_store : ShowsTheStore
@@ -126,7 +126,7 @@ front_of_one (suc (suc n)) v some = refl
 object_changed : (o : Object) (p : Place) (v : Value) → p.cell < length o.layout
     → Kept.object_with p.pointer.index p.cell v (kept_object o) ≡ kept_object (record o { values = overwritten (place_of o (spot_of p)) (take (length o.layout - p.cell) (v ∷ [])) o.values })
 object_changed o p v within =
-    ap (λ vs. let k : KeptObject = record { size = length o.layout; count = o.count; kinds = map kind_of (cells_of o); values = vs } in k)
+    ap (λ vs. let k : KeptObject = record { size = length o.layout; count = o.count; kinds = map held_kind (cells_of o); values = vs } in k)
     (sym (ap (λ us. overwritten (place_of o (spot_of p)) us o.values) (front_of_one (length o.layout - p.cell) v (omega (arith, within))) ∙ overwritten_one (place_of o (spot_of p)) v o.values))
 
 -- a region has other objects, if it is live
@@ -143,7 +143,7 @@ changes_the_store keeps = record {
   allocated = λ s r n layout.
       ap (λ rs. let k : KeptStore = record (kept_store s) { regions = rs } in k)
       (views_changed s.regions r (λ os. os ++ blank layout n ∷ []) _
-      (ap (λ os. os ++ kept_blank (map kind_of layout) n ∷ []) (objects_are s r)
+      (ap (λ os. os ++ kept_blank (map held_kind layout) n ∷ []) (objects_are s r)
       ∙ ap (λ o. map kept_object (Model.view s r).objects ++ o ∷ []) (sym (keeps.blanks layout n))
       ∙ sym (map-append kept_object (Model.view s r).objects (blank layout n ∷ []))));
   written = λ s p v has.

@@ -4,7 +4,7 @@ use Rattle.std.specs.Prelude.{◌≡◌, ◌<◌, ℕ, List, [], ◌∷◌, map,
 use Rattle.rc_base.specs.declared.ends.Limits.{Limits}
 use Rattle.rc_core.specs.declared.layouts.Kind.TheVariants.{Number as NumberKind}
 use Rattle.rc_core.specs.Heap.{blank}
-use Rattle.rc_core.specs.Laid.{kind_of}
+use Rattle.rc_core.specs.Laid.{held_kind}
 use Rattle.rc_core.specs.Layout.{Layout}
 use Rattle.rc_code.specs.declared.image.Global.{Global}
 use Rattle.rc_code.specs.declared.image.Initial.{Initial}
@@ -34,7 +34,7 @@ IsAlone s = s ≡ holding (first_of s) s
 
 -- one cell, which is a number
 abbrev pub IsNumber : Layout → Type 0
-IsNumber layout = map kind_of layout ≡ NumberKind ∷ []
+IsNumber layout = map held_kind layout ≡ NumberKind ∷ []
 
 -- an object with its first values; that of a global, and those of all
 abbrev pub kept_first : Layout → (elements : ℕ) → Initial → KeptObject

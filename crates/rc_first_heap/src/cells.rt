@@ -1,7 +1,7 @@
 // The first values of number cells.
 ghost use Rattle.std.specs.Prelude.{◌≡◌, ◌≤◌};
 ghost use Rattle.rc_core.specs.Heap.{Number};
-ghost use Rattle.rc_core.specs.Shapes.{kind_of};
+ghost use Rattle.rc_core.specs.Shapes.{cell_kind_of};
 ghost use Rattle.rc_code.specs.ImageMeaning.{first_number};
 ghost use Rattle.rc_store.specs.Stores.{written};
 ghost use Rattle.rc_first_heap.specs.First.{HasNumber, place_of};
@@ -13,7 +13,7 @@ use rc_store::{Cell, Heap, Place, Pointer};
 
 /// The number that a cell begins with: an image has it modulo 2^32.
 pub(crate) fn first_number(cell: &CellKind, n: u32) -> i64
-    ensures { result ≡ first_number (kind_of cell.now) n }
+    ensures { result ≡ first_number (cell_kind_of cell.now) n }
 {
     match cell {
         CellKind::Int => i64::from(as_int(i64::from(n))),

@@ -1,6 +1,6 @@
 // The layouts of an image's types.
 ghost use Rattle.std.specs.Prelude.{◌≡◌, IfOk, map};
-ghost use Rattle.rc_core.specs.Shapes.{kind_of, kinds_in};
+ghost use Rattle.rc_core.specs.Shapes.{cell_kind_of, kinds_in};
 ghost use Rattle.rc_code.specs.Running.{cell_kind, layout_of};
 
 use rc_base::NoMemory;
@@ -15,7 +15,7 @@ use std::alloc::Global;
 ///
 /// Out of memory.
 fn cell_kind(cell: Cell) -> CellKind
-    ensures { kind_of result ≡ cell_kind cell }
+    ensures { cell_kind_of result ≡ cell_kind cell }
 {
     match cell {
         Cell::Number(NumberType::Int) => CellKind::Int,

@@ -4,7 +4,7 @@ ghost use Rattle.rc_core.specs.Programs.{Struct};
 ghost use Rattle.rc_core.specs.Shapes.{ty_of};
 ghost use Rattle.rc_core.specs.Layout.{Layout, note_of, cells as cells_of_type};
 ghost use Rattle.rc_core.specs.Types.{CellKind, struct};
-ghost use Rattle.rc_core.specs.Laid.{kind_of};
+ghost use Rattle.rc_core.specs.Laid.{held_kind};
 ghost use Rattle.rc_rlang.specs.RegionCode.{Routine, width};
 ghost use Rattle.rc_rlang.specs.RegionFlow.{act_nodes, cell_effects, change_effects, in_line, if_regional, nothing, beside, looked_at, moved, one_of, is_regional as is_regional_type, is_regional_cell, loading, storing, loaded_value, stored_value, local_variable, returned_variable, returning, temporary_variable};
 ghost use Rattle.rc_rlang.specs.Points.{change_points};
@@ -84,7 +84,7 @@ fn step_cell(
 /// The annotation of a cell among those of a struct.
 #[tactic(auto, using(crate::proofs::Walking::mapped_get))]
 fn note_at(kinds: &[Kind], i: usize) -> Note
-    ensures { (layout : Layout) (cell : CellKind) → kinds.now ≡ map kind_of layout → slice_get layout i ≡ Some cell → result ≡ note_of cell }
+    ensures { (layout : Layout) (cell : CellKind) → kinds.now ≡ map held_kind layout → slice_get layout i ≡ Some cell → result ≡ note_of cell }
 {
     match kinds.get(i) {
         None => Note::Plain,
@@ -95,7 +95,7 @@ fn note_at(kinds: &[Kind], i: usize) -> Note
 /// Whether a cell among those of a struct is a region or a pointer.
 #[tactic(auto, using(crate::proofs::Walking::mapped_get))]
 fn regional_at(kinds: &[Kind], i: usize) -> bool
-    ensures { (layout : Layout) (cell : CellKind) → kinds.now ≡ map kind_of layout → slice_get layout i ≡ Some cell → result ≡ is_regional_cell cell }
+    ensures { (layout : Layout) (cell : CellKind) → kinds.now ≡ map held_kind layout → slice_get layout i ≡ Some cell → result ≡ is_regional_cell cell }
 {
     match kinds.get(i) {
         None => false,
@@ -133,7 +133,7 @@ fn cells(
     here: u32,
     next: u32,
 ) -> Result<(), NoMemory>
-    ensures { (f : Routine) (v l : _) (layout : Layout) → holders.value ≡ temporary_variable f v → holders.from ≡ temporary_variable f l → holders.to ≡ temporary_variable f 0 → kinds.now ≡ map kind_of layout →
+    ensures { (f : Routine) (v l : _) (layout : Layout) → holders.value ≡ temporary_variable f v → holders.from ≡ temporary_variable f l → holders.to ≡ temporary_variable f 0 → kinds.now ≡ map held_kind layout →
         OnOk result (nodes_of out.new.items ≡ nodes_of out.old.items ++ in_line (cell_effects f v l layout) here next) }
 {
     let mut at = here;

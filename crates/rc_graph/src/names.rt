@@ -1,7 +1,7 @@
 // The numbers of a function's region variables.
 ghost use Rattle.std.specs.Prelude.{◌≡◌, ◌+◌, ℕ, List, IfOk, map, length, take, get_or, count_by};
 ghost use Rattle.rc_core.specs.Layout.{note_of};
-ghost use Rattle.rc_core.specs.Laid.{kind_of};
+ghost use Rattle.rc_core.specs.Laid.{held_kind};
 ghost use Rattle.rc_core.specs.Shapes.{ty_of};
 ghost use Rattle.rc_core.specs.Types.{CellKind};
 ghost use Rattle.rc_rlang.specs.RegionCode.{Routine};
@@ -58,7 +58,7 @@ pub fn note_in(ty: &Ty) -> Note
 
 /// The annotation of a cell.
 pub fn cell_note(kind: &Kind) -> Note
-    ensures { (cell : CellKind) → kind.now ≡ kind_of cell → result ≡ note_of cell }
+    ensures { (cell : CellKind) → kind.now ≡ held_kind cell → result ≡ note_of cell }
 {
     match kind {
         Kind::Number => Note::Plain,
@@ -69,7 +69,7 @@ pub fn cell_note(kind: &Kind) -> Note
 
 /// Whether a cell of this kind is a region or a pointer.
 pub fn is_regional_kind(kind: &Kind) -> bool
-    ensures { (cell : CellKind) → kind.now ≡ kind_of cell → result ≡ is_regional_cell cell }
+    ensures { (cell : CellKind) → kind.now ≡ held_kind cell → result ≡ is_regional_cell cell }
 {
     match kind {
         Kind::Number => false,

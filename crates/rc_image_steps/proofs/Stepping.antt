@@ -16,7 +16,7 @@ use Rattle.rc_code.specs.declared.instruction.Instruction.{Instruction}
 use Rattle.rc_code.specs.declared.instruction.Instruction.TheVariants as instruction
 use Rattle.rc_code.specs.declared.image.Function.{Function}
 use Rattle.rc_code.specs.Running.{Reading, path_at, cell_at, function_at}
-use Rattle.rc_code.specs.Soundness.{ArePins, Kind, IsFine, Names, Operands, is_regional, count_off, takes, instruction_at, kind_of, kinds_before, parameter_kinds}
+use Rattle.rc_code.specs.Soundness.{ArePins, Kind, IsFine, Names, Operands, is_regional, count_off, takes, instruction_at, operand_kind, kinds_before, parameter_kinds}
 use Rattle.rc_claims.specs.declared.proofs.Proofs.{Proofs}
 use Rattle.rc_claims.specs.Counts.{copies, place, regionals}
 use Rattle.rc_sealed.specs.ImageVariables.{result_variable, scratch, variables}
@@ -48,7 +48,7 @@ call_room image f at g pins fine e =
     let k1 = ap length o.1 ∙ length-append (takes image f (instruction.Call g pins)) o.0 in
     let k2 = length-drop (count_off image f (instruction_at f at)) kinds in
     let k3 : count_off image f (instruction_at f at) ≡ length (takes image f (instruction.Call g pins)) = ap (count_off image f) e in
-    let k4 : length (takes image f (instruction.Call g pins)) ≡ length (take to.parameters to.locals) = length-reverse (parameter_kinds to) ∙ length-map (take to.parameters to.locals) kind_of in
+    let k4 : length (takes image f (instruction.Call g pins)) ≡ length (take to.parameters to.locals) = length-reverse (parameter_kinds to) ∙ length-map (take to.parameters to.locals) operand_kind in
     let k5 = length-take to.parameters (regionals to) in
     let k6 = length-take to.parameters to.locals in
     let k7 : length (regionals to) ≡ length to.locals = length-map to.locals is_regional in

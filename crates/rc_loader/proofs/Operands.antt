@@ -16,7 +16,7 @@ use Rattle.rc_code.specs.declared.image.Function.{Function}
 use Rattle.rc_code.specs.declared.image.Parts.{Parts}
 use Rattle.rc_code.specs.Image.{cells_at}
 use Rattle.rc_code.specs.Running.{Reading, reading_of, cell_kind, layout_of, cell_at, path_at, storage_by, pointee}
-use Rattle.rc_code.specs.Soundness.{Kind, kind_of, place_kinds, takes, count_off}
+use Rattle.rc_code.specs.Soundness.{Kind, operand_kind, place_kinds, takes, count_off}
 use Rattle.rc_loader.specs.Codes.{kind_in}
 use Rattle.rc_loader.specs.Decisions.{same_kind, same_kinds, reached_cell, storage_in, pushed, is_any, is_pop, count_of, are_taken, are_kinds}
 
@@ -67,16 +67,16 @@ all_taken zero (x ∷ xs) le = absurd (omega (arith, le))
 all_taken (suc n) (x ∷ xs) le = ap (λ ys. x ∷ ys) (all_taken n xs (omega (arith, le)))
 
 pub stored_is : (parts : Parts) (f : Function) (i : Instruction) (p : ℕ) (b : Bool) (path : Path) (value : Operand) → i ≡ instruction.Store p b → path ≡ path_at (reading_of parts) p
-    → kind_in value ≡ kind_of (storage_in (reached_cell parts path)) → reverse (place_kinds path ++ kind_in value ∷ []) ≡ takes (reading_of parts) f i
+    → kind_in value ≡ operand_kind (storage_in (reached_cell parts path)) → reverse (place_kinds path ++ kind_in value ∷ []) ≡ takes (reading_of parts) f i
 stored_is parts f i p b path value is at holds =
     value_last (place_kinds path) (kind_in value)
     ∙ ap (λ v. v ∷ reverse (place_kinds path)) holds
-    ∙ ap (λ c. kind_of (storage_by pointee c) ∷ reverse (place_kinds path)) (cell_there parts path)
+    ∙ ap (λ c. operand_kind (storage_by pointee c) ∷ reverse (place_kinds path)) (cell_there parts path)
     ∙ ap (λ q. takes_by q) at
     ∙ ap (takes (reading_of parts) f) (sym is)
   where
     takes_by : Path → List Kind
-    takes_by q = kind_of (storage_by pointee (cell_at (reading_of parts) q)) ∷ reverse (place_kinds q)
+    takes_by q = operand_kind (storage_by pointee (cell_at (reading_of parts) q)) ∷ reverse (place_kinds q)
 
 -- ---- what an instruction takes, said of the table
 

@@ -15,7 +15,7 @@ use Rattle.rc_code.specs.declared.image.Function.{Function}
 use Rattle.rc_code.specs.declared.image.Parts.{Parts}
 use Rattle.rc_code.specs.Image.{kind_number, cells_at}
 use Rattle.rc_code.specs.Running.{reading_of, cell_kind, pointee, storage_by, path_at}
-use Rattle.rc_code.specs.Soundness.{Kind, numbers as number_kind, handles, pointers, kind_of, place_kinds, local_in, is_regional, takes, gives, count_off, kinds_before, ends}
+use Rattle.rc_code.specs.Soundness.{Kind, numbers as number_kind, handles, pointers, operand_kind, place_kinds, local_in, is_regional, takes, gives, count_off, kinds_before, ends}
 use Rattle.rc_loader.specs.Violations.{rank, KeepsAt}
 use Rattle.rc_loader.specs.Codes.{kind_in}
 use Rattle.rc_loader.specs.declared.operand.Operand.{Operand}
@@ -56,7 +56,7 @@ pushed (taken.One a) = kind_in a ∷ []
 pushed (taken.Two a b) = kind_in a ∷ kind_in b ∷ []
 pushed (taken.Place path) = place_kinds path.now
 pushed (taken.Stored path value) = place_kinds path.now ++ kind_in value ∷ []
-pushed (taken.Arguments parameters) = map kind_of parameters.now
+pushed (taken.Arguments parameters) = map operand_kind parameters.now
 pushed taken.Anything = []
 
 abbrev pub count_of : Taken → ℕ

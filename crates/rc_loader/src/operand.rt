@@ -1,6 +1,6 @@
 // The kinds of operands.
 ghost use Rattle.std.specs.Prelude.{◌≡◌};
-ghost use Rattle.rc_code.specs.Soundness.{numbers, kind_of};
+ghost use Rattle.rc_code.specs.Soundness.{numbers, operand_kind};
 ghost use Rattle.rc_loader.specs.Codes.{kind_in};
 ghost use Rattle.rc_loader.specs.Decisions.{same_kind};
 
@@ -36,7 +36,7 @@ impl Operand {
 
     /// What a local or a result holds, once it is an operand.
     pub(crate) fn held(storage: Storage) -> Operand
-        ensures { kind_in result ≡ kind_of storage }
+        ensures { kind_in result ≡ operand_kind storage }
     {
         match storage {
             Storage::Number(NumberType::Int | NumberType::Char) => INT,

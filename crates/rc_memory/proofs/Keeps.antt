@@ -12,7 +12,7 @@ use Rattle.rc_core.specs.Heap.{Value, Number, Null, Handle, Pointer, Address, Ob
 use Rattle.rc_core.specs.Runs.{Stop, Stale, Run, Go, Stopped, tested, touching, Chosen, Target}
 use Rattle.rc_core.specs.Source.{World, with_heap, turn_from, byte_from, is_index, chosen_in_range, cell_of, Spot, values_from, notes_from, at_spot, unfit, fitting, overwritten, written, stored, made, allocated, has_child, values_of, values_outside, references, is_empty, killed, first_of, source}
 use Rattle.rc_memory.specs.declared.heap.Spot.{Spot as KeptSpot}
-use Rattle.rc_core.specs.Laid.{kind_of}
+use Rattle.rc_core.specs.Laid.{held_kind}
 use Rattle.rc_values.specs.Outcomes.{Outcome, trapped, passing, after}
 use Rattle.rc_values.proofs.Lists.{drop_mapped}
 use Rattle.rc_memory.specs.Change.{mapped, Agree}
@@ -33,10 +33,10 @@ count_kept (x ∷ os) (suc o) = count_kept os o
 
 size_kept : (os : List Object) (o : ℕ) → size_in (slice_get (map kept_object os) o) ≡ length (get_or os o no_object).layout
 size_kept [] o = refl
-size_kept (x ∷ os) zero = length-map x.layout kind_of
+size_kept (x ∷ os) zero = length-map x.layout held_kind
 size_kept (x ∷ os) (suc o) = size_kept os o
 
-kinds_kept : (os : List Object) (o : ℕ) → kinds_in (slice_get (map kept_object os) o) ≡ map kind_of (get_or os o no_object).layout
+kinds_kept : (os : List Object) (o : ℕ) → kinds_in (slice_get (map kept_object os) o) ≡ map held_kind (get_or os o no_object).layout
 kinds_kept [] o = refl
 kinds_kept (x ∷ os) zero = refl
 kinds_kept (x ∷ os) (suc o) = kinds_kept os o
@@ -116,7 +116,7 @@ child_kept line (Handle r) w =
 
 -- new objects
 
-blank_cells_kept : (cells : Layout) → map blank_cell cells ≡ map of_kind.blank_cell (map kind_of cells)
+blank_cells_kept : (cells : Layout) → map blank_cell cells ≡ map of_kind.blank_cell (map held_kind cells)
 blank_cells_kept [] = refl
 blank_cells_kept (int_cell ∷ cells) = ap (λ l. Number (pos 0) ∷ l) (blank_cells_kept cells)
 blank_cells_kept (unsigned_cell ∷ cells) = ap (λ l. Number (pos 0) ∷ l) (blank_cells_kept cells)
@@ -124,20 +124,20 @@ blank_cells_kept (char_cell ∷ cells) = ap (λ l. Number (pos 0) ∷ l) (blank_
 blank_cells_kept (region_cell ∷ cells) = ap (λ l. Null ∷ l) (blank_cells_kept cells)
 blank_cells_kept (pointer_cell note target ∷ cells) = ap (λ l. Null ∷ l) (blank_cells_kept cells)
 
-blank_values_kept : (layout : Layout) (n : ℕ) → flat_map (map blank_cell) (replicate n layout) ≡ flat_map (map of_kind.blank_cell) (replicate n (map kind_of layout))
+blank_values_kept : (layout : Layout) (n : ℕ) → flat_map (map blank_cell) (replicate n layout) ≡ flat_map (map of_kind.blank_cell) (replicate n (map held_kind layout))
 blank_values_kept layout zero = refl
-blank_values_kept layout (suc n) = ap (λ l. l ++ flat_map (map blank_cell) (replicate n layout)) (blank_cells_kept layout) ∙ ap (λ l. map of_kind.blank_cell (map kind_of layout) ++ l) (blank_values_kept layout n)
+blank_values_kept layout (suc n) = ap (λ l. l ++ flat_map (map blank_cell) (replicate n layout)) (blank_cells_kept layout) ∙ ap (λ l. map of_kind.blank_cell (map held_kind layout) ++ l) (blank_values_kept layout n)
 
-pub blank_kept : (layout : Layout) (n : ℕ) → kept_object (blank layout n) ≡ of_object.blank (map kind_of layout) n
-blank_kept layout n = ap (λ (vs : List Value). record { kinds = map kind_of layout; count = n; values = vs }) (blank_values_kept layout n)
+pub blank_kept : (layout : Layout) (n : ℕ) → kept_object (blank layout n) ≡ of_object.blank (map held_kind layout) n
+blank_kept layout n = ap (λ (vs : List Value). record { kinds = map held_kind layout; count = n; values = vs }) (blank_values_kept layout n)
 
-added_kept : (heap : Heap) (r n : ℕ) (layout : Layout) → live heap r ≡ true → kept_heap (with_objects heap r (λ os. os ++ blank layout n ∷ [])) ≡ k.with_objects (kept_heap heap) r (λ os. os ++ of_object.blank (map kind_of layout) n ∷ [])
+added_kept : (heap : Heap) (r n : ℕ) (layout : Layout) → live heap r ≡ true → kept_heap (with_objects heap r (λ os. os ++ blank layout n ∷ [])) ≡ k.with_objects (kept_heap heap) r (λ os. os ++ of_object.blank (map held_kind layout) n ∷ [])
 added_kept heap r n layout is = changed_kept heap r _ _ is (map-append kept_object (objects heap r) (blank layout n ∷ []) ∙ ap (λ o. map kept_object (objects heap r) ++ o ∷ []) (blank_kept layout n))
 
 number_kept : (heap : Heap) (r : ℕ) → live heap r ≡ true → length (k.objects (kept_heap heap) r) ≡ length (objects heap r)
 number_kept heap r is = ap length (objects_kept heap r is) ∙ length-map (objects heap r) kept_object
 
-allocated_by : (b c : Bool) (line r : ℕ) (count : ℤ) (layout : Layout) (w : World) → live w.heap r ≡ true → mapped kept_world (tested b Size line w (tested c Full line w (Go (Pointer (record { region = r; object = length (objects w.heap r); index = 0 })) (with_heap w (with_objects w.heap r (λ os. os ++ blank layout (unsigned_abs count) ∷ [])))))) ≡ leaving (Pointer (record { region = r; object = length (objects w.heap r); index = 0 })) (if b then (if c then Ok (k.with_objects (kept_heap w.heap) r (λ os. os ++ of_object.blank (map kind_of layout) (unsigned_abs count) ∷ [])) else trapped Full line) else trapped Size line) (kept_world w)
+allocated_by : (b c : Bool) (line r : ℕ) (count : ℤ) (layout : Layout) (w : World) → live w.heap r ≡ true → mapped kept_world (tested b Size line w (tested c Full line w (Go (Pointer (record { region = r; object = length (objects w.heap r); index = 0 })) (with_heap w (with_objects w.heap r (λ os. os ++ blank layout (unsigned_abs count) ∷ [])))))) ≡ leaving (Pointer (record { region = r; object = length (objects w.heap r); index = 0 })) (if b then (if c then Ok (k.with_objects (kept_heap w.heap) r (λ os. os ++ of_object.blank (map held_kind layout) (unsigned_abs count) ∷ [])) else trapped Full line) else trapped Size line) (kept_world w)
 allocated_by true true line r count layout w is = ap (λ hs. Go (Pointer (record { region = r; object = length (objects w.heap r); index = 0 })) (kw.with_heap (kept_world w) hs)) (added_kept w.heap r (unsigned_abs count) layout is)
 allocated_by true false line r count layout w is = refl
 allocated_by false c line r count layout w is = refl
@@ -145,7 +145,7 @@ allocated_by false c line r count layout w is = refl
 allocated_kept : (line r : ℕ) (count : ℤ) (layout : Layout) (w : World) → live w.heap r ≡ true → mapped kept_world (allocated line r count layout w) ≡ in_region (Ok r) line count layout (kept_world w)
 allocated_kept line r count layout w is =
     allocated_by (int_le (pos 0) count) (nat_lt (length (objects w.heap r)) w.blocks) line r count layout w is
-    ∙ ap (λ n. leaving (Pointer (record { region = r; object = n; index = 0 })) (if int_le (pos 0) count then (if nat_lt n w.blocks then Ok (k.with_objects (kept_heap w.heap) r (λ os. os ++ of_object.blank (map kind_of layout) (unsigned_abs count) ∷ [])) else trapped Full line) else trapped Size line) (kept_world w)) (sym (number_kept w.heap r is))
+    ∙ ap (λ n. leaving (Pointer (record { region = r; object = n; index = 0 })) (if int_le (pos 0) count then (if nat_lt n w.blocks then Ok (k.with_objects (kept_heap w.heap) r (λ os. os ++ of_object.blank (map held_kind layout) (unsigned_abs count) ∷ [])) else trapped Full line) else trapped Size line) (kept_world w)) (sym (number_kept w.heap r is))
 
 allocate_by : (b : Bool) (line r : ℕ) (count : ℤ) (layout : Layout) (w : World) → live w.heap r ≡ b → mapped kept_world (touching b line w (allocated line r count layout w)) ≡ in_region (passing b (Stale line) (Ok r)) line count layout (kept_world w)
 allocate_by true line r count layout w is = allocated_kept line r count layout w is
@@ -165,7 +165,7 @@ count_at heap r o is = ap (λ os. count_in (slice_get os o)) (objects_kept heap 
 size_at : (heap : Heap) (r o : ℕ) → live heap r ≡ true → size_in (k.object_at (kept_heap heap) r o) ≡ length (object_at heap r o).layout
 size_at heap r o is = ap (λ os. size_in (slice_get os o)) (objects_kept heap r is) ∙ size_kept (objects heap r) o
 
-kinds_at : (heap : Heap) (r o : ℕ) → live heap r ≡ true → kinds_in (k.object_at (kept_heap heap) r o) ≡ map kind_of (object_at heap r o).layout
+kinds_at : (heap : Heap) (r o : ℕ) → live heap r ≡ true → kinds_in (k.object_at (kept_heap heap) r o) ≡ map held_kind (object_at heap r o).layout
 kinds_at heap r o is = ap (λ os. kinds_in (slice_get os o)) (objects_kept heap r is) ∙ kinds_kept (objects heap r) o
 
 values_at : (heap : Heap) (r o : ℕ) → live heap r ≡ true → values_in (k.object_at (kept_heap heap) r o) ≡ (object_at heap r o).values
@@ -243,7 +243,7 @@ load_all_kept line t size w =
 
 -- stores
 
-note_kept : (c : CellKind) → of_kind.note_of (kind_of c) ≡ note_of c
+note_kept : (c : CellKind) → of_kind.note_of (held_kind c) ≡ note_of c
 note_kept int_cell = refl
 note_kept unsigned_cell = refl
 note_kept char_cell = refl
@@ -254,20 +254,20 @@ fit_by : (b : Bool) (c : CellKind) (line : ℕ) (w : World) (run : Run World (Un
 fit_by true c line w run outcome out same = same
 fit_by false c line w run outcome out same = refl
 
-fitting_kept : (heap : Heap) (holder line : ℕ) (cs : Layout) (vs : List Value) (w : World) (run : Run World (Unit {0})) (out : Outcome KeptHeap) → mapped kept_world run ≡ leaving tt out (kept_world w) → mapped kept_world (fitting heap holder line (map note_of cs) vs w run) ≡ leaving tt (after (k.fitting (kept_heap heap) holder line (map kind_of cs) vs) (λ _. out)) (kept_world w)
+fitting_kept : (heap : Heap) (holder line : ℕ) (cs : Layout) (vs : List Value) (w : World) (run : Run World (Unit {0})) (out : Outcome KeptHeap) → mapped kept_world run ≡ leaving tt out (kept_world w) → mapped kept_world (fitting heap holder line (map note_of cs) vs w run) ≡ leaving tt (after (k.fitting (kept_heap heap) holder line (map held_kind cs) vs) (λ _. out)) (kept_world w)
 fitting_kept heap holder line [] [] w run out same = same
 fitting_kept heap holder line (c ∷ cs) [] w run out same = same
 fitting_kept heap holder line [] (v ∷ vs) w run out same = same
 fitting_kept heap holder line (c ∷ cs) (v ∷ vs) w run out same =
-    fit_by (fits (parent heap) (note_of c) holder v) c line w _ (k.fitting (kept_heap heap) holder line (map kind_of cs) vs) out (fitting_kept heap holder line cs vs w run out same)
-    ∙ ap (λ p. leaving tt (after (if fits p (note_of c) holder v then k.fitting (kept_heap heap) holder line (map kind_of cs) vs else trapped (unfit (note_of c)) line) (λ _. out)) (kept_world w)) (sym (parent_same heap))
-    ∙ ap (λ note. leaving tt (after (if fits (k.parent (kept_heap heap)) note holder v then k.fitting (kept_heap heap) holder line (map kind_of cs) vs else trapped (unfit note) line) (λ _. out)) (kept_world w)) (sym (note_kept c))
+    fit_by (fits (parent heap) (note_of c) holder v) c line w _ (k.fitting (kept_heap heap) holder line (map held_kind cs) vs) out (fitting_kept heap holder line cs vs w run out same)
+    ∙ ap (λ p. leaving tt (after (if fits p (note_of c) holder v then k.fitting (kept_heap heap) holder line (map held_kind cs) vs else trapped (unfit (note_of c)) line) (λ _. out)) (kept_world w)) (sym (parent_same heap))
+    ∙ ap (λ note. leaving tt (after (if fits (k.parent (kept_heap heap)) note holder v then k.fitting (kept_heap heap) holder line (map held_kind cs) vs else trapped (unfit note) line) (λ _. out)) (kept_world w)) (sym (note_kept c))
 
 written_kept : (heap : Heap) (t : Target) (a : Address) (vs : List Value) → live heap a.region ≡ true → kept_heap (written (spot_in t a) vs heap) ≡ k.written (kept_spot_in heap t a) (take (k.room (kept_heap heap) (kept_spot_in heap t a)) vs) (kept_heap heap)
 written_kept heap t a vs is =
     let o : Object = object_at heap a.region a.object in
     changed_kept heap a.region _ _ is (updated_kept (objects heap a.region) a.object _ _
-    (ap (λ n. let object : KeptObject = record { kinds = map kind_of o.layout; count = o.count; values = overwritten (unsigned_abs (pos a.index +ℤ t.shift) * n + cell_of t) (take (n - cell_of t) vs) o.values } in object) (sym (size_at heap a.region a.object is))))
+    (ap (λ n. let object : KeptObject = record { kinds = map held_kind o.layout; count = o.count; values = overwritten (unsigned_abs (pos a.index +ℤ t.shift) * n + cell_of t) (take (n - cell_of t) vs) o.values } in object) (sym (size_at heap a.region a.object is))))
 
 fresh_by : (b : Bool) (line : ℕ) (w : World) (run : Run World (Unit {0})) (out : Outcome KeptHeap) → mapped kept_world run ≡ leaving tt out (kept_world w) → mapped kept_world (touching b line w run) ≡ leaving tt (passing b (Stale line) out) (kept_world w)
 fresh_by true line w run out same = same
@@ -282,7 +282,7 @@ stored_kept line t vs w =
     (λ a is.
     let done : Outcome KeptHeap = Ok (k.written (kept_spot_in w.heap t a) (take (k.room (kept_heap w.heap) (kept_spot_in w.heap t a)) vs) (kept_heap w.heap)) in
     let cells : Layout = drop (cell_of t) (object_at w.heap a.region a.object).layout in
-    let kinds_is : map kind_of cells ≡ drop (cell_of t) (kinds_in (k.object_at (kept_heap w.heap) a.region a.object)) = drop_mapped kind_of (cell_of t) (object_at w.heap a.region a.object).layout ∙ ap (drop (cell_of t)) (sym (kinds_at w.heap a.region a.object is)) in
+    let kinds_is : map held_kind cells ≡ drop (cell_of t) (kinds_in (k.object_at (kept_heap w.heap) a.region a.object)) = drop_mapped held_kind (cell_of t) (object_at w.heap a.region a.object).layout ∙ ap (drop (cell_of t)) (sym (kinds_at w.heap a.region a.object is)) in
     fresh_by (list_all (is_fresh (live w.heap)) vs) line w _ _
     (fitting_kept w.heap a.region line cells vs w _ done (ap (λ hs. Go tt (kw.with_heap (kept_world w) hs)) (written_kept w.heap t a vs is))
     ∙ ap (λ ks. leaving tt (after (k.fitting (kept_heap w.heap) a.region line ks vs) (λ _. done)) (kept_world w)) kinds_is)

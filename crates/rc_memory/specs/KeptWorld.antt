@@ -5,7 +5,7 @@ use Rattle.rc_core.specs.Layout.{Layout}
 use Rattle.rc_core.specs.Heap.{Value, Handle, Pointer}
 use Rattle.rc_core.specs.Runs.{Run, Go, Stopped, spent, Ops}
 use Rattle.rc_core.specs.Source.{World}
-use Rattle.rc_core.specs.Laid.{kind_of}
+use Rattle.rc_core.specs.Laid.{held_kind}
 use Rattle.rc_values.specs.Outcomes.{Outcome, after}
 use Rattle.rc_memory.specs.Kept.{KeptHeap, kept_heap, live_region, made, allocated, objects, step, load, load_all, store, deleted}
 
@@ -45,7 +45,7 @@ leaving x (Ok heap) v = Go x (with_heap v heap)
 leaving x (Err stop) v = Stopped stop v
 
 abbrev pub in_region : Outcome ℕ → (line : ℕ) → (count : ℤ) → Layout → KeptWorld → Run KeptWorld Value
-in_region (Ok r) line count layout v = leaving (Pointer (record { region = r; object = length (objects v.heap r); index = 0 })) (allocated v.heap line v.blocks count (map kind_of layout) r) v
+in_region (Ok r) line count layout v = leaving (Pointer (record { region = r; object = length (objects v.heap r); index = 0 })) (allocated v.heap line v.blocks count (map held_kind layout) r) v
 in_region (Err stop) line count layout v = Stopped stop v
 
 abbrev pub kept : Ops KeptWorld

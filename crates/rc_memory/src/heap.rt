@@ -5,7 +5,7 @@ ghost use Rattle.std.specs.List.{list_any, list_all};
 ghost use Rattle.rc_base.specs.declared.ends.RunFault.TheVariants.{Memory};
 ghost use Rattle.rc_core.specs.Evaluation.{toward};
 ghost use Rattle.rc_core.specs.Heap.{Handle, Pointer, first_heap, global_object, global_object_of, literal, is_above, is_fresh, fits};
-ghost use Rattle.rc_core.specs.Laid.{AreLaidOut, kind_of};
+ghost use Rattle.rc_core.specs.Laid.{AreLaidOut, held_kind};
 ghost use Rattle.rc_core.specs.Layout.{Layout};
 ghost use Rattle.rc_core.specs.Programs.{Struct as Fields};
 ghost use Rattle.rc_core.specs.Shapes.{bytes_of, global_of, program_of, ty_of};
@@ -60,7 +60,7 @@ fn global_value<'p>(
     ty: &Ty,
     initial: i64,
 ) -> Result<Object<'p>, Stop>
-    ensures object { (layout : Layout) → kinds.now ≡ map kind_of layout → IfOk result (λ o. o ≡ kept_object (global_object_of layout (ty_of ty.now) None initial)) }
+    ensures object { (layout : Layout) → kinds.now ≡ map held_kind layout → IfOk result (λ o. o ≡ kept_object (global_object_of layout (ty_of ty.now) None initial)) }
     ensures memory { IfErr result (λ stop. stop ≡ Cut Memory) }
 {
     match ty {
@@ -562,7 +562,7 @@ impl<'p> Heap<'p> {
         kinds: &'p [Kind],
         limit: u32,
     ) -> Result<Value, Stop>
-        ensures allocate { (w : KeptWorld) → w.heap ≡ self.old → w.blocks ≡ limit → (layout : Layout) → kinds.now ≡ map kind_of layout → Leaves value_of result self.new w (kept.allocate line (value_of value) count layout w) }
+        ensures allocate { (w : KeptWorld) → w.heap ≡ self.old → w.blocks ≡ limit → (layout : Layout) → kinds.now ≡ map held_kind layout → Leaves value_of result self.new w (kept.allocate line (value_of value) count layout w) }
         ensures unchanged { OnErr result (self.new ≡ self.old) }
     {
         let region = self.live_region(line, value)?;

@@ -127,7 +127,7 @@ module _ {W V : Type 0} (ops : Ops W) (waiting : W → V) (waits : Waiting ops w
       act_keeps line To.getchar st env w = value_keeps line To.getchar st env w
       act_keeps line (To.jump n) st env w = on n st env w
       act_keeps line (To.jump_zero n) st env w =
-          taken_keeps 1 st [] w (λ vs rest. branching (is_true (To.value_at vs 0)) (next 0 rest env) (next n rest env) w) (λ vs rest. branch_keeps (is_true (To.value_at vs 0)) (next 0 rest env) (next n rest env) w (on 0 rest env w) (on n rest env w))
+          taken_keeps 1 st [] w (λ vs rest. branching (is_true (To.nth_operand vs 0)) (next 0 rest env) (next n rest env) w) (λ vs rest. branch_keeps (is_true (To.nth_operand vs 0)) (next 0 rest env) (next n rest env) w (on 0 rest env w) (on n rest env w))
       act_keeps line (To.back to) st env w = then_keeps w _ _ (waits.take_turn w) (λ x w1. back to st env w1)
       act_keeps line To.pop st env w = taken_keeps 1 st [] w _ (λ vs rest. on 0 rest env w)
 

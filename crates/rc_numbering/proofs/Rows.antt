@@ -29,7 +29,7 @@ use Rattle.rc_code.specs.declared.image.Function.{Function}
 use Rattle.rc_code.specs.declared.image.Index.{Index}
 use Rattle.rc_code.specs.declared.image.Path.{Path}
 use Rattle.rc_code.specs.Running.{Reading, reading_of, layout_of, cell_kind, pointee, layout_at, function_at, storage_by}
-use Rattle.rc_code.specs.Soundness.{Kind, numbers, pointers, kind_of, shift_kinds, place_kinds, reached_kind, parameter_kinds, result_kinds, no_global, global_at, local_in, takes, gives, count_off, after, Operands, Names, is_regional, IsPin, increase, ArePins}
+use Rattle.rc_code.specs.Soundness.{Kind, numbers, pointers, operand_kind, shift_kinds, place_kinds, reached_kind, parameter_kinds, result_kinds, no_global, global_at, local_in, takes, gives, count_off, after, Operands, Names, is_regional, IsPin, increase, ArePins}
 use Rattle.rc_code.proofs.Kinding.{arithmetic_gives, arithmetic_takes, constant_gives, constant_takes, operation_takes, result_sign}
 use Rattle.rc_numbering.specs.Tables.{IsIn}
 use Rattle.rc_numbering.specs.Names.{types_of, instruction_names, same_path, path_of, paths_of, index_of, instruction_paths, stack_of}
@@ -86,7 +86,7 @@ module _ (r : Rlang) (f : Routine) where
   F = function_of (type_in r) (path_in r) (stack_of r f) f
 
   abbrev pub K : Ty → Kind
-  K t = kind_of (storage_of (type_in r) (path_in r) t)
+  K t = operand_kind (storage_of (type_in r) (path_in r) t)
 
   abbrev pub TypeIn : Ty → Type 0
   TypeIn t = IsIn same_type (types_of r) t
@@ -139,8 +139,8 @@ module _ (r : Rlang) (f : Routine) where
       length-append (map (global_of (type_in r) (path_in r)) r.globals) (map (string_of (type_in r) (path_in r)) r.strings)
       ∙ (let a = length_mapped (global_of (type_in r) (path_in r)) r.globals in let b = length_mapped (string_of (type_in r) (path_in r)) r.strings in omega (arith, a, b))
 
-  local_there : (x : ℕ) → x < length (all_locals f) → kind_of (local_in F x) ≡ K (local_kind (all_locals f) (object_type r) (result_type r) x)
-  local_there x lt = ap kind_of (get_mapped (storage_of (type_in r) (path_in r)) (all_locals f) x int storage.Region lt) ∙ sym (K_kind (get_or (all_locals f) x int))
+  local_there : (x : ℕ) → x < length (all_locals f) → operand_kind (local_in F x) ≡ K (local_kind (all_locals f) (object_type r) (result_type r) x)
+  local_there x lt = ap operand_kind (get_mapped (storage_of (type_in r) (path_in r)) (all_locals f) x int storage.Region lt) ∙ sym (K_kind (get_or (all_locals f) x int))
 
   layout_written : (t : Ty) → TypeIn t → layout_at code (type_in r t) ≡ map cell_kind (map (cell_of (type_in r) (path_in r)) (cells r.structs t))
   layout_written t there =
@@ -153,7 +153,7 @@ module _ (r : Rlang) (f : Routine) where
   get_written (k ∷ l) zero = refl
   get_written (k ∷ l) (suc n) = get_written l n
 
-  cell_written : (t : Ty) → IsTrue (not (is_struct t)) → kind_of (storage_by pointee (cell_kind (cell_of (type_in r) (path_in r) (cell_for t)))) ≡ K t
+  cell_written : (t : Ty) → IsTrue (not (is_struct t)) → operand_kind (storage_by pointee (cell_kind (cell_of (type_in r) (path_in r) (cell_for t)))) ≡ K t
   cell_written int n = refl
   cell_written unsigned n = refl
   cell_written char n = refl
@@ -163,9 +163,9 @@ module _ (r : Rlang) (f : Routine) where
 
   reached_there : (a : Access) → TypeIn a.element → AccessFits r.structs a → reached_kind code (path_of (type_in r) a) ≡ K a.cell
   reached_there a there fits =
-      ap (λ (l : Layout). kind_of (storage_by pointee (get_or l a.offset int_cell))) (layout_written a.element there)
-      ∙ ap (λ k. kind_of (storage_by pointee k)) (get_written (cells r.structs a.element) a.offset)
-      ∙ ap (λ k. kind_of (storage_by pointee (cell_kind (cell_of (type_in r) (path_in r) k)))) fits.cell
+      ap (λ (l : Layout). operand_kind (storage_by pointee (get_or l a.offset int_cell))) (layout_written a.element there)
+      ∙ ap (λ k. operand_kind (storage_by pointee k)) (get_written (cells r.structs a.element) a.offset)
+      ∙ ap (λ k. operand_kind (storage_by pointee (cell_kind (cell_of (type_in r) (path_in r) k)))) fits.cell
       ∙ cell_written a.cell fits.one_cell
 
   place_there : (a : Access) → place_kinds (path_of (type_in r) a) ≡ map K (kinds (place_types a))
@@ -182,8 +182,8 @@ module _ (r : Rlang) (f : Routine) where
   parameters_there : (g : ℕ) (tys : List Ty) → IsCalled r g tys → parameter_kinds (function_at code g) ≡ map K (kinds tys)
   parameters_there g tys c =
       ap parameter_kinds (function_found r g c.routine c.there)
-      ∙ ap (map kind_of) (take_mapped (storage_of (type_in r) (path_in r)) c.routine.parameters (all_locals c.routine))
-      ∙ map_map kind_of (storage_of (type_in r) (path_in r)) (take c.routine.parameters (all_locals c.routine))
+      ∙ ap (map operand_kind) (take_mapped (storage_of (type_in r) (path_in r)) c.routine.parameters (all_locals c.routine))
+      ∙ map_map operand_kind (storage_of (type_in r) (path_in r)) (take c.routine.parameters (all_locals c.routine))
       ∙ ap (map K) (take_front c.routine.locals (slots_of c.routine).types c.routine.parameters c.few ∙ sym c.parameters_are)
       ∙ sym (K_kinds tys)
 

@@ -7,7 +7,7 @@ ghost use Rattle.rc_code.specs.declared.instruction.Instruction.TheVariants as i
 ghost use Rattle.rc_code.specs.declared.kind.Cell.TheVariants as cell;
 ghost use Rattle.rc_code.specs.Image.{cells_at};
 ghost use Rattle.rc_code.specs.Running.{Reading, cell_kind, path_at, pointee, reading_of, storage_by};
-ghost use Rattle.rc_code.specs.Soundness.{Kind, Names, count_off, gives, instruction_at, kind_of, kinds_before, local_in, reached_kind};
+ghost use Rattle.rc_code.specs.Soundness.{Kind, Names, count_off, gives, instruction_at, operand_kind, kinds_before, local_in, reached_kind};
 ghost use Rattle.rc_sealed.specs.Pinned.{IsNumeric};
 ghost use Rattle.rc_pinning.specs.Operands.{is_numeric, CountOperands, TellsAboveNumbers};
 
@@ -28,7 +28,7 @@ pub(crate) struct Operands {
 
 /// Whether it holds numbers.
 fn holds_numbers(storage: Storage) -> bool
-    ensures { result ≡ is_numeric (kind_of storage) }
+    ensures { result ≡ is_numeric (operand_kind storage) }
 {
     match storage {
         Storage::Number(_) => true,
@@ -38,7 +38,7 @@ fn holds_numbers(storage: Storage) -> bool
 
 /// Whether the cell is a number.
 fn is_number(cell: Cell) -> bool
-    ensures { result ≡ is_numeric (kind_of (storage_by pointee (cell_kind cell))) }
+    ensures { result ≡ is_numeric (operand_kind (storage_by pointee (cell_kind cell))) }
 {
     match cell {
         Cell::Number(_) => true,
@@ -93,7 +93,7 @@ fn load_gives_number(parts: &Parts, number: u32) -> bool
 /// Whether a get of the local gives a number.
 fn get_gives_number(function: &Function, local: u32) -> bool
     requires { local < length function.now.locals }
-    ensures { result ≡ is_numeric (kind_of (local_in function.now local)) }
+    ensures { result ≡ is_numeric (operand_kind (local_in function.now local)) }
 {
     holds_numbers(local_of(function, local))
 }

@@ -1,6 +1,6 @@
 // An object.
 ghost use Rattle.std.specs.Prelude.{◌≡◌, ◌+◌, ◌*◌, ◌≤◌, ◌<◌, ◌++◌, ◌↔◌, map, flat_map, replicate, length, count_by, IfOk, OnOk, IsTrue};
-ghost use Rattle.rc_core.specs.Laid.{kind_of};
+ghost use Rattle.rc_core.specs.Laid.{held_kind};
 ghost use Rattle.rc_core.specs.Shapes.{kinds_in};
 ghost use Rattle.rc_store.specs.Kept.{blank, object_refs};
 ghost use Rattle.rc_store.specs.Stores.{HasCell, cell_place, cell_value, object_with};
@@ -97,7 +97,7 @@ fn any_names<L: Ledger>(slots: &[Slot], region: u32, steps: &mut Steps<L>) -> bo
 impl<L: Ledger> Object<L> {
     /// So many elements of this layout, all zero or null.
     pub fn blank(alloc: Global, layout: &Layout, count: u32) -> Result<Object<L>, NoMemory>
-        ensures { IfOk result (λ o. o ≡ blank (map kind_of (kinds_in layout.now)) count) }
+        ensures { IfOk result (λ o. o ≡ blank (map held_kind (kinds_in layout.now)) count) }
     {
         let kinds = kinds_of(alloc, layout)?;
         let slots = elements(alloc, &kinds, count)?;

@@ -4,17 +4,17 @@ use Rattle.std.proofs.Math.Seq.{drop-cons}
 use Rattle.std.proofs.lemmas.List.{get_or-map, length-map}
 use Rattle.rc_core.specs.declared.layouts.Kind.{Kind}
 use Rattle.rc_core.specs.declared.ty.Note.{Note}
-use Rattle.rc_core.specs.Laid.{kind_of}
+use Rattle.rc_core.specs.Laid.{held_kind}
 use Rattle.rc_core.specs.Layout.{Layout, note_of}
 use Rattle.rc_core.specs.Types.{CellKind, int_cell}
 use Rattle.rc_rlang.specs.Sites.{Site, cells_sites, store_sites}
 
-pub cell_listed : (layout : Layout) (kinds : List Kind) (i line at stored next : ℕ) (kind d : Kind) (note : Note) (before after all : List Site) → kinds ≡ map kind_of layout → i < length kinds → kind ≡ get_or kinds i d → ((cell : CellKind) → kind ≡ kind_of cell → note ≡ note_of cell) → stored ≡ at + 1 → next ≡ stored + 1 →
+pub cell_listed : (layout : Layout) (kinds : List Kind) (i line at stored next : ℕ) (kind d : Kind) (note : Note) (before after all : List Site) → kinds ≡ map held_kind layout → i < length kinds → kind ≡ get_or kinds i d → ((cell : CellKind) → kind ≡ held_kind cell → note ≡ note_of cell) → stored ≡ at + 1 → next ≡ stored + 1 →
     after ≡ before ++ store_sites note line stored → before ++ cells_sites (drop i layout) line at ≡ all → after ++ cells_sites (drop (i + 1) layout) line next ≡ all
 cell_listed layout kinds i line at stored next kind d note before after all same within is notes s n added e =
-    let l : i < length layout = subst (λ k. i < k) (ap length same ∙ length-map layout kind_of) within in
+    let l : i < length layout = subst (λ k. i < k) (ap length same ∙ length-map layout held_kind) within in
     let cell = get_or layout i int_cell in
-    let there : kind ≡ kind_of cell = is ∙ ap (λ ks. get_or ks i d) same ∙ get_or-map kind_of layout i int_cell d l in
+    let there : kind ≡ held_kind cell = is ∙ ap (λ ks. get_or ks i d) same ∙ get_or-map held_kind layout i int_cell d l in
     let here : drop i layout ≡ cell ∷ drop (suc i) layout = drop-cons layout i int_cell l in
     let stored_is : suc at ≡ stored = omega (arith, s) in
     let next_is : suc (suc at) ≡ next = omega (arith, s, n) in

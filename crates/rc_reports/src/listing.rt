@@ -1,6 +1,6 @@
 // The stores of a function to annotated cells, in the order of the text or of their points.
 ghost use Rattle.std.specs.Prelude.{◌≡◌, ◌++◌, ◌+◌, ℕ, List, IfOk, OnOk, map, drop};
-ghost use Rattle.rc_core.specs.Laid.{AreLaidOut, kind_of};
+ghost use Rattle.rc_core.specs.Laid.{AreLaidOut, held_kind};
 ghost use Rattle.rc_core.specs.Layout.{Layout};
 ghost use Rattle.rc_core.specs.Programs.{Struct};
 ghost use Rattle.rc_rlang.specs.Counted.{AreLayouts, Counted};
@@ -59,7 +59,7 @@ fn list(out: &mut Vec<Site>, note: Note, line: u32, point: u32) -> Result<(), No
 
 /// Lists the stores of a struct copy, which loads and stores each cell.
 fn list_cells(out: &mut Vec<Site>, kinds: &[Kind], line: u32, here: u32) -> Result<(), NoMemory>
-    ensures { (layout : Layout) → kinds.now ≡ map kind_of layout → OnOk result (sites_of out.new.items ≡ sites_of out.old.items ++ cells_sites layout line here) }
+    ensures { (layout : Layout) → kinds.now ≡ map held_kind layout → OnOk result (sites_of out.new.items ≡ sites_of out.old.items ++ cells_sites layout line here) }
 {
     let mut at = here;
     for i in 0..kinds.len() {

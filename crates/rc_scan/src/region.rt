@@ -1,6 +1,6 @@
 // A live region.
 ghost use Rattle.std.specs.Prelude.{◌≡◌, ◌+◌, ◌≤◌, ◌<◌, ◌++◌, ◌∷◌, ◌↔◌, [], length, map, sum_by, OnOk, OnErr, IsTrue, nat_eq, slice_index_or};
-ghost use Rattle.rc_core.specs.Laid.{kind_of};
+ghost use Rattle.rc_core.specs.Laid.{held_kind};
 ghost use Rattle.rc_core.specs.Shapes.{kinds_in};
 ghost use Rattle.rc_store.specs.Kept.{blank, object_refs, view_refs};
 ghost use Rattle.rc_store.specs.Stores.{HasCell, cell_value, cells_in, no_object, objects_with, size_of};
@@ -96,7 +96,7 @@ impl<L: Ledger> Region<L> {
         layout: &Layout,
         count: u32,
     ) -> Result<(), NoMemory>
-        ensures ok { OnOk result (self.new ≡ record self.old { objects = self.old.objects ++ blank (map kind_of (kinds_in layout.now)) count ∷ [] }) }
+        ensures ok { OnOk result (self.new ≡ record self.old { objects = self.old.objects ++ blank (map held_kind (kinds_in layout.now)) count ∷ [] }) }
         ensures err { OnErr result (self.new ≡ self.old) }
     {
         let object = Object::blank(alloc, layout, count)?;

@@ -1,6 +1,6 @@
 // The live regions.
 ghost use Rattle.std.specs.Prelude.{◌≡◌, ◌<◌, ◌++◌, ◌∷◌, [], length, map, Some, None, IfOk, OnOk, OnErr, IsTrue, All, slice_set};
-ghost use Rattle.rc_core.specs.Laid.{kind_of};
+ghost use Rattle.rc_core.specs.Laid.{held_kind};
 ghost use Rattle.rc_core.specs.Shapes.{kinds_in};
 ghost use Rattle.rc_store.specs.Kept.{KeptStore, blank};
 ghost use Rattle.rc_store.specs.Sets.{deleted_all};
@@ -53,7 +53,7 @@ fn push_object<L: Ledger>(
     n: u32,
 ) -> Result<(), NoMemory>
     requires { IsTrue (live_in regions.old number) }
-    ensures ok { OnOk result (regions.new ≡ with_objects number (objects_in regions.old number ++ blank (map kind_of (kinds_in layout.now)) n ∷ []) regions.old) }
+    ensures ok { OnOk result (regions.new ≡ with_objects number (objects_in regions.old number ++ blank (map held_kind (kinds_in layout.now)) n ∷ []) regions.old) }
     ensures err { OnErr result (regions.new ≡ regions.old) }
 {
     match &mut regions[number as usize] {
@@ -110,7 +110,7 @@ impl<L: Ledger> Regions<L> {
         n: u32,
     ) -> Result<(), NoMemory>
         requires { IsTrue (live_in self.old region) }
-        ensures ok { OnOk result (self.new ≡ with_objects region (objects_in self.old region ++ blank (map kind_of (kinds_in layout.now)) n ∷ []) self.old) }
+        ensures ok { OnOk result (self.new ≡ with_objects region (objects_in self.old region ++ blank (map held_kind (kinds_in layout.now)) n ∷ []) self.old) }
         ensures err { OnErr result (self.new ≡ self.old) }
     {
         push_object(alloc, &mut self.slots, region, layout, n)

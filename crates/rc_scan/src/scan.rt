@@ -2,7 +2,7 @@
 ghost use Rattle.std.specs.Prelude.{◌≡◌, ◌+◌, ◌<◌, ◌≤◌, ◌↔◌, [], ◌∷◌, ◌++◌, length, map, Some, None, IfOk, OnOk, OnErr, IsTrue, sum_by, slice_set, slice_index_or, option_map};
 ghost use Rattle.std.specs.List.{list_any};
 ghost use Rattle.rc_core.specs.Heap.{Handle, fits, is_above};
-ghost use Rattle.rc_core.specs.Laid.{kind_of};
+ghost use Rattle.rc_core.specs.Laid.{held_kind};
 ghost use Rattle.rc_core.specs.Shapes.{kinds_in};
 ghost use Rattle.rc_store.specs.Kept.{blank, view_refs};
 ghost use Rattle.rc_store.specs.Stores.{HasCell, cell_value, cells_in, is_child, live_in, no_view, object_in, objects_in, objects_with, parent_in, region_at, with_objects};

@@ -31,7 +31,7 @@ use Rattle.rc_code.specs.declared.image.Function.{Function}
 use Rattle.rc_code.specs.declared.image.Parts.{Parts}
 use Rattle.rc_code.specs.Image.{FieldsFit}
 use Rattle.rc_code.specs.Running.{Reading, reading_of, function_at, line_at, value_at, pinned, result_pushed, result_of, first_locals, Next, onward, backward, done, calls_within, effect}
-use Rattle.rc_code.specs.Soundness.{Kind, kind_of, parameter_kinds, result_kinds, Sound, gives, count_off, instruction_at, kinds_before, is_regional, local_in, IsFine}
+use Rattle.rc_code.specs.Soundness.{Kind, operand_kind, parameter_kinds, result_kinds, Sound, gives, count_off, instruction_at, kinds_before, is_regional, local_in, IsFine}
 use Rattle.rc_code.specs.Steps.{Frame, State, Moved, goes, finished, placed, leaving, step_by, step_of}
 use Rattle.rc_worlds.specs.Worlds.{Compared, watched}
 use Rattle.rc_worlds.specs.Typed.{HasKind, AsFresh}
@@ -194,7 +194,7 @@ module _ (parts : Parts) (fields : FieldsFit parts) (rules : Sound parts) (proof
         next = record { function = h; at = 0; stack = []; locals = first_locals to vs; frames = record { function = s.function; at = suc s.at; stack = drop to.parameters s.stack; locals = s.locals; before = w } ∷ s.frames }
 
         count : count_off code f (instruction.Call h pins) ≡ to.parameters
-        count = length-reverse (parameter_kinds to) ∙ length-map (take to.parameters to.locals) kind_of ∙ length-take-le to.parameters to.locals ((sound parts fields rules proofs all).parameters h fine.names.0)
+        count = length-reverse (parameter_kinds to) ∙ length-map (take to.parameters to.locals) operand_kind ∙ length-take-le to.parameters to.locals ((sound parts fields rules proofs all).parameters h fine.names.0)
 
         low_is : lowest code f s.at ≡ length (drop to.parameters s.stack)
         low_is = low parts fields rules proofs all s.function keeps.suits.there s.at keeps.suits.inside keeps.copied keeps.whole (instruction.Call h pins) is to.parameters count s.stack s.locals w state
@@ -272,7 +272,7 @@ module _ (parts : Parts) (fields : FieldsFit parts) (rules : Sound parts) (proof
 
     top_kinds : (result : Option Storage) (kinds below : List Kind) → regional_result result ≡ true → kinds ≡ result_kinds result ++ below → (k : Kind) × (kinds ≡ k ∷ below)
     top_kinds None kinds below e is = absurd cc
-    top_kinds (Some r) kinds below e is = (kind_of r, is)
+    top_kinds (Some r) kinds below e is = (operand_kind r, is)
 
     result_fresh : (result : Option Storage) → FreshIn w (result_of result s.stack)
     result_fresh None = refl
@@ -396,7 +396,7 @@ module _ (parts : Parts) (fields : FieldsFit parts) (rules : Sound parts) (proof
       caller_fine = (rules.functions g frame.there).fine frame.from i (slice_get-get_or F.code frame.from (instruction.Simple simple.Return) frame.inside ∙ ap Some frame.call)
 
       count : count_off code F i ≡ n
-      count = length-reverse (parameter_kinds f) ∙ length-map (take n f.locals) kind_of ∙ length-take-le n f.locals ((sound parts fields rules proofs all).parameters s.function keeps.suits.there)
+      count = length-reverse (parameter_kinds f) ∙ length-map (take n f.locals) operand_kind ∙ length-take-le n f.locals ((sound parts fields rules proofs all).parameters s.function keeps.suits.there)
 
       low_is : lowest code F frame.from ≡ length (drop n frame.stack)
       low_is = low parts fields rules proofs all g frame.there frame.from frame.inside copied frame.whole i frame.call n count frame.stack env caller.before frame.state

@@ -36,7 +36,7 @@ use Rattle.rc_code.specs.declared.image.Path.{Path}
 use Rattle.rc_code.specs.declared.image.Parts.{Parts}
 use Rattle.rc_code.specs.Image.{FieldsFit}
 use Rattle.rc_code.specs.Running.{Reading, reading_of, function_at, path_at, cell_at, storage_of, storage_by, value_at, width, target_on, kept, pinned, line_at}
-use Rattle.rc_code.specs.Soundness.{Kind, kind_of, place_kinds, reached_kind, Sound, count_off, instruction_at, kinds_before, is_regional, local_in, IsFine}
+use Rattle.rc_code.specs.Soundness.{Kind, operand_kind, place_kinds, reached_kind, Sound, count_off, instruction_at, kinds_before, is_regional, local_in, IsFine}
 use Rattle.rc_worlds.specs.Worlds.{watched_put}
 use Rattle.rc_worlds.specs.Typed.{HasKind, Keeps}
 use Rattle.rc_worlds.proofs.Stacks.{zip_length, width_is}
@@ -82,7 +82,7 @@ numeric_local parts [] (v ∷ env) x heap w im all e = absurd all
 numeric_local parts (s ∷ ss) [] x heap w im all e = absurd all
 numeric_local parts (s ∷ ss) (v ∷ env) zero heap w im all e = by s v e all.0.kind
   where
-    by : (s : Storage) (v : Value) → is_regional s ≡ false → HasKind im heap (kind_of s) v → FreshIn w v
+    by : (s : Storage) (v : Value) → is_regional s ≡ false → HasKind im heap (operand_kind s) v → FreshIn w v
     by (storage.Number n) (Number z) e is = refl
     by (storage.Number n) Null e is = absurd is.suits
     by (storage.Number n) (Handle r) e is = absurd is.suits
@@ -191,7 +191,7 @@ module _ (parts : Parts) (fields : FieldsFit parts) (rules : Sound parts) (proof
           (moved (local_variable f x) (place f (height code f at - 1))) (ap (effect_of code f (lowest code f at) (height code f at - 1)) is ∙ ap (λ b. if_regional b (moved (local_variable f x) (place f (height code f at - 1)))) e)
           (local_variable f x) v env1 refl
           (Rattle.rc_sealed.proofs.Carry.moved_happens (exit_facts proofs) (scratch code f) (values_of f copied env st) v w.heap (local_variable f x) (place f (height code f at - 1))
-          (place_below parts fields rules proofs all g there at inside copied whole (height code f at - 1) (omega arith)) (same ∙ sym (top_value st env w s (kind_of (local_in f x)) fine.operands.0 fine.operands.1)))
+          (place_below parts fields rules proofs all g there at inside copied whole (height code f at - 1) (omega arith)) (same ∙ sym (top_value st env w s (operand_kind (local_in f x)) fine.operands.0 fine.operands.1)))
           (λ u is_x. local_set f copied whole env (drop 1 st) x v u long (regional_local f x true lt e) ∙ changed_there (values_of f copied env (drop 1 st)) (local_variable f x) v u (eqb-true u _ is_x))
           (λ u other. local_set f copied whole env (drop 1 st) x v u long (regional_local f x true lt e) ∙ changed_else (values_of f copied env (drop 1 st)) (local_variable f x) v u other)
       by false e =

@@ -1,6 +1,6 @@
 // What a heap doesn't tell of its regions.
 ghost use Rattle.std.specs.Prelude.{◌≡◌, ◌<◌, ◌++◌, ◌∷◌, [], ℕ, map, length, slice_index, slice_set, IfOk, OnOk};
-ghost use Rattle.rc_core.specs.Laid.{kind_of};
+ghost use Rattle.rc_core.specs.Laid.{held_kind};
 ghost use Rattle.rc_core.specs.Shapes.{kinds_in};
 ghost use Rattle.rc_core.specs.declared.layouts.Kind.TheVariants.{Region as RegionKind};
 
@@ -20,7 +20,7 @@ pub(crate) struct Records {
 
 impl Model for Records {
     ghost use Rattle.std.specs.Prelude.{◌≡◌, ◌∷◌, [], map};
-    ghost use Rattle.rc_core.specs.Laid.{kind_of};
+    ghost use Rattle.rc_core.specs.Laid.{held_kind};
     ghost use Rattle.rc_core.specs.Shapes.{kinds_in};
     ghost use Rattle.rc_core.specs.declared.layouts.Kind.TheVariants.{Region as RegionKind};
     ghost use Rattle.rc_sets.specs.Records.{RecordsState};
@@ -29,7 +29,7 @@ impl Model for Records {
 
     ghost view = { λ t. record { objects = t.objects.items; pins = t.pins.items } };
 
-    ghost invariant = { λ t. map kind_of (kinds_in t.row) ≡ RegionKind ∷ [] };
+    ghost invariant = { λ t. map held_kind (kinds_in t.row) ≡ RegionKind ∷ [] };
 }
 
 impl Records {
@@ -52,7 +52,7 @@ impl Records {
 
     /// The layout of an element.
     pub(crate) fn row(&self) -> &Layout
-        ensures { map kind_of (kinds_in result.now) ≡ RegionKind ∷ [] }
+        ensures { map held_kind (kinds_in result.now) ≡ RegionKind ∷ [] }
     {
         &self.row
     }

@@ -3,7 +3,7 @@ ghost use Rattle.std.specs.Prelude.{◌≡◌, ◌≢◌, ◌<◌, ◌≤◌, �
 ghost use Rattle.std.specs.List.{list_any};
 ghost use Rattle.rc_core.specs.declared.layouts.Kind.TheVariants.{Number as NumberKind};
 ghost use Rattle.rc_core.specs.Heap.{is_above};
-ghost use Rattle.rc_core.specs.Laid.{kind_of};
+ghost use Rattle.rc_core.specs.Laid.{held_kind};
 ghost use Rattle.rc_core.specs.Shapes.{kinds_in};
 ghost use Rattle.rc_core.specs.Heap.{Number as NumberValue};
 ghost use Rattle.rc_store.specs.Elements.{Finds, Loads, Stores, index_from, place_from};
@@ -298,7 +298,7 @@ impl<L: Ledger> Space<L> {
     ) -> Result<(), NoMemory>
         requires live { IsTrue (live_in self.old.regions region) }
         requires size { size ≡ count * length layout.now.cells.items }
-        ensures ok { OnOk result (self.new.regions ≡ with_objects region (objects_in self.old.regions region ++ blank (map kind_of (kinds_in layout.now)) count ∷ []) self.old.regions) }
+        ensures ok { OnOk result (self.new.regions ≡ with_objects region (objects_in self.old.regions region ++ blank (map held_kind (kinds_in layout.now)) count ∷ []) self.old.regions) }
         ensures err { OnErr result (self.new.regions ≡ self.old.regions) }
         ensures counts { self.new.counts ≡ self.old.counts }
     {

@@ -7,7 +7,7 @@ use Rattle.std.proofs.lemmas.List.Sums.{sum_by-cons}
 use Rattle.rc_core.specs.declared.layouts.Kind.{Kind}
 use Rattle.rc_core.specs.Types.{CellKind, int_cell, unsigned_cell, char_cell, region_cell, pointer_cell}
 use Rattle.rc_core.specs.Layout.{Layout, is_counted as cell_is_counted}
-use Rattle.rc_core.specs.Laid.{kind_of}
+use Rattle.rc_core.specs.Laid.{held_kind}
 use Rattle.rc_core.specs.Heap.{Value, Object, blank_cell, names, kinds_of}
 use Rattle.rc_core.specs.Heap.{blank as blank_object}
 use Rattle.rc_core.specs.Store.{View, Store}
@@ -17,45 +17,45 @@ use Rattle.rc_store.specs.Laws.{KeepsTheStore}
 use Rattle.rc_store.specs.Values.{blank_of, is_counted}
 use Rattle.rc_store.proofs.Along.{refs_along, refs_from}
 
-kind_counted : (k : CellKind) → is_counted (kind_of k) ≡ cell_is_counted k
+kind_counted : (k : CellKind) → is_counted (held_kind k) ≡ cell_is_counted k
 kind_counted int_cell = refl
 kind_counted unsigned_cell = refl
 kind_counted char_cell = refl
 kind_counted region_cell = refl
 kind_counted (pointer_cell note target) = refl
 
-kind_blank : (k : CellKind) → blank_cell k ≡ blank_of (kind_of k)
+kind_blank : (k : CellKind) → blank_cell k ≡ blank_of (held_kind k)
 kind_blank int_cell = refl
 kind_blank unsigned_cell = refl
 kind_blank char_cell = refl
 kind_blank region_cell = refl
 kind_blank (pointer_cell note target) = refl
 
-row_blank : (layout : Layout) → map blank_cell layout ≡ map blank_of (map kind_of layout)
+row_blank : (layout : Layout) → map blank_cell layout ≡ map blank_of (map held_kind layout)
 row_blank [] = refl
-row_blank (k ∷ ks) = ap (λ v. v ∷ map blank_cell ks) (kind_blank k) ∙ ap (λ vs. blank_of (kind_of k) ∷ vs) (row_blank ks)
+row_blank (k ∷ ks) = ap (λ v. v ∷ map blank_cell ks) (kind_blank k) ∙ ap (λ vs. blank_of (held_kind k) ∷ vs) (row_blank ks)
 
-all_kinds : (layout : Layout) (n : ℕ) → map kind_of (flat_map (λ l. l) (replicate n layout)) ≡ flat_map (λ ks. ks) (replicate n (map kind_of layout))
+all_kinds : (layout : Layout) (n : ℕ) → map held_kind (flat_map (λ l. l) (replicate n layout)) ≡ flat_map (λ ks. ks) (replicate n (map held_kind layout))
 all_kinds layout zero = refl
-all_kinds layout (suc n) = map-append kind_of layout (flat_map (λ l. l) (replicate n layout)) ∙ ap (λ ks. map kind_of layout ++ ks) (all_kinds layout n)
+all_kinds layout (suc n) = map-append held_kind layout (flat_map (λ l. l) (replicate n layout)) ∙ ap (λ ks. map held_kind layout ++ ks) (all_kinds layout n)
 
-all_blank : (layout : Layout) (n : ℕ) → flat_map (map blank_cell) (replicate n layout) ≡ flat_map (map blank_of) (replicate n (map kind_of layout))
+all_blank : (layout : Layout) (n : ℕ) → flat_map (map blank_cell) (replicate n layout) ≡ flat_map (map blank_of) (replicate n (map held_kind layout))
 all_blank layout zero = refl
-all_blank layout (suc n) = ap (λ vs. vs ++ flat_map (map blank_cell) (replicate n layout)) (row_blank layout) ∙ ap (λ vs. map blank_of (map kind_of layout) ++ vs) (all_blank layout n)
+all_blank layout (suc n) = ap (λ vs. vs ++ flat_map (map blank_cell) (replicate n layout)) (row_blank layout) ∙ ap (λ vs. map blank_of (map held_kind layout) ++ vs) (all_blank layout n)
 
-blank_kept : (layout : Layout) (n : ℕ) → kept_object (blank_object layout n) ≡ blank (map kind_of layout) n
+blank_kept : (layout : Layout) (n : ℕ) → kept_object (blank_object layout n) ≡ blank (map held_kind layout) n
 blank_kept layout n =
-    let size = sym (length-map layout kind_of) in
+    let size = sym (length-map layout held_kind) in
     let kinds = all_kinds layout n in
     let values = all_blank layout n in
     cc
 
-zip_refs : (r : ℕ) (kinds : Layout) (values : List Value) → count_by (λ (c : Kind × Value). is_counted c.0 && names r c.1) (zip (map kind_of kinds) values) ≡ count_by (λ (c : CellKind × Value). cell_is_counted c.0 && names r c.1) (zip kinds values)
+zip_refs : (r : ℕ) (kinds : Layout) (values : List Value) → count_by (λ (c : Kind × Value). is_counted c.0 && names r c.1) (zip (map held_kind kinds) values) ≡ count_by (λ (c : CellKind × Value). cell_is_counted c.0 && names r c.1) (zip kinds values)
 zip_refs r [] values = refl
 zip_refs r (k ∷ kinds) [] = refl
 zip_refs r (k ∷ kinds) (v ∷ values) =
-    sum_by-cons (λ (c : Kind × Value). cond (is_counted c.0 && names r c.1) 1 0) (kind_of k, v) (zip (map kind_of kinds) values)
-    ∙ ap (λ b. cond (b && names r v) 1 0 + count_by (λ (c : Kind × Value). is_counted c.0 && names r c.1) (zip (map kind_of kinds) values)) (kind_counted k)
+    sum_by-cons (λ (c : Kind × Value). cond (is_counted c.0 && names r c.1) 1 0) (held_kind k, v) (zip (map held_kind kinds) values)
+    ∙ ap (λ b. cond (b && names r v) 1 0 + count_by (λ (c : Kind × Value). is_counted c.0 && names r c.1) (zip (map held_kind kinds) values)) (kind_counted k)
     ∙ ap (λ n. cond (cell_is_counted k && names r v) 1 0 + n) (zip_refs r kinds values)
     ∙ sym (sum_by-cons (λ (c : CellKind × Value). cond (cell_is_counted c.0 && names r c.1) 1 0) (k, v) (zip kinds values))
 

@@ -1,7 +1,7 @@
 -- The store as a heap keeps it: of the type of a pointer's target nothing is kept.
 use Rattle.std.specs.Prelude.{ℕ, ◌+◌, ◌&&◌, List, zip, map, flat_map, replicate, length, slice_set, option_map, Option, Some, None, count_by, sum_by}
 use Rattle.rc_core.specs.declared.layouts.Kind.{Kind}
-use Rattle.rc_core.specs.Laid.{kind_of}
+use Rattle.rc_core.specs.Laid.{held_kind}
 use Rattle.rc_core.specs.Heap.{Value, Object, names, kinds_of}
 use Rattle.rc_core.specs.Store.{View, Store}
 use Rattle.rc_store.specs.Values.{blank_of, is_counted}
@@ -29,7 +29,7 @@ pub record KeptStore : Type 0 where
   pub block_limit : ℕ
 
 abbrev pub kept_object : Object → KeptObject
-kept_object o = record { size = length o.layout; count = o.count; kinds = map kind_of (kinds_of o); values = o.values }
+kept_object o = record { size = length o.layout; count = o.count; kinds = map held_kind (kinds_of o); values = o.values }
 
 abbrev pub kept_view : View → KeptView
 kept_view v = record { parent = v.parent; objects = map kept_object v.objects }

@@ -76,8 +76,8 @@ pub record HasPlace (s : KeptStore) (p : Place) : Type 0 where
   pub object : HasObject s p.pointer.region p.pointer.object
   pub cell : HasCell (at_place s p) p.pointer.index p.cell
 
-abbrev pub value_at : KeptStore → Place → Value
-value_at s p = cell_value (at_place s p) p.pointer.index p.cell
+abbrev pub kept_value : KeptStore → Place → Value
+kept_value s p = cell_value (at_place s p) p.pointer.index p.cell
 
 abbrev pub kind_at : KeptStore → Place → Kind
 kind_at s p = slice_index_or (at_place s p).kinds (cell_place (at_place s p) p.pointer.index p.cell) NumberKind

@@ -3,7 +3,7 @@ use Rattle.std.specs.Prelude.{◌≡◌, ◌≢◌, ◌<◌, ◌*◌, ℕ, IsTru
 use Rattle.rc_core.specs.Heap.{Value, fits}
 use Rattle.rc_store.specs.declared.cell.Place.{Place}
 use Rattle.rc_store.specs.Kept.{KeptObject, KeptStore}
-use Rattle.rc_store.specs.Stores.{HasObject, HasPlace, IsFresh, IsLive, kind_at, object_in, parent_in, value_at}
+use Rattle.rc_store.specs.Stores.{HasObject, HasPlace, IsFresh, IsLive, kind_at, object_in, parent_in, kept_value}
 use Rattle.rc_store.specs.Values.{note_of, suits}
 
 -- a value stands rightly in a cell: it is of the cell's kind, names no dead region, and fits the annotation
@@ -22,5 +22,5 @@ pub record IsWhole (s : KeptStore) : Type 0 where
   pub parents : (r : ℕ) → IsLive s r → IsLive s (parent_in s.regions r)
   pub older : (r : ℕ) → IsLive s r → r ≢ 0 → parent_in s.regions r < r
   pub filled : (r o : ℕ) → IsLive s r → HasObject s r o → IsFilled (object_in s.regions r o)
-  pub cells : (p : Place) → HasPlace s p → StandsAt s p (value_at s p)
+  pub cells : (p : Place) → HasPlace s p → StandsAt s p (kept_value s p)
   pub pins : All (IsFresh s) s.pins

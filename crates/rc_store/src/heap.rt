@@ -12,13 +12,13 @@ use std::sync::ledger::Ledger;
 /// region nothing is kept, and no number is used again.
 pub trait Heap: Drop {
     ghost use Rattle.rc_core.specs.Heap.{fits};
-    ghost use Rattle.rc_core.specs.Laid.{kind_of};
+    ghost use Rattle.rc_core.specs.Laid.{held_kind};
     ghost use Rattle.rc_core.specs.Shapes.{kinds_in};
     ghost use Rattle.rc_store.specs.Kept.{KeptStore, refs};
     ghost use Rattle.rc_core.specs.Heap.{Number};
     ghost use Rattle.rc_store.specs.Elements.{Finds, Loads, Stores, place_from};
     ghost use Rattle.rc_store.specs.Values.{note_of, value_of};
-    ghost use Rattle.rc_store.specs.Stores.{HasObject, HasPlace, IsFresh, IsLive, IsNew, MayStand, allocated, deleted, has_child, kind_at, limited, live_in, made, object_in, objects_in, parent_in, value_at, written};
+    ghost use Rattle.rc_store.specs.Stores.{HasObject, HasPlace, IsFresh, IsLive, IsNew, MayStand, allocated, deleted, has_child, kind_at, limited, live_in, made, object_in, objects_in, parent_in, kept_value, written};
     ghost use Rattle.rc_store.specs.Whole.{IsWhole};
     ghost use Rattle.rc_store.specs.declared.cell.MakeFault.TheVariants.{Full};
     ghost use Rattle.rc_core.specs.declared.ty.Note.TheVariants.{Plain};
@@ -62,7 +62,7 @@ pub trait Heap: Drop {
         requires first { length (store self.old).regions ≡ 1 }
         requires few { length (objects_in (store self.old).regions 0) < 4294967295 }
         ensures number { IfOk result (λ o. o ≡ length (objects_in (store self.old).regions 0)) }
-        ensures ok { OnOk result (store self.new ≡ allocated 0 (map kind_of (kinds_in kind.now)) n (store self.old)) }
+        ensures ok { OnOk result (store self.new ≡ allocated 0 (map held_kind (kinds_in kind.now)) n (store self.old)) }
         ensures err { OnErr result (store self.new ≡ store self.old) };
 
     /// Appends an object of n elements of this layout to a live region, all zero or null, and answers
@@ -75,7 +75,7 @@ pub trait Heap: Drop {
         requires live { IsLive (store self.old) region }
         requires count { n < 2147483648 }
         ensures number { IfOk result (λ o. o ≡ length (objects_in (store self.old).regions region)) }
-        ensures ok { OnOk result (store self.new ≡ allocated region (map kind_of (kinds_in kind.now)) n (store self.old)) }
+        ensures ok { OnOk result (store self.new ≡ allocated region (map held_kind (kinds_in kind.now)) n (store self.old)) }
         ensures full { IsErrOf result Full ↔ ((store self.old).block_limit ≤ length (objects_in (store self.old).regions region)) }
         ensures err { OnErr result (store self.new ≡ store self.old) };
 
@@ -92,7 +92,7 @@ pub trait Heap: Drop {
     /// The value of a cell.
     fn read(&self, place: Place, steps: &mut Steps<Self::Counter>) -> Cell
         requires { HasPlace (store self.now) place }
-        ensures value { value_of result ≡ value_at (store self.now) place }
+        ensures value { value_of result ≡ kept_value (store self.now) place }
         ensures never_falls { steps.old ≤ steps.new };
 
     /// The value of a cell of the element that is so far from a pointer's.

@@ -1,9 +1,9 @@
 // What cells hold.
 ghost use Rattle.std.specs.Prelude.{◌≡◌, map, IfOk};
-ghost use Rattle.rc_core.specs.Laid.{kind_of};
+ghost use Rattle.rc_core.specs.Laid.{held_kind};
 ghost use Rattle.rc_core.specs.Layout.{is_plain};
 ghost use Rattle.rc_core.specs.Shapes.{kinds_in};
-ghost use Rattle.rc_core.specs.Shapes.{kind_of as cell_kind_of};
+ghost use Rattle.rc_core.specs.Shapes.{cell_kind_of};
 ghost use Rattle.rc_store.specs.Values.{blank_of, is_counted, value_of};
 
 use crate::cell::Cell;
@@ -38,7 +38,7 @@ pub fn is_counted(kind: Kind) -> bool
 
 /// What a cell holds, without what a pointer points to.
 pub fn kind_of(kind: &CellKind) -> Kind
-    ensures { result ≡ kind_of (cell_kind_of kind.now) }
+    ensures { result ≡ held_kind (cell_kind_of kind.now) }
 {
     match kind {
         CellKind::Int => Kind::Number,
@@ -66,7 +66,7 @@ pub fn blank_of(kind: Kind) -> Cell
 ///
 /// Out of memory.
 pub fn kinds_of(alloc: Global, layout: &Layout) -> Result<Vec<Kind>, NoMemory>
-    ensures { IfOk result (λ kinds. kinds.items ≡ map kind_of (kinds_in layout.now)) }
+    ensures { IfOk result (λ kinds. kinds.items ≡ map held_kind (kinds_in layout.now)) }
 {
     let mut kinds = Vec::new(alloc);
     for kind in layout.cells.as_slice() {

@@ -1,7 +1,7 @@
 // Objects that name regions, and pins.
 ghost use Rattle.std.specs.Prelude.{◌≡◌, ◌∷◌, [], Some, map, IfOk};
 ghost use Rattle.rc_store.specs.Stores.{no_view};
-ghost use Rattle.rc_core.specs.Laid.{kind_of};
+ghost use Rattle.rc_core.specs.Laid.{held_kind};
 ghost use Rattle.rc_core.specs.Shapes.{kinds_in};
 ghost use Rattle.rc_core.specs.declared.layouts.Kind.TheVariants.{Region as RegionKind};
 
@@ -19,7 +19,7 @@ use std::test::Fail;
 
 /// An element with one cell, which holds a region.
 pub(crate) fn handle(alloc: Global) -> Result<Layout, AllocError>
-    ensures { IfOk result (λ layout. map kind_of (kinds_in layout) ≡ RegionKind ∷ []) }
+    ensures { IfOk result (λ layout. map held_kind (kinds_in layout) ≡ RegionKind ∷ []) }
 {
     let mut cells = Vec::new(alloc);
     cells.push(CellKind::Region)?;
@@ -34,7 +34,7 @@ pub(crate) fn name<H: Heap>(
     layout: &Layout,
     counter: &mut Steps<H::Counter>,
 ) -> Option<Result<Cell, MakeFault>>
-    requires { map kind_of (kinds_in layout.now) ≡ RegionKind ∷ [] }
+    requires { map held_kind (kinds_in layout.now) ≡ RegionKind ∷ [] }
 {
     if !heap.is_live(holder) || !heap.is_live(target) {
         return None;

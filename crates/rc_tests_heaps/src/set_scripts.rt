@@ -1,6 +1,6 @@
 // Random scripts in which sets are deleted.
 ghost use Rattle.std.specs.Prelude.{◌≡◌, ◌<◌, ◌∷◌, [], map};
-ghost use Rattle.rc_core.specs.Laid.{kind_of};
+ghost use Rattle.rc_core.specs.Laid.{held_kind};
 ghost use Rattle.rc_core.specs.Shapes.{kinds_in};
 ghost use Rattle.rc_core.specs.declared.layouts.Kind.TheVariants.{Region as RegionKind};
 
@@ -36,7 +36,7 @@ fn step<H: SetHeap>(
     layout: &Layout,
     counter: &mut Steps<H::Counter>,
 ) -> u64
-    requires { map kind_of (kinds_in layout.now) ≡ RegionKind ∷ [] }
+    requires { map held_kind (kinds_in layout.now) ≡ RegionKind ∷ [] }
 {
     let first = number(next(seed));
     let second = number(next(next(seed)));
@@ -53,7 +53,7 @@ fn step<H: SetHeap>(
 
 /// What so many random calls answer, in one number.
 fn run<H: SetHeap>(heap: &mut H, seed: u64, layout: &Layout, counter: &mut Steps<H::Counter>) -> u64
-    requires { map kind_of (kinds_in layout.now) ≡ RegionKind ∷ [] }
+    requires { map held_kind (kinds_in layout.now) ≡ RegionKind ∷ [] }
 {
     let mut at = seed;
     let mut sum: u64 = 0;
@@ -79,7 +79,7 @@ fn of_plain<L: Ledger>(
     layout: &Layout,
     blank: Blank,
 ) -> Result<u64, NoMemory>
-    requires layout { map kind_of (kinds_in layout.now) ≡ RegionKind ∷ [] }
+    requires layout { map held_kind (kinds_in layout.now) ≡ RegionKind ∷ [] }
     requires name { blank.name ≡ L.name }
     requires parts { blank.parts ≡ L.parts }
     requires some { 0 < L.parts }
@@ -97,7 +97,7 @@ fn of_counting<L: Ledger>(
     layout: &Layout,
     blank: Blank,
 ) -> Result<u64, NoMemory>
-    requires layout { map kind_of (kinds_in layout.now) ≡ RegionKind ∷ [] }
+    requires layout { map held_kind (kinds_in layout.now) ≡ RegionKind ∷ [] }
     requires name { blank.name ≡ L.name }
     requires parts { blank.parts ≡ L.parts }
     requires some { 0 < L.parts }

@@ -1,6 +1,6 @@
 // Tables of calls with their answers, and the walk over them through each heap.
 ghost use Rattle.std.specs.Prelude.{◌≡◌, ◌<◌, ◌∷◌, [], map};
-ghost use Rattle.rc_core.specs.Laid.{kind_of};
+ghost use Rattle.rc_core.specs.Laid.{held_kind};
 ghost use Rattle.rc_core.specs.Shapes.{kinds_in};
 ghost use Rattle.rc_core.specs.declared.layouts.Kind.TheVariants.{Region as RegionKind};
 
@@ -42,7 +42,7 @@ fn is_answered<H: SetHeap>(
     step: Step,
     counter: &mut Steps<H::Counter>,
 ) -> bool
-    requires { map kind_of (kinds_in layout.now) ≡ RegionKind ∷ [] }
+    requires { map held_kind (kinds_in layout.now) ≡ RegionKind ∷ [] }
 {
     match step {
         Step::Child(parent, answer) => child(heap, parent) == answer,
@@ -70,7 +70,7 @@ fn first_wrong<H: SetHeap>(
     steps: &[Step],
     counter: &mut Steps<H::Counter>,
 ) -> Option<usize>
-    requires { map kind_of (kinds_in layout.now) ≡ RegionKind ∷ [] }
+    requires { map held_kind (kinds_in layout.now) ≡ RegionKind ∷ [] }
 {
     for (place, step) in steps.iter().enumerate() {
         if !is_answered(heap, layout, *step, counter) {

@@ -1,10 +1,10 @@
 // What is read is written back, and pinned, by one who knows of a heap only that it is one.
 ghost use Rattle.std.specs.Prelude.{◌≡◌, ◌≢◌, ◌<◌, ◌++◌, ◌∷◌, [], map};
-ghost use Rattle.rc_core.specs.Laid.{kind_of};
+ghost use Rattle.rc_core.specs.Laid.{held_kind};
 ghost use Rattle.rc_core.specs.Shapes.{kinds_in};
 ghost use Rattle.rc_core.specs.declared.layouts.Kind.TheVariants.{Region as RegionKind};
 ghost use Rattle.rc_core.specs.declared.ty.Note.TheVariants.{Plain};
-ghost use Rattle.rc_store.specs.Stores.{HasPlace, kind_at, value_at, written};
+ghost use Rattle.rc_store.specs.Stores.{HasPlace, kind_at, kept_value, written};
 ghost use Rattle.rc_store.specs.Values.{note_of};
 
 use crate::references::handle;
@@ -22,7 +22,7 @@ use std::test::Fail;
 fn write_back<H: Heap>(heap: &mut H, place: Place, steps: &mut Steps<H::Counter>)
     requires place { HasPlace (H.store heap.old) place }
     requires plain { note_of (kind_at (H.store heap.old) place) ≡ Plain }
-    ensures { H.store heap.new ≡ written place (value_at (H.store heap.old) place) (H.store heap.old) }
+    ensures { H.store heap.new ≡ written place (kept_value (H.store heap.old) place) (H.store heap.old) }
 {
     heap.stays_whole();
     let value = heap.read(place, steps);
@@ -33,7 +33,7 @@ fn write_back<H: Heap>(heap: &mut H, place: Place, steps: &mut Steps<H::Counter>
 fn write_again<H: Heap>(heap: &mut H, place: Place, steps: &mut Steps<H::Counter>)
     requires place { HasPlace (H.store heap.old) place }
     requires noted { note_of (kind_at (H.store heap.old) place) ≢ Plain }
-    ensures { H.store heap.new ≡ written place (value_at (H.store heap.old) place) (H.store heap.old) }
+    ensures { H.store heap.new ≡ written place (kept_value (H.store heap.old) place) (H.store heap.old) }
 {
     heap.stays_whole();
     let value = heap.read(place, steps);
@@ -44,7 +44,7 @@ fn write_again<H: Heap>(heap: &mut H, place: Place, steps: &mut Steps<H::Counter
 fn pin_again<H: Heap>(heap: &mut H, place: Place, steps: &mut Steps<H::Counter>)
     requires place { HasPlace (H.store heap.old) place }
     requires spare { 0 < (H.store heap.old).spare }
-    ensures { (H.store heap.new).pins ≡ (H.store heap.old).pins ++ value_at (H.store heap.old) place ∷ [] }
+    ensures { (H.store heap.new).pins ≡ (H.store heap.old).pins ++ kept_value (H.store heap.old) place ∷ [] }
 {
     heap.stays_whole();
     let value = heap.read(place, steps);
@@ -58,7 +58,7 @@ fn written_back<H: Heap>(
     layout: &Layout,
     steps: &mut Steps<H::Counter>,
 ) -> Option<Cell>
-    requires { map kind_of (kinds_in layout.now) ≡ RegionKind ∷ [] }
+    requires { map held_kind (kinds_in layout.now) ≡ RegionKind ∷ [] }
 {
     if !heap.is_live(region) {
         return None;

@@ -17,7 +17,7 @@ use Rattle.rc_code.specs.declared.instruction.Instruction.TheVariants as instruc
 use Rattle.rc_code.specs.declared.image.Function.{Function}
 use Rattle.rc_code.specs.declared.image.Path.{Path}
 use Rattle.rc_code.specs.Running.{Reading, path_at, function_at, line_at, cell_at, storage_of, value_at, kept, target_on, calls_within, effect}
-use Rattle.rc_code.specs.Soundness.{Kind, kind_of, place_kinds, instruction_at, IsFine}
+use Rattle.rc_code.specs.Soundness.{Kind, operand_kind, place_kinds, instruction_at, IsFine}
 use Rattle.rc_code.specs.Steps.{State, Moved, goes, placed, step_by, step_of, steps_of, first_steps}
 use Rattle.rc_code.specs.StoreModel.{stored_in}
 use Rattle.rc_worlds.specs.Worlds.{Compared, failed, passing, watched, watched_put, model, mapped, marks_checked}
@@ -111,7 +111,7 @@ module _ (code : Reading) (name : Ty → Ty) (apart : Bool) where
       below = fine.operands.0
 
       -- with the check and without it the store does the same, where the check doesn't fail over the source's world
-      right_on : (st : List Value) → AreKinds image w.heap (kind_of (storage_of code (cell_at code path)) ∷ reverse (place_kinds path) ++ below) st → (line : ℕ)
+      right_on : (st : List Value) → AreKinds image w.heap (operand_kind (storage_of code (cell_at code path)) ∷ reverse (place_kinds path) ++ below) st → (line : ℕ)
           → (Excused image (watched_put apart true line (target_on path (drop 1 st)) (kept (storage_of code (cell_at code path)) (value_at st 0)) w) → ⊥)
           → stored_in false line (target_on path (drop 1 st)) (kept (storage_of code (cell_at code path)) (value_at st 0)) (model name w) ≡ stored_in true line (target_on path (drop 1 st)) (kept (storage_of code (cell_at code path)) (value_at st 0)) (model name w)
       right_on [] all line none = absurd all

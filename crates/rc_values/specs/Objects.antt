@@ -3,7 +3,7 @@
 use Rattle.std.specs.Prelude.{ℕ, Bool, List, [], ◌∷◌, map, replicate, flat_map}
 use Rattle.std.specs.List.{list_any}
 use Rattle.rc_core.specs.Heap.{Value, Null, Object, names}
-use Rattle.rc_core.specs.Laid.{kind_of}
+use Rattle.rc_core.specs.Laid.{held_kind}
 use Rattle.rc_core.specs.declared.layouts.Kind.{Kind}
 use Rattle.rc_values.specs.Cells.{blank_cell}
 
@@ -13,7 +13,7 @@ pub record KeptObject : Type 0 where
   pub values : List Value
 
 abbrev pub kept_object : Object → KeptObject
-kept_object o = record { kinds = map kind_of o.layout; count = o.count; values = o.values }
+kept_object o = record { kinds = map held_kind o.layout; count = o.count; values = o.values }
 
 abbrev pub blank : List Kind → (count : ℕ) → KeptObject
 blank kinds count = record { kinds = kinds; count = count; values = flat_map (map blank_cell) (replicate count kinds) }

@@ -13,7 +13,7 @@ use Rattle.rc_safety.specs.Soundness.{CellIsSound, ObjectIsSound, HeapIsSound}
 use Rattle.rc_safety.proofs.Heaps.{parent_is_live}
 use Rattle.rc_safety.proofs.Killed.{NamesNot, none_kept, empty_is_nil}
 use Rattle.rc_code.specs.Running.{storage_of}
-use Rattle.rc_code.specs.Soundness.{kind_of}
+use Rattle.rc_code.specs.Soundness.{operand_kind}
 use Rattle.rc_worlds.specs.Worlds.{Compared, model, named_cell, renamed, seen}
 use Rattle.rc_worlds.specs.Typed.{Suits, Stored, ObjectIsTyped, RegionIsTyped, HeapIsTyped}
 use Rattle.rc_worlds.proofs.Looks.{counted_named, kinds_renamed}
@@ -74,21 +74,21 @@ module _ (image : Compared) (heap : Heap) (r q : ℕ) (out : Outside heap r q) w
   cell_counts region_cell v cell typed = refl
   cell_counts int_cell v cell typed = number v typed.kind.suits
     where
-      number : (v : Value) → Suits image heap (kind_of (storage_of image.code int_cell)) v → false ≡ names r v
+      number : (v : Value) → Suits image heap (operand_kind (storage_of image.code int_cell)) v → false ≡ names r v
       number (Number n) s = refl
       number Null s = refl
       number (Handle p) s = absurd s
       number (Pointer a) s = absurd s
   cell_counts unsigned_cell v cell typed = number v typed.kind.suits
     where
-      number : (v : Value) → Suits image heap (kind_of (storage_of image.code unsigned_cell)) v → false ≡ names r v
+      number : (v : Value) → Suits image heap (operand_kind (storage_of image.code unsigned_cell)) v → false ≡ names r v
       number (Number n) s = refl
       number Null s = refl
       number (Handle p) s = absurd s
       number (Pointer a) s = absurd s
   cell_counts char_cell v cell typed = number v typed.kind.suits
     where
-      number : (v : Value) → Suits image heap (kind_of (storage_of image.code char_cell)) v → false ≡ names r v
+      number : (v : Value) → Suits image heap (operand_kind (storage_of image.code char_cell)) v → false ≡ names r v
       number (Number n) s = refl
       number Null s = refl
       number (Handle p) s = absurd s

@@ -19,7 +19,7 @@ use Rattle.rc_code.specs.declared.image.Index.{Index}
 use Rattle.rc_code.specs.declared.image.Path.{Path}
 use Rattle.rc_code.specs.declared.image.Function.{Function}
 use Rattle.rc_code.specs.Running.{layout_at, cell_at, storage_of, kept, kept_all, first_in, chosen_values, shift_count, width, target_of, target_on, pinned, first_locals}
-use Rattle.rc_code.specs.Soundness.{Kind, numbers, pointers, kind_of, shift_kinds, place_kinds, parameter_kinds}
+use Rattle.rc_code.specs.Soundness.{Kind, numbers, pointers, operand_kind, shift_kinds, place_kinds, parameter_kinds}
 use Rattle.rc_worlds.specs.Worlds.{Compared}
 use Rattle.rc_worlds.specs.Typed.{Shape, HasKind, Keeps, Stored, ObjectIsTyped, RegionIsTyped, IsMade, Good, Grows}
 use Rattle.rc_worlds.specs.Facts.{PathIsSound}
@@ -96,13 +96,13 @@ module _ (image : Compared) where
   locals_made heap [] [] all = tt
   locals_made heap [] (v ∷ env) all = absurd all
   locals_made heap (s ∷ ss) [] all = absurd all
-  locals_made heap (s ∷ ss) (v ∷ env) all = (suits_made image heap (kind_of s) v all.0.kind, locals_made heap ss env all.1)
+  locals_made heap (s ∷ ss) (v ∷ env) all = (suits_made image heap (operand_kind s) v all.0.kind, locals_made heap ss env all.1)
 
   pub pinned_made : (heap : Heap) (pins : List ℕ) (ss : List Storage) (env : List Value) → AreLocals heap ss env → Every (IsMade heap) (pinned pins env)
   pinned_made heap pins ss env all = every_map (IsMade heap) (local_at env) (λ x. every_get_or (IsMade heap) env x Null tt (locals_made heap ss env all)) pins
 
   -- what an operand is kept as
-  pub kept_suits : (heap : Heap) (s : Storage) (v : Value) → HasKind image heap (kind_of s) v → Keeps image heap s (kept s v)
+  pub kept_suits : (heap : Heap) (s : Storage) (v : Value) → HasKind image heap (operand_kind s) v → Keeps image heap s (kept s v)
   kept_suits heap (storage.Number Int) v is = record { kind = is; narrow = tt }
   kept_suits heap (storage.Number Unsigned) v is = record { kind = is; narrow = tt }
   kept_suits heap (storage.Number Char) v is = record { kind = record { suits = λ _. byte_is_int (number_in v) }; narrow = λ _. converted_fits Char (number_in v) }
@@ -121,7 +121,7 @@ module _ (image : Compared) where
       one (storage.Pointer t) = record { kind = record { suits = tt }; narrow = tt }
 
   -- the locals at the entry of a function
-  locals_begin : (heap : Heap) (n : ℕ) (ss : List Storage) (vs : List Value) → AreKinds heap (map kind_of (take n ss)) vs → AreLocals heap ss (kept_all ss vs ++ map first_in (drop (length vs) ss))
+  locals_begin : (heap : Heap) (n : ℕ) (ss : List Storage) (vs : List Value) → AreKinds heap (map operand_kind (take n ss)) vs → AreLocals heap ss (kept_all ss vs ++ map first_in (drop (length vs) ss))
   locals_begin heap zero ss [] all = first_suits heap ss
   locals_begin heap zero ss (v ∷ vs) all = absurd all
   locals_begin heap (suc n) [] [] all = tt

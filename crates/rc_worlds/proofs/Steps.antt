@@ -33,7 +33,7 @@ use Rattle.rc_code.specs.declared.image.Global.{Global}
 use Rattle.rc_code.specs.declared.instruction.Instruction.{Instruction}
 use Rattle.rc_code.specs.Running.{Operation, two, one, operation, outcome, operand_count, path_at, function_at, cell_at, storage_of, value_at, kept, width, target_on, count_taken, Next, onward, backward, done, pinned, result_pushed, result_of, given, effect}
 use Rattle.rc_code.specs.StoreModel.{Held}
-use Rattle.rc_code.specs.Soundness.{no_global, Kind, numbers, handles, pointers, kind_of, place_kinds, local_in, parameter_kinds, result_kinds, takes, gives, count_off, after, instruction_at, kinds_before, ends, IsFine}
+use Rattle.rc_code.specs.Soundness.{no_global, Kind, numbers, handles, pointers, operand_kind, place_kinds, local_in, parameter_kinds, result_kinds, takes, gives, count_off, after, instruction_at, kinds_before, ends, IsFine}
 use Rattle.rc_code.proofs.Kinding.{arithmetic_gives, arithmetic_takes, constant_gives, constant_takes, operation_takes, right_kind, result_sign}
 use Rattle.rc_worlds.specs.Worlds.{Compared, watched, trusting, model, naming, may_mark, looks}
 use Rattle.rc_worlds.specs.Typed.{HasKind, InRange, Keeps, Good, Reaches}
@@ -52,7 +52,7 @@ drop_front (x ∷ xs) ys = drop_front xs ys
 module _ (image : Compared) where
   abbrev pub ResultSuits : Option Storage → Value → World → Type 0
   ResultSuits None v w = Unit {0}
-  ResultSuits (Some s) v w = HasKind image w.heap (kind_of s) v
+  ResultSuits (Some s) v w = HasKind image w.heap (operand_kind s) v
 
   -- where an instruction leaves the run: operands and locals have the kinds that are asked for there
   abbrev pub NextSuits : Function → (at : ℕ) → Next → World → Type 0
@@ -166,8 +166,8 @@ module _ (image : Compared) where
 
     get_acts : (x : ℕ) → Acts (instruction.Get x)
     get_acts x is fine more = let b = fine.operands in record {
-      agrees = gives_by (instruction.Get x) (kind_of (local_in f x)) refl refl refl is (more refl) b.0 b.1 (λ st env w good all locals.
-          does_go image w w (Gives image (kind_of (local_in f x))) (local_at env x) (reaches_itself image w good) (zip_get (Keeps image w.heap) f.locals env x storage.Region Null locals fine.names).kind);
+      agrees = gives_by (instruction.Get x) (operand_kind (local_in f x)) refl refl refl is (more refl) b.0 b.1 (λ st env w good all locals.
+          does_go image w w (Gives image (operand_kind (local_in f x))) (local_at env x) (reaches_itself image w good) (zip_get (Keeps image w.heap) f.locals env x storage.Region Null locals fine.names).kind);
     }
 
     arithmetic_acts : (row : Arithmetic) (s : Signedness) → Acts (instruction.Arithmetic row s)
@@ -220,8 +220,8 @@ module _ (image : Compared) where
     load_acts : (p : ℕ) → Acts (instruction.Load p)
     load_acts p is fine more = let b = fine.operands in let path = path_at image.code p in
         record {
-          agrees = gives_by (instruction.Load p) (kind_of (storage_of image.code (cell_at image.code path))) refl refl (width_is image path ∙ sym (length_reversed (place_kinds path))) is (more refl) b.0 b.1 (λ st env w good all locals.
-              load_does image line (target_on path st) (kind_of (storage_of image.code (cell_at image.code path))) w good (λ a spot here.
+          agrees = gives_by (instruction.Load p) (operand_kind (storage_of image.code (cell_at image.code path))) refl refl (width_is image path ∙ sym (length_reversed (place_kinds path))) is (more refl) b.0 b.1 (λ st env w good all locals.
+              load_does image line (target_on path st) (operand_kind (storage_of image.code (cell_at image.code path))) w good (λ a spot here.
               (value_reached image w path (target_on path st) a spot good here (place_reached image w path b.0 st (sound.paths p fine.names) all a spot here)).kind));
         }
 
@@ -261,8 +261,8 @@ module _ (image : Compared) where
     set_acts : (x : ℕ) → Acts (instruction.Set x)
     set_acts x is fine more = record {
       agrees = λ st env w good all locals. let b = fine.operands in let all1 = as_kinds w _ st b.1 all in
-          falling (instruction.Set x) b.0 is (more refl) refl refl b.1 (drop 1 st) (with_local env x (kept (local_in f x) (value_at st 0))) w good (zip_drop (HasKind image w.heap) (kind_of (local_in f x) ∷ []) b.0 st all1)
-          (zip_update (Keeps image w.heap) f.locals env x storage.Region _ locals (kept_suits image w.heap (local_in f x) (value_at st 0) (first_kind w.heap (kind_of (local_in f x)) b.0 st all1)));
+          falling (instruction.Set x) b.0 is (more refl) refl refl b.1 (drop 1 st) (with_local env x (kept (local_in f x) (value_at st 0))) w good (zip_drop (HasKind image w.heap) (operand_kind (local_in f x) ∷ []) b.0 st all1)
+          (zip_update (Keeps image w.heap) f.locals env x storage.Region _ locals (kept_suits image w.heap (local_in f x) (value_at st 0) (first_kind w.heap (operand_kind (local_in f x)) b.0 st all1)));
     }
 
     store_acts : (p : ℕ) (proved : Bool) → Acts (instruction.Store p proved)
@@ -274,7 +274,7 @@ module _ (image : Compared) where
         path : Path
         path = path_at image.code p
 
-        on : (st env : List Value) (w : World) → Good image w → AreKinds image w.heap (kind_of (storage_of image.code (cell_at image.code path)) ∷ reverse (place_kinds path) ++ b.0) st → AreLocals image w.heap f.locals env
+        on : (st env : List Value) (w : World) → Good image w → AreKinds image w.heap (operand_kind (storage_of image.code (cell_at image.code path)) ∷ reverse (place_kinds path) ++ b.0) st → AreLocals image w.heap f.locals env
             → Does image w (NextSuits f at) (effect (watched image) image.code f line at (instruction.Store p proved) calls st env w) (effect (trusting image.name) image.code f line at (instruction.Store p proved) calls' st env (model image.name w))
         on [] env w good all locals = absurd all
         on (v ∷ st) env w good all locals =
@@ -319,7 +319,7 @@ module _ (image : Compared) where
         to = function_at image.code g
 
         count : to.parameters ≡ length (parameter_kinds to)
-        count = let e = length-map (take to.parameters to.locals) kind_of in let e2 = length-take-le to.parameters to.locals (sound.parameters g fine.names.0) in sym (e ∙ e2)
+        count = let e = length-map (take to.parameters to.locals) operand_kind in let e2 = length-take-le to.parameters to.locals (sound.parameters g fine.names.0) in sym (e ∙ e2)
 
         gone : (v : Value) (st env : List Value) (w w1 : World) → Reaches image w w1 → ResultSuits to.result v w1 → AreKinds image w.heap (reverse (parameter_kinds to) ++ b.0) st → AreLocals image w.heap f.locals env
             → Does image w1 (NextSuits f at) (Go (onward 0 (result_pushed to.result v (drop to.parameters st)) env) w1) (Go (onward 0 (result_pushed to.result v (drop to.parameters st)) env) (model image.name w1))
@@ -354,7 +354,7 @@ module _ (image : Compared) where
       where
         gives_result : (w : World) (result : Option Storage) (below : List Kind) (st : List Value) → AreKinds image w.heap (result_kinds result ++ below) st → ResultSuits result (result_of result st) w
         gives_result w None below st all = tt
-        gives_result w (Some s) below st all = first_kind w.heap (kind_of s) below st all
+        gives_result w (Some s) below st all = first_kind w.heap (operand_kind s) below st all
 
     -- to a target, before which the stack is empty
     ahead : (to : ℕ) (st env : List Value) (w : World) → at < to → to < length f.code → AreKinds image w.heap (kinds_before image.code f to) st → AreLocals image w.heap f.locals env → NextSuits f at (onward (to - suc at) st env) w

@@ -8,7 +8,7 @@ use Rattle.rc_core.specs.Source.{first_of}
 use Rattle.rc_safety.proofs.Lists.{every_more, zip_more, zip_append}
 use Rattle.rc_safety.proofs.Fronts.{FrontZip}
 use Rattle.rc_code.specs.Running.{storage_of}
-use Rattle.rc_code.specs.Soundness.{Kind, numbers, handles, pointers, kind_of}
+use Rattle.rc_code.specs.Soundness.{Kind, numbers, handles, pointers, operand_kind}
 use Rattle.rc_worlds.specs.Worlds.{Compared}
 use Rattle.rc_worlds.specs.Typed.{Shape, shape_of, shape_in, shape_there, Suits, HasKind, Keeps, Stored, ObjectIsTyped, RegionIsTyped, IsMade, Grows}
 use Rattle.rc_code.specs.declared.kind.Storage.{Storage}
@@ -50,7 +50,7 @@ suits_grow image a b grows k v is = record { suits = by k v is.suits }
     by (pointers t) (Pointer p) e = record { count = e.count; there = grows.objects p.region p.object _ e.there; within = e.within }
 
 pub keeps_grow : (image : Compared) (a b : Heap) → Grows a b → (s : Storage) (v : Value) → Keeps image a s v → Keeps image b s v
-keeps_grow image a b grows s v is = record { kind = suits_grow image a b grows (kind_of s) v is.kind; narrow = is.narrow }
+keeps_grow image a b grows s v is = record { kind = suits_grow image a b grows (operand_kind s) v is.kind; narrow = is.narrow }
 
 pub suits_made : (image : Compared) (heap : Heap) (k : Kind) (v : Value) → HasKind image heap k v → IsMade heap v
 suits_made image heap k v is = by k v is.suits

@@ -12,7 +12,7 @@ use Rattle.rc_code.specs.declared.image.Function.{Function}
 use Rattle.rc_code.specs.declared.instruction.Instruction.{Instruction}
 use Rattle.rc_code.specs.Running.{line_at, function_at, Next, onward, backward, done, Onward, first_locals, effect, resume, walk, rounds, calls_within, run_main}
 use Rattle.rc_code.specs.StoreModel.{Held}
-use Rattle.rc_code.specs.Soundness.{kind_of, parameter_kinds, kinds_before, ends, FunctionIsSound}
+use Rattle.rc_code.specs.Soundness.{operand_kind, parameter_kinds, kinds_before, ends, FunctionIsSound}
 use Rattle.rc_worlds.specs.Worlds.{mapped, Compared, watched, trusting, model, may_mark, looks}
 use Rattle.rc_worlds.specs.Typed.{Good}
 use Rattle.rc_worlds.specs.Facts.{ImageIsSound}
@@ -101,7 +101,7 @@ module _ (image : Compared) (sound : ImageIsSound image) where
       ((calls_agree (suc w.turns)).agree image.code.parts.main [] w sound.main good (subst (λ kinds. AreKinds image w.heap kinds []) (sym nothing) tt))
     where
       nothing : parameter_kinds (function_at image.code image.code.parts.main) ≡ []
-      nothing = ap (λ n. map kind_of (take n (function_at image.code image.code.parts.main).locals)) sound.rules.main_takes
+      nothing = ap (λ n. map operand_kind (take n (function_at image.code image.code.parts.main).locals)) sound.rules.main_takes
 
   -- without marks always, and with marks where no check that is left out fails in the source's run
   pub exact : (w : World) → Good image w → (Excused image (run_main (watched image) image.code w) → ⊥) → run_main (trusting image.name) image.code (model image.name w) ≡ mapped image (run_main (watched image) image.code w)
@@ -125,4 +125,4 @@ module _ (image : Compared) (sound : ImageIsSound image) where
   no_parameters heap = subst (λ kinds. AreKinds image heap kinds []) (sym nothing) tt
     where
       nothing : parameter_kinds (function_at image.code image.code.parts.main) ≡ []
-      nothing = ap (λ n. map kind_of (take n (function_at image.code image.code.parts.main).locals)) sound.rules.main_takes
+      nothing = ap (λ n. map operand_kind (take n (function_at image.code image.code.parts.main).locals)) sound.rules.main_takes

@@ -14,7 +14,7 @@ use Rattle.rc_code.specs.declared.instruction.Instruction.{Instruction}
 use Rattle.rc_code.specs.Running.{layout_at, path_at, function_at, pointee, storage_of, chosen_values, run_main}
 use Rattle.rc_code.specs.StoreModel.{stored}
 use Rattle.rc_code.proofs.Kinding.{arithmetic_gives, arithmetic_takes, constant_gives, constant_takes}
-use Rattle.rc_code.specs.Soundness.{Kind, kind_of, place_kinds, takes, gives, count_off, instruction_at, kinds_before, FunctionIsSound, Names, Operands, Targets, Empty}
+use Rattle.rc_code.specs.Soundness.{Kind, operand_kind, place_kinds, takes, gives, count_off, instruction_at, kinds_before, FunctionIsSound, Names, Operands, Targets, Empty}
 use Rattle.rc_worlds.specs.Worlds.{mapped, own, Compared, watched, model, named_cell, may_mark}
 use Rattle.rc_worlds.specs.Typed.{Good}
 use Rattle.rc_worlds.specs.Facts.{PathIsSound, ImageIsSound}
@@ -39,7 +39,7 @@ module _ (image : Compared) (same_number : (ty : Ty) → pointee (image.name ty)
   same_takes f (instruction.Typed typed.AllocateArray t) = refl
   same_takes f (instruction.Arithmetic row s) = arithmetic_takes (own image).code f row s ∙ sym (arithmetic_takes image.code f row s)
   same_takes f (instruction.Move t s direction) = refl
-  same_takes f (instruction.Store p b) = ap (λ s. kind_of s ∷ reverse (place_kinds (path_at image.code p))) (own_storage image same_number (path_at image.code p))
+  same_takes f (instruction.Store p b) = ap (λ s. operand_kind s ∷ reverse (place_kinds (path_at image.code p))) (own_storage image same_number (path_at image.code p))
   same_takes f (instruction.Simple simple.NullRegion) = refl
   same_takes f (instruction.Simple simple.SameRegion) = refl
   same_takes f (instruction.Simple simple.IsZero) = refl
@@ -64,7 +64,7 @@ module _ (image : Compared) (same_number : (ty : Ty) → pointee (image.name ty)
   same_gives f (instruction.Global g) = refl
   same_gives f (instruction.Get x) = refl
   same_gives f (instruction.Set x) = refl
-  same_gives f (instruction.Load p) = ap (λ s. kind_of s ∷ []) (own_storage image same_number (path_at image.code p))
+  same_gives f (instruction.Load p) = ap (λ s. operand_kind s ∷ []) (own_storage image same_number (path_at image.code p))
   same_gives f (instruction.Typed typed.Null t) = refl
   same_gives f (instruction.Typed typed.Same t) = refl
   same_gives f (instruction.Typed typed.IsNull t) = refl

@@ -21,7 +21,7 @@ use Rattle.rc_safety.specs.Soundness.{HeapIsSound}
 use Rattle.rc_code.specs.declared.kind.Storage.{Storage}
 use Rattle.rc_code.specs.declared.kind.Storage.TheVariants as storage
 use Rattle.rc_code.specs.declared.image.Global.{Global}
-use Rattle.rc_code.specs.Soundness.{Kind, numbers, handles, pointers, kind_of}
+use Rattle.rc_code.specs.Soundness.{Kind, numbers, handles, pointers, operand_kind}
 use Rattle.rc_worlds.specs.Worlds.{Compared, looks}
 use Rattle.rc_code.specs.Running.{layout_at, storage_of}
 
@@ -80,7 +80,7 @@ IsNarrow ranged (storage.Pointer type) v = Unit {0}
 
 -- what a local or a cell keeps
 pub record Keeps (image : Compared) (heap : Heap) (s : Storage) (v : Value) : Type 0 where
-  pub kind : HasKind image heap (kind_of s) v
+  pub kind : HasKind image heap (operand_kind s) v
   pub narrow : IsNarrow image.ranged s v
 
 abbrev pub Stored : Compared → Heap → CellKind → Value → Type 0

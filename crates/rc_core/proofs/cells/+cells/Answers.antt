@@ -1,6 +1,6 @@
 use Rattle.std.proofs.Common.{◌<◌, map, length, ap, subst, arith}
 use Rattle.std.proofs.lemmas.List.{length-map}
-use Rattle.rc_core.specs.Shapes.{ty_of, kind_of, struct_of, field_of}
+use Rattle.rc_core.specs.Shapes.{ty_of, cell_kind_of, struct_of, field_of}
 use Rattle.rc_core.specs.Typing.{IsDefined}
 use Rattle.rc_core.specs.WellTyped.{IsInside, FieldFits}
 use Rattle.rc_core.proofs.LayoutLaws.{rank}
@@ -20,4 +20,4 @@ push_struct-push_field-requires t c =
 
 pub push_struct-returns : goal.push_struct-returns
 push_struct-returns t c =
-    struct_done c.args.structs.now c.requires.fit c.index-structs-number.result c.args.number c.requires.defined c.index-structs-number.is (map kind_of c.args.kinds.now.items) (map kind_of c.loop-field.kinds.items) c.deref-field-items.result.now c.loop-field.field-index c.deref-field-items.ensures.value c.loop-field-test.false c.loop-field.invariant
+    struct_done c.args.structs.now c.requires.fit c.index-structs-number.result c.args.number c.requires.defined c.index-structs-number.is (map cell_kind_of c.args.kinds.now.items) (map cell_kind_of c.loop-field.kinds.items) c.deref-field-items.result.now c.loop-field.field-index c.deref-field-items.ensures.value c.loop-field-test.false c.loop-field.invariant

@@ -3,7 +3,7 @@ use Rattle.std.specs.List.{AllByRecursion as Every}
 use Rattle.std.proofs.lemmas.List.{get_or_default, take_all}
 use Rattle.rc_core.specs.Numbers.{IsByte}
 use Rattle.rc_core.specs.Heap.{Number}
-use Rattle.rc_core.specs.Laid.{kind_of}
+use Rattle.rc_core.specs.Laid.{held_kind}
 use Rattle.rc_core.specs.Shapes.{kinds_in}
 use Rattle.rc_store.specs.Kept.{blank}
 use Rattle.rc_store.specs.Stores.{written}
@@ -17,7 +17,7 @@ loop-element-init g c =
     let before = first_of s in
     let n = c.args.n in
     record {
-      heap = c.in_ok-object.ensures.ok ∙ one_more s c.requires.alone (map kind_of (kinds_in c.args.layout.now)) n
+      heap = c.in_ok-object.ensures.ok ∙ one_more s c.requires.alone (map held_kind (kinds_in c.args.layout.now)) n
           ∙ ap (λ ks. holding (before ++ blank ks n ∷ []) s) c.requires.numbers
           ∙ ap (λ vs. holding (before ++ numbers n vs ∷ []) s) (begun_first c.args.bytes.now n c.requires.all);
       bytes = tt;

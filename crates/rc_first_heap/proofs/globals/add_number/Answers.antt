@@ -1,6 +1,6 @@
 use Rattle.std.proofs.Common.{◌≡◌, ◌∙◌, ◌++◌, ◌∷◌, [], ap, map, pos, sym, get_or, rules, w64, SFits, to_z-of_z}
 use Rattle.rc_core.specs.Heap.{Number}
-use Rattle.rc_core.specs.Laid.{kind_of}
+use Rattle.rc_core.specs.Laid.{held_kind}
 use Rattle.rc_core.specs.Shapes.{kinds_in}
 use Rattle.rc_core.specs.Types.{int_cell}
 use Rattle.rc_code.specs.ImageMeaning.{first_number}
@@ -16,7 +16,7 @@ returns g c =
     let before = first_of s in
     let layout = kinds_in c.args.layout.now in
     let added : g.H.Heap.store c.add_global.new.self ≡ holding (before ++ numbers 1 (Number (pos 0) ∷ []) ∷ []) s =
-    c.in_ok-object.ensures.ok ∙ one_more s c.requires.alone (map kind_of layout) 1 ∙ ap (λ ks. holding (before ++ blank ks 1 ∷ []) s) c.requires.numbers in
+    c.in_ok-object.ensures.ok ∙ one_more s c.requires.alone (map held_kind layout) 1 ∙ ap (λ ks. holding (before ++ blank ks 1 ∷ []) s) c.requires.numbers in
     let value : c.first_number-value.result ≡ first_number (get_or layout 0 int_cell) c.args.n = c.first_number-value.ensures ∙ ap (λ k. first_number k c.args.n) (first_cell c.args.layout.now.cells.items c.index.result.now c.requires.numbers (search rules)) in
     let fits : SFits w64 c.first_number-value.result = search rules in
     c.write_number.ensures.written

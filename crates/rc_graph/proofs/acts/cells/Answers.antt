@@ -1,6 +1,6 @@
 use Rattle.std.proofs.Common.{◌≡◌, ◌+◌, ◌++◌, ◌∷◌, [], suc, drop, length, sym, ap, ◌∙◌, arith}
 use Rattle.std.proofs.lemmas.List.{length-map, length-drop}
-use Rattle.rc_core.specs.Laid.{kind_of}
+use Rattle.rc_core.specs.Laid.{held_kind}
 use Rattle.rc_rlang.specs.RegionFlow.{cell_effects, in_line, going, is_regional_cell, loading, storing, temporary_variable}
 use Rattle.rc_graph.specs.Nodes.{nodes_of, effect_of}
 use Rattle.rc_graph.proofs.Walking.{cells_more, last_cell, last_or, split_at}
@@ -11,7 +11,7 @@ loop-i-preserved c f v u layout hv hu ht same =
     let l = c.loop-i in
     let i = l.i in
     let within = c.loop-i-test.true in
-    let long = ap length same ∙ length-map layout kind_of in
+    let long = ap length same ∙ length-map layout held_kind in
     let s = split_at layout i (omega (arith, within, long)) in
     let rest = drop (suc i) layout in
     let note = c.note_at-note.ensures layout s.item same s.there in

@@ -1,7 +1,7 @@
 use Rattle.std.proofs.Common.{map, reverse, option_to_list, refl, sym, ap, ap₂, subst, ◌&&◌, ◌∙◌}
 use Rattle.rc_code.specs.declared.instruction.Instruction.TheVariants as instruction
 use Rattle.rc_code.specs.Running.{reading_of}
-use Rattle.rc_code.specs.Soundness.{kind_of}
+use Rattle.rc_code.specs.Soundness.{operand_kind}
 use Rattle.rc_loader.specs.Codes.{kind_in}
 use Rattle.rc_loader.specs.Decisions.{pushed, is_any, may_be_marked, reached_cell, storage_in, AreDemands}
 use Rattle.rc_loader.proofs.Operands.{stored_is}
@@ -41,7 +41,7 @@ returns-else-not-may_be_marked c =
       leads = ap (λ d. d.leads) is;
       empties = ap (λ d. d.empties) is;
       kinds = ap (λ d. reverse (pushed d.taken)) is
-          ∙ stored_is c.args.parts.now c.args.function.now (instruction.Store c.in-Store.path c.in-Store.proved) c.in-Store.path c.in-Store.proved c.in_ok-path-in-Store.path.now c.held_by.result refl path.1 (c.held_by.ensures ∙ ap (λ k. kind_of (storage_in k)) cell);
+          ∙ stored_is c.args.parts.now c.args.function.now (instruction.Store c.in-Store.path c.in-Store.proved) c.in-Store.path c.in-Store.proved c.in_ok-path-in-Store.path.now c.held_by.result refl path.1 (c.held_by.ensures ∙ ap (λ k. operand_kind (storage_in k)) cell);
       any = ap (λ d. is_any d.taken) is;
       given = ap (λ d. map kind_in (option_to_list d.given)) is;
     })

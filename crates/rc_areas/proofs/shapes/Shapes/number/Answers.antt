@@ -2,7 +2,7 @@ use Rattle.std.proofs.Common.{◌≡◌, ◌∙◌, ◌++◌, ◌∷◌, [], Som
 use Rattle.std.specs.Prelude.{slice_get}
 use Rattle.std.proofs.lemmas.List.{length-map}
 use Rattle.std.proofs.lemmas.Option.{slice_get-get_or}
-use Rattle.rc_core.specs.Laid.{kind_of}
+use Rattle.rc_core.specs.Laid.{held_kind}
 use Rattle.rc_core.specs.Shapes.{kinds_in}
 use Rattle.rc_areas.specs.Shapes.{items_of}
 use Rattle.rc_areas.proofs.Named.{known}
@@ -10,7 +10,7 @@ use Rattle.rc_areas.proofs.shapes.Shapes.number.Goals as goal
 
 pub returns-then-is_of-clause-shapes : goal.returns-then-is_of-clause-shapes
 returns-then-is_of-clause-shapes c =
-    let shape = map kind_of (kinds_in c.args.layout.now) in
+    let shape = map held_kind (kinds_in c.args.layout.now) in
     let shapes = c.args.self.now in
     let last = c.self.inside.last in
     let below = c.if-last-len.true in

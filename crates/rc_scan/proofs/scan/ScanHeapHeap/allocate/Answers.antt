@@ -1,5 +1,5 @@
 use Rattle.std.proofs.Common.{map, sym, subst}
-use Rattle.rc_core.specs.Laid.{kind_of}
+use Rattle.rc_core.specs.Laid.{held_kind}
 use Rattle.rc_core.specs.Shapes.{kinds_in}
 use Rattle.rc_store.specs.Kept.{KeptStore}
 use Rattle.rc_store.specs.Stores.{IsLive}
@@ -14,6 +14,6 @@ invariant_of-self g c =
     let s : KeptStore = record { regions = h.regions; pins = h.pins.pins; spare = h.pins.spare; region_limit = h.region_limit; block_limit = h.block_limit } in
     let live : IsLive s c.args.region = subst (λ x. IsLive x c.args.region) (sym c.self.view_is) c.requires.live in
     elim c.match-push_object.branch [
-      | in-Ok w ↦ with_regions s _ _ w.in-Ok.ensures.ok (stays_whole.allocated s c.args.region c.args.n (map kind_of (kinds_in c.args.kind.now)) c.self.invariant live)
+      | in-Ok w ↦ with_regions s _ _ w.in-Ok.ensures.ok (stays_whole.allocated s c.args.region c.args.n (map held_kind (kinds_in c.args.kind.now)) c.self.invariant live)
       | in-Err w ↦ with_regions s _ _ w.in-Err.ensures.err c.self.invariant
     ]

@@ -3,8 +3,8 @@ use Rattle.rc_space.specs.Spaces.{SpaceState, area_at, regions_of}
 use Rattle.std.proofs.lemmas.List.{length-map, with_items_is}
 use Rattle.std.proofs.lemmas.Option.{get_or_from_slice_get}
 use Rattle.std.proofs.lemmas.Result.{on_err_weaker, on_ok_weaker}
-use Rattle.rc_core.specs.Laid.{kind_of}
-use Rattle.rc_core.specs.Shapes.{kind_of as cell_kind_of}
+use Rattle.rc_core.specs.Laid.{held_kind}
+use Rattle.rc_core.specs.Shapes.{cell_kind_of}
 use Rattle.rc_core.specs.Shapes.{kinds_in}
 use Rattle.rc_store.specs.Kept.{blank}
 use Rattle.rc_areas.specs.Areas.{AreaState, IsLaid, objects_of}
@@ -25,7 +25,7 @@ push_object-requires-clause-laid g c =
     let view = ap (λ (x : SpaceState). x.regions) c.self.view_is in
     let r = c.args.region in
     let slot = c.find-slot.result in
-    let ks = map kind_of (kinds_in c.args.layout.now) in
+    let ks = map held_kind (kinds_in c.args.layout.now) in
     let shapes = c.number.new.self in
     let more : shapes ≡ with_shape ks s.shapes = c.in_ok-shape.ensures.shapes in
     let kept : (a : AreaState) → IsLaid s.shapes a → IsLaid shapes a = λ a laid. subst (λ x. IsLaid x a) (sym more) (shape_laid s.shapes ks a laid) in
@@ -34,9 +34,9 @@ push_object-requires-clause-laid g c =
 pub push_object-requires-clause-size : goal.push_object-requires-clause-size
 push_object-requires-clause-size g c =
     let layout = c.args.layout.now in
-    let ks = map kind_of (kinds_in layout) in
+    let ks = map held_kind (kinds_in layout) in
     let shape = get_or_from_slice_get c.number.new.self c.in_ok-shape.shape ks [] c.in_ok-shape.ensures.number in
-    c.requires.size ∙ ap (λ n. c.args.count * n) (sym (ap length shape ∙ length-map (kinds_in layout) kind_of ∙ length-map layout.cells.items cell_kind_of))
+    c.requires.size ∙ ap (λ n. c.args.count * n) (sym (ap length shape ∙ length-map (kinds_in layout) held_kind ∙ length-map layout.cells.items cell_kind_of))
 
 pub invariant_of-self-2 : goal.invariant_of-self-2
 invariant_of-self-2 g c =
@@ -47,7 +47,7 @@ invariant_of-self-2 g c =
     let view = ap (λ (x : SpaceState). x.regions) c.self.view_is in
     let r = c.args.region in
     let slot = c.find-slot.result in
-    let ks = map kind_of (kinds_in c.args.layout.now) in
+    let ks = map held_kind (kinds_in c.args.layout.now) in
     let shapes = c.number.new.self in
     let more : shapes ≡ with_shape ks s.shapes = c.in_ok-shape.ensures.shapes in
     let kept : (a : AreaState) → IsLaid s.shapes a → IsLaid shapes a = λ a laid. subst (λ x. IsLaid x a) (sym more) (shape_laid s.shapes ks a laid) in
@@ -70,7 +70,7 @@ returns-clause-ok g c =
     let view = ap (λ (x : SpaceState). x.regions) c.self.view_is in
     let r = c.args.region in
     let slot = c.find-slot.result in
-    let ks = map kind_of (kinds_in c.args.layout.now) in
+    let ks = map held_kind (kinds_in c.args.layout.now) in
     let shapes = c.number.new.self in
     let more : shapes ≡ with_shape ks s.shapes = c.in_ok-shape.ensures.shapes in
     let kept : (a : AreaState) → IsLaid s.shapes a → IsLaid shapes a = λ a laid. subst (λ x. IsLaid x a) (sym more) (shape_laid s.shapes ks a laid) in
@@ -100,7 +100,7 @@ returns-clause-err g c =
     let view = ap (λ (x : SpaceState). x.regions) c.self.view_is in
     let r = c.args.region in
     let slot = c.find-slot.result in
-    let ks = map kind_of (kinds_in c.args.layout.now) in
+    let ks = map held_kind (kinds_in c.args.layout.now) in
     let shapes = c.number.new.self in
     let more : shapes ≡ with_shape ks s.shapes = c.in_ok-shape.ensures.shapes in
     let kept : (a : AreaState) → IsLaid s.shapes a → IsLaid shapes a = λ a laid. subst (λ x. IsLaid x a) (sym more) (shape_laid s.shapes ks a laid) in
