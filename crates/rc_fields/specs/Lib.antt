@@ -1,4 +1,4 @@
 pub mod Spelling
 pub mod Reading
-pub mod Walks
+pub mod Masks
 pub mod Bounds

@@ -3,13 +3,13 @@
 //! reader stops.
 #![tactic(auto)]
 
-mod chains;
 mod globals;
+mod kinds;
+mod masks;
 mod numbers;
 mod paths;
 mod stop;
 mod types;
-mod walks;
 
 pub use globals::{read_globals, write_globals};
 pub use numbers::{

@@ -1,111 +1,77 @@
 // Paths.
-ghost use Rattle.std.specs.Prelude.{◌≡◌, ◌++◌, nat_lt, true, length, drop, IfOk, OnOk};
+ghost use Rattle.std.specs.Prelude.{◌≡◌, ◌++◌, drop, IfOk, OnOk};
 ghost use Rattle.std.specs.List.{AllByRecursion as Every};
-ghost use Rattle.rc_code.specs.Image.{IndexFits, cells_at, is_apart, is_nested};
-ghost use Rattle.rc_code.specs.Reached.{span, has_one_kind};
+ghost use Rattle.rc_code.specs.Image.{IndexFits, cells_at};
+ghost use Rattle.rc_code.specs.Reached.{has_one_kind};
 ghost use Rattle.rc_fields.specs.Spelling.{number, counted, shift_number, index_bytes, path_bytes};
-ghost use Rattle.rc_fields.specs.Walks.{AreFit, AreRight};
+ghost use Rattle.rc_reached.specs.Walks.{AreFit};
+ghost use Rattle.rc_fields.specs.Masks.{AreRight};
 ghost use Rattle.rc_fields.specs.Reading.{Gives, many, counted_at, keeps_rules, shift_at, index_at, path_at};
 
-use crate::chains::Chains;
 use crate::globals::cells_of;
+use crate::masks::Masks;
 use crate::numbers::{read_kind, read_number, read_within, write_kind, write_number};
 use crate::stop::Stop;
-use crate::walks::{are_alike, cells_from, places, ways_of};
 use rc_code::{Cell, Index, Items, Path};
 use rc_core::ty::Signedness;
+use rc_reached::{cells_from, has_one_kind, has_one_kind_marked, is_inside, is_nested, places};
 use std::alloc::{AllocError, Global};
 
-/// Whether the stride is at least the next index's length times its stride.
-fn is_apart(index: Index, after: &[Index]) -> bool
-    ensures { result ≡ is_apart index after.now }
-{
-    match after {
-        [] => true,
-        [next, ..] => { u64::from(index.stride) >= u64::from(next.length) * u64::from(next.stride) }
-    }
-}
-
-/// Whether each stride is at least the next index's length times its stride.
-fn is_nested(indices: &[Index]) -> bool
-    ensures { result ≡ is_nested indices.now }
-{
-    let mut rest = indices;
-    while let [index, after @ ..] = rest {
-        if !is_apart(*index, after) {
-            return false;
-        }
-        rest = after;
-    }
-    true
-}
-
-/// Whether the greatest cell that is reached is among so many, from the offset on.
-#[tactic(auto, using(crate::proofs::Rules::less_room, crate::proofs::Rules::no_room))]
-fn is_inside(indices: &[Index], cells: usize) -> bool
-    ensures { result ≡ nat_lt (span indices.now) cells }
-{
-    let mut room = cells as u64;
-    let mut rest = indices;
-    while let [index, after @ ..] = rest {
-        let step = u64::from(index.length.saturating_sub(1)) * u64::from(index.stride);
-        if step >= room {
-            return false;
-        }
-        room -= step;
-        rest = after;
-    }
-    room > 0
-}
+/// How many places a path may lead to that are always gone over one by one.
+const FEW: u32 = 16;
 
 /// Whether the cells that are reached are of one kind, where strides are nested and all of them are
 /// inside the type.
 fn reaches_one_kind(
     alloc: Global,
-    chains: &mut Chains,
+    masks: &mut Masks,
     types: &[Items<Cell>],
     type_number: u32,
     offset: u32,
     indices: &[Index],
 ) -> Result<bool, AllocError>
     requires fit { AreFit indices.now (drop offset (cells_at types.now type_number)) }
-    requires right { AreRight types.now chains.old.tables.items }
+    requires right { AreRight types.now masks.old.made.items }
     ensures one { IfOk result (λ is_one. is_one ≡ has_one_kind indices.now (drop offset (cells_at types.now type_number))) }
-    ensures right { IfOk result (λ is_one. AreRight types.now chains.new.tables.items) }
+    ensures right { IfOk result (λ is_one. AreRight types.now masks.new.made.items) }
 {
-    let from = cells_from(cells_of(types, type_number), offset);
-    let [first, ..] = from else {
-        return Ok(false);
-    };
-    let ways = ways_of(alloc, indices)?;
-    let longest = ways.longest;
-    chains.prepare(alloc, types, type_number, longest.stride, places(&ways))?;
-    let known = chains.find(type_number, longest.stride);
-    Ok(are_alike(&ways.others, from, *first, longest, known))
+    let place = offset as usize;
+    let cells = cells_of(types, type_number);
+    if places(indices) <= FEW {
+        let is_one = has_one_kind(alloc, indices, cells, place)?;
+        return Ok(is_one);
+    }
+    if let Some(mask) = masks.find(type_number, cells, place) {
+        let is_one = has_one_kind_marked(alloc, indices, cells, place, mask)?;
+        return Ok(is_one);
+    }
+    masks.make(alloc, type_number, cells, place)?;
+    let is_one = has_one_kind(alloc, indices, cells, place)?;
+    Ok(is_one)
 }
 
 /// Whether a path of a type keeps the rules on strides and on the cells that it reaches.
 fn keeps_rules(
     alloc: Global,
-    chains: &mut Chains,
+    masks: &mut Masks,
     types: &[Items<Cell>],
     type_number: u32,
     offset: u32,
     indices: &[Index],
 ) -> Result<bool, AllocError>
     requires fit { Every IndexFits indices.now }
-    requires right { AreRight types.now chains.old.tables.items }
+    requires right { AreRight types.now masks.old.made.items }
     ensures keeps { IfOk result (λ keeps. keeps ≡ keeps_rules (drop offset (cells_at types.now type_number)) indices.now) }
-    ensures right { IfOk result (λ keeps. AreRight types.now chains.new.tables.items) }
+    ensures right { IfOk result (λ keeps. AreRight types.now masks.new.made.items) }
 {
-    let from = cells_from(cells_of(types, type_number), offset);
+    let from = cells_from(cells_of(types, type_number), offset as usize);
     if !is_nested(indices) {
         return Ok(false);
     }
     if !is_inside(indices, from.len()) {
         return Ok(false);
     }
-    reaches_one_kind(alloc, chains, types, type_number, offset, indices)
+    reaches_one_kind(alloc, masks, types, type_number, offset, indices)
 }
 
 /// Reads the kind of a path's shift, 0 for none.
@@ -167,19 +133,19 @@ fn read_indices(alloc: Global, bytes: &[u8]) -> Result<(Vec<Index>, &[u8]), Stop
 #[tactic(auto, unfolding(crate::specs::Reading::path_at))]
 fn read_path<'b>(
     alloc: Global,
-    chains: &mut Chains,
+    masks: &mut Masks,
     types: &[Items<Cell>],
     bytes: &'b [u8],
 ) -> Result<(Path, &'b [u8]), Stop>
-    requires { AreRight types.now chains.old.tables.items }
+    requires { AreRight types.now masks.old.made.items }
     ensures gives { Gives (λ x. (x.0, x.1.now)) result (path_at types.now bytes.now) }
-    ensures right { IfOk result (λ x. AreRight types.now chains.new.tables.items) }
+    ensures right { IfOk result (λ x. AreRight types.now masks.new.made.items) }
 {
     let (type_number, rest) = read_within(0, types.len() as u64, bytes)?;
     let (shift, rest) = read_shift(rest)?;
     let (offset, rest) = read_number(rest)?;
     let (indices, rest) = read_indices(alloc, rest)?;
-    if !keeps_rules(alloc, chains, types, type_number, offset, &indices)? {
+    if !keeps_rules(alloc, masks, types, type_number, offset, &indices)? {
         return Err(Stop::Field(bytes.len()));
     }
     let indices = Items::new(indices);
@@ -195,18 +161,18 @@ fn read_path<'b>(
 /// Reads so many paths.
 fn read_path_list<'b>(
     alloc: Global,
-    chains: &mut Chains,
+    masks: &mut Masks,
     types: &[Items<Cell>],
     count: u32,
     bytes: &'b [u8],
 ) -> Result<(Vec<Path>, &'b [u8]), Stop>
-    requires { AreRight types.now chains.old.tables.items }
+    requires { AreRight types.now masks.old.made.items }
     ensures { Gives (λ x. (x.0.items, x.1.now)) result (many (path_at types.now) count bytes.now) }
 {
     let mut items = Vec::new(alloc);
     let mut rest = bytes;
     for _ in 0..count {
-        let (item, after) = read_path(alloc, chains, types, rest)?;
+        let (item, after) = read_path(alloc, masks, types, rest)?;
         items.push(item)?;
         rest = after;
     }
@@ -228,8 +194,8 @@ pub fn read_paths<'b>(
     ensures { Gives (λ x. (x.0.items, x.1.now)) result (counted_at (path_at types.now) bytes.now) }
 {
     let (count, rest) = read_number(bytes)?;
-    let mut chains = Chains::new(alloc, types)?;
-    read_path_list(alloc, &mut chains, types, count, rest)
+    let mut masks = Masks::new(alloc, types)?;
+    read_path_list(alloc, &mut masks, types, count, rest)
 }
 
 fn write_shift(out: &mut Vec<u8>, shift: Option<Signedness>) -> Result<(), AllocError>

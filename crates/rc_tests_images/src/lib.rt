@@ -6,6 +6,8 @@ mod bytes;
 #[cfg(test)]
 mod decoding;
 #[cfg(test)]
+mod paths;
+#[cfg(test)]
 mod piles;
 #[cfg(test)]
 mod table;

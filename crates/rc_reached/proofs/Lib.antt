@@ -1,0 +1,5 @@
+pub mod Rules
+pub mod Along
+pub mod Rows
+pub mod Alike
+pub mod Narrowing
