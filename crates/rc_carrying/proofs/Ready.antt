@@ -1,10 +1,11 @@
 -- A set that is ready for an instruction, and is so again behind it.
-use Rattle.std.proofs.Common.{◌≡◌, ℕ, suc, Bool, true, false, not, ◌&&◌, IsTrue, List, Option, Some, None, refl, sym, ap, ◌∙◌, subst, inl, inr, ◌↔◌, arith}
+use Rattle.std.proofs.Common.{◌≡◌, ℕ, suc, Bool, true, false, not, ◌&&◌, ◌||◌, IsTrue, List, Option, Some, None, refl, sym, ap, ◌∙◌, subst, inl, inr, ◌↔◌, arith}
 use Rattle.std.specs.List.{All}
 use Rattle.std.proofs.lemmas.Bool.{and_parts, and_from, or_cases, or_left, or_right}
 use Rattle.rc_facts.specs.declared.fact.Fact.{Fact}
 use Rattle.rc_facts.specs.Derivable.{Derivable, stated}
-use Rattle.rc_facts.specs.Facts.{Known, is_over, names}
+use Rattle.rc_facts.specs.declared.fact.Fact.TheVariants.{In, Up}
+use Rattle.rc_facts.specs.Facts.{Known, is_over, names, same_fact}
 use Rattle.rc_facts.specs.Shut.{together}
 use Rattle.rc_flow.specs.Flow.{Facts, Behind, set_at}
 use Rattle.rc_flow.specs.Flow.{IsClosed as IsShutOn}
@@ -59,6 +60,14 @@ module _ (n s : ℕ) (before forgot : Facts) (ready : IsReady n s before) (rest 
 
   pub behind_before : (x : Option ℕ) (news : List Fact) (after : Facts) → ((p : Fact) → IsTrue (after p) ↔ Behind n s x news forgot p) → (p : Fact) → IsTrue (after p) ↔ Behind n s x news before p
   behind_before x news after is p = (λ e. (behind_forgotten x news p).0 ((is p).0 e), λ b. (is p).1 ((behind_forgotten x news p).1 b))
+
+-- what is added of it, of which nothing was known
+pub added_own : (s : ℕ) (crossed fresh : Facts) → ((p : Fact) → IsTrue (crossed p) → names s p ≡ false) → ((p : Fact) → fresh p ≡ ((crossed p || same_fact (In s s) p) || same_fact (Up s s) p)) → (p : Fact) → fresh p ≡ (((crossed p && not (names s p)) || same_fact (In s s) p) || same_fact (Up s s) p)
+added_own s crossed fresh apart is p = is p ∙ ap (λ b. (b || same_fact (In s s) p) || same_fact (Up s s) p) (kept (crossed p) (names s p) (apart p))
+  where
+    kept : (b m : Bool) → (b ≡ true → m ≡ false) → b ≡ (b && not m)
+    kept true m h = sym (ap not (h refl))
+    kept false m h = refl
 
 -- ---- what is added
 

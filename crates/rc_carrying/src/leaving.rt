@@ -17,6 +17,16 @@ use rc_facts::{Fact, FactSet};
 use rc_graph::Effect;
 use std::alloc::Global;
 
+/// Adds that a variable is in its own region, and above itself.
+fn add_own(set: &mut FactSet, x: u32)
+    requires { x < set.old.variables }
+    ensures variables { set.new.variables ≡ set.old.variables }
+    ensures facts { (fact : AnyFact) → holds set.new fact ≡ ((holds set.old fact || same_fact (In x x) fact) || same_fact (Up x x) fact) }
+{
+    set.add(Fact::In(x, x));
+    set.add(Fact::Up(x, x));
+}
+
 /// Drops what is known of a variable, but that it is in its own region and above itself.
 fn reset(set: &mut FactSet, x: u32)
     requires { x < set.old.variables }
@@ -24,8 +34,7 @@ fn reset(set: &mut FactSet, x: u32)
     ensures facts { (fact : AnyFact) → holds set.new fact ≡ (((holds set.old fact && not (names x fact)) || same_fact (In x x) fact) || same_fact (Up x x) fact) }
 {
     set.forget(x);
-    set.add(Fact::In(x, x));
-    set.add(Fact::Up(x, x));
+    add_own(set, x);
 }
 
 /// Whether it is the assigned variable.
@@ -91,7 +100,7 @@ fn carry_any(
 {
     set.forget(scratch);
     cross(alloc, set, effect, exits, scratch)?;
-    reset(set, scratch);
+    add_own(set, scratch);
     drop_gone(set, low, top, assigned_by(effect));
     Ok(())
 }

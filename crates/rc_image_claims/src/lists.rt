@@ -63,6 +63,16 @@ fn add_rows(out: &mut Vec<Fact>, bytes: &[u8], n: u32, names: &[u32]) -> Result<
     Ok(())
 }
 
+/// Makes room for the facts that bits mostly claim over `n` variables.
+fn make_room(out: &mut Vec<Fact>, n: usize) -> Result<(), NoMemory>
+    requires { n ≤ 128 }
+    ensures { out.new.items ≡ out.old.items }
+{
+    let most = 2 * n * (n + 1);
+    out.reserve(most.min(64))?;
+    Ok(())
+}
+
 /// Puts the facts that these bits claim behind the others, with these names for their variables.
 ///
 /// # Errors
@@ -72,6 +82,7 @@ pub fn add_claims(out: &mut Vec<Fact>, bytes: &[u8], names: &[u32]) -> Result<()
     requires few { length names.now ≤ 128 }
     ensures { OnOk result ((fact : AnyFact) → IsTrue (is_listed out.new.items fact) ↔ (IsTrue (is_listed out.old.items fact) ⊎ Named (claims (length names.now) bytes.now) names.now fact)) }
 {
+    make_room(out, names.len())?;
     add_rows(out, bytes, names.len() as u32, names)?;
     Ok(())
 }
@@ -83,7 +94,7 @@ fn put(out: &mut Vec<u32>, number: u32) -> Result<(), NoMemory>
     Ok(())
 }
 
-/// The numbers from 0 to below `n`.
+/// The numbers from 0 to below `n`, with room for one more.
 ///
 /// # Errors
 ///
@@ -92,7 +103,7 @@ pub fn numbers_below(alloc: Global, n: u32) -> Result<Vec<u32>, NoMemory>
     ensures long { IfOk result (λ numbers. length numbers.items ≡ n) }
     ensures each { IfOk result (λ numbers. (x : ℕ) → x < n → get_or numbers.items x 0 ≡ x) }
 {
-    let mut numbers = Vec::with_capacity(alloc, n as usize)?;
+    let mut numbers = Vec::with_capacity(alloc, n as usize + 1)?;
     for number in 0..n {
         put(&mut numbers, number)?;
     }

@@ -12,5 +12,5 @@ mod ways;
 
 pub use beginning::begins;
 pub use framing::frame_of;
-pub use site::{Site, Span, effect_at, next_height, span_at};
+pub use site::{Site, Span, View, next_height, view_at};
 pub use steps::step_of;

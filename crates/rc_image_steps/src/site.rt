@@ -40,6 +40,15 @@ pub struct Span {
     pub top: u32,
 }
 
+/// What an instruction is to the variables.
+#[derive(Drop)]
+pub struct View {
+    /// What it does to them.
+    pub effect: Effect,
+    /// The stack places that it takes or writes.
+    pub span: Span,
+}
+
 /// What a table tells of a number, no where it tells nothing.
 fn is_marked(marks: &[bool], at: u32) -> bool
     ensures { result ≡ get_or marks.now at false }
@@ -132,18 +141,19 @@ fn greater(a: usize, b: usize) -> usize
     if a < b { b } else { a }
 }
 
-/// The stack places that an instruction takes or writes, before which so many operands stand.
-pub fn span_at(site: &Site<'_>, at: u32, height: usize) -> Span
+/// The stack places that an instruction takes or writes, from the variable of the first of them on, before
+/// which so many operands stand, and behind which there are so many.
+fn span_from(site: &Site<'_>, low: u32, at: u32, height: usize, next: usize) -> Span
     requires site { IsSite site.now }
     requires there { at < length (function_in site.now).code }
     requires height { height ≡ height_at (image_of site.now) (function_in site.now) at }
-    ensures low { result.low ≡ place (function_in site.now) (lowest (image_of site.now) (function_in site.now) at) }
+    requires next { next ≡ height_at (image_of site.now) (function_in site.now) (suc at) }
+    ensures low { result.low ≡ low }
     ensures top { result.top ≡ place (function_in site.now) (reach (image_of site.now) (function_in site.now) at) }
 {
-    let places = places_at(site, at, height);
-    let most = greater(height, next_height(site, at, height));
+    let most = greater(height, next);
     Span {
-        low: places.low,
+        low,
         top: place_of(site.shape, most),
     }
 }
@@ -158,22 +168,37 @@ fn called_by(instruction: &Instruction) -> Option<u32>
     }
 }
 
-/// What an instruction does to the variables, before which so many operands stand.
-///
-/// # Errors
-///
-/// Out of memory.
-pub fn effect_at(alloc: Global, site: &Site<'_>, at: u32, height: usize) -> Result<Effect, NoMemory>
+/// What an instruction does to the variables, whose operands stand at these places.
+fn effect_by(alloc: Global, site: &Site<'_>, at: u32, places: Places) -> Result<Effect, NoMemory>
     requires site { IsSite site.now }
     requires there { at < length (function_in site.now).code }
-    requires height { height ≡ height_at (image_of site.now) (function_in site.now) at }
+    requires places { ArePlaces (image_of site.now) (function_in site.now) at places }
     ensures { IfOk result (λ e. effect_of e ≡ effect_at (image_of site.now) (function_in site.now) at) }
 {
     let function = function_of(site.parts, site.number);
     let instruction = instruction_of(function, at as usize);
-    let places = places_at(site, at, height);
     match called_by(instruction) {
         Some(number) => of_call(alloc, site.parts, number, places.low),
         None => Ok(of_other(site.parts, function, instruction, places)),
     }
+}
+
+/// What an instruction is to the variables, before which so many operands stand.
+///
+/// # Errors
+///
+/// Out of memory.
+pub fn view_at(alloc: Global, site: &Site<'_>, at: u32, height: usize) -> Result<View, NoMemory>
+    requires site { IsSite site.now }
+    requires there { at < length (function_in site.now).code }
+    requires height { height ≡ height_at (image_of site.now) (function_in site.now) at }
+    ensures effect { IfOk result (λ view. effect_of view.effect ≡ effect_at (image_of site.now) (function_in site.now) at) }
+    ensures low { IfOk result (λ view. view.span.low ≡ place (function_in site.now) (lowest (image_of site.now) (function_in site.now) at)) }
+    ensures top { IfOk result (λ view. view.span.top ≡ place (function_in site.now) (reach (image_of site.now) (function_in site.now) at)) }
+{
+    let places = places_at(site, at, height);
+    let next = next_height(site, at, height);
+    let span = span_from(site, places.low, at, height, next);
+    let effect = effect_by(alloc, site, at, places)?;
+    Ok(View { effect, span })
 }

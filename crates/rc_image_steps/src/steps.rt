@@ -10,7 +10,7 @@ ghost use Rattle.rc_image_steps.specs.Sites.{function_in, image_of, AreExits, Is
 
 use crate::asking::{asked_before, asked_behind};
 use crate::framing::frame_of;
-use crate::site::{Site, effect_at, span_at};
+use crate::site::{Site, View, view_at};
 use rc_base::NoMemory;
 use rc_carrying::Step;
 use rc_claims::Proofs;
@@ -35,8 +35,7 @@ pub fn step_of(
     ensures stands { IfOk result (λ step. StandsFor (image_of site.now) (annotation_of site.now.parts.now proofs.now) site.now.number at step) }
     ensures fits { IfOk result (λ step. (exits : List AnyKnown) → AreExits site.now.parts.now exits → Fits (variables (image_of site.now) (function_in site.now)) (scratch (image_of site.now) (function_in site.now)) exits step) }
 {
-    let effect = effect_at(alloc, site, at, height)?;
-    let span = span_at(site, at, height);
+    let View { effect, span } = view_at(alloc, site, at, height)?;
     let before = asked_before(alloc, site, proofs, at, &effect)?;
     let behind = asked_behind(alloc, site, proofs, at)?;
     let frame = frame_of(alloc, site, proofs, at + 1)?;

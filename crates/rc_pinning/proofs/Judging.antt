@@ -18,9 +18,10 @@ use Rattle.rc_sealed.specs.Proved.{Way}
 use Rattle.rc_sealed.specs.Pinned.{Used, got, on, UsedAfter, PinsAll, PinsWhat}
 use Rattle.rc_sealed.specs.Faults.{IsWide}
 use Rattle.rc_deleters.specs.declared.deleters.Deleters.{Deleters}
+use Rattle.rc_deleters.specs.Calls.{TellsDeleters}
 use Rattle.rc_pinning.specs.declared.tables.Tables.{Tables}
 use Rattle.rc_pinning.specs.Stops.{number_of, NamesLocals, HasStops, IsNumberIn}
-use Rattle.rc_pinning.specs.Tables.{IsReady, may_delete, where_so, pins_of, CallsWithin, has_number, PinsByTables}
+use Rattle.rc_pinning.specs.Tables.{IsKnown, IsReady, may_delete, where_so, pins_of, CallsWithin, has_number, PinsByTables}
 use Rattle.rc_pinning.proofs.Telling.{trues_less, one_number}
 use Rattle.rc_pinning.proofs.Fitting.{every_at, has_stops}
 
@@ -73,15 +74,9 @@ used_there f names x (on unset way used) = used_there f names x used
 
 -- ---- an instruction
 
-module _ (parts : Parts) (g : ℕ) (deleters : Deleters) (tables : Tables) (ready : IsReady parts g deleters tables) where
-  abbrev image : Reading
-  image = reading_of parts
-
-  abbrev f : Function
-  f = function_at image g
-
-  pub calls_within : (i : Instruction) → Names true image f i → CallsWithin deleters i
-  calls_within (instruction.Call h pins) names = ready.deleters.there h names.0
+module _ (parts : Parts) (g : ℕ) (deleters : Deleters) (told : TellsDeleters parts deleters) where
+  pub calls_within : (i : Instruction) → Names true (reading_of parts) (function_at (reading_of parts) g) i → CallsWithin deleters i
+  calls_within (instruction.Call h pins) names = told.there h names.0
   calls_within i names = tt
 
   -- of one that has to pin
@@ -89,23 +84,51 @@ module _ (parts : Parts) (g : ℕ) (deleters : Deleters) (tables : Tables) (read
     pub falls : (to : ℕ) → Way i at to → to ≡ suc at
     pub leads : Way i at (suc at)
     pub goes : ends i ≡ false
-    pub are : ArePins f pins
-    pub what : PinsWhat image g at i ↔ PinsAll image f at pins
+    pub are : ArePins (function_at (reading_of parts) g) pins
+    pub what : PinsWhat (reading_of parts) g at i ↔ PinsAll (reading_of parts) (function_at (reading_of parts) g) at pins
 
   abbrev pub Judged : (at : ℕ) → Instruction → Option (List ℕ) → Type 0
-  Judged at i None = PinsWhat image g at i
+  Judged at i None = PinsWhat (reading_of parts) g at i
   Judged at i (Some pins) = Asked at i pins
 
-  pub judged : (at : ℕ) (i : Instruction) → Names true image f i → Judged at i (pins_of deleters i)
+  pub judged : (at : ℕ) (i : Instruction) → Names true (reading_of parts) (function_at (reading_of parts) g) i → Judged at i (pins_of deleters i)
   judged at (instruction.Delete pins) names = record { falls = λ to e. e; leads = refl; goes = refl; are = names; what = (λ p. p, λ p. p) }
   judged at (instruction.Call h pins) names = by (may_delete deleters h) refl
     where
       by : (b : Bool) → may_delete deleters h ≡ b → Judged at (instruction.Call h pins) (where_so b pins)
-      by true e = record { falls = λ to e. e; leads = refl; goes = refl; are = names.1; what = (λ p. p ((ready.deleters.told h names.0).0 e), λ p m. p) }
-      by false e = λ m. apart ((ready.deleters.told h names.0).1 m) e
+      by true e = record { falls = λ to e. e; leads = refl; goes = refl; are = names.1; what = (λ p. p ((told.told h names.0).0 e), λ p m. p) }
+      by false e = λ m. apart ((told.told h names.0).1 m) e
   judged at i names = tt
 
-  module _ (at : ℕ) (inside : at < length f.code) (pins : List ℕ) (asked : Asked at (instruction_at f at) pins) where
+module _ (parts : Parts) (g : ℕ) (deleters : Deleters) (known : IsKnown parts g deleters) (at : ℕ) (inside : at < length (function_at (reading_of parts) g).code) (i : Instruction) (is : i ≡ instruction_at (function_at (reading_of parts) g) at) where
+  names_here : Names true (reading_of parts) (function_at (reading_of parts) g) (instruction_at (function_at (reading_of parts) g) at)
+  names_here = (fine_at parts known.sound g known.there at inside).names
+
+  pub calls_here : CallsWithin deleters i
+  calls_here = subst (CallsWithin deleters) (sym is) (calls_within parts g deleters known.deleters (instruction_at (function_at (reading_of parts) g) at) names_here)
+
+  pub judged_here : (found : Option (List ℕ)) → pins_of deleters i ≡ found → Judged parts g deleters known.deleters at (instruction_at (function_at (reading_of parts) g) at) found
+  judged_here found e = subst (Judged parts g deleters known.deleters at (instruction_at (function_at (reading_of parts) g) at)) (ap (pins_of deleters) (sym is) ∙ e) (judged parts g deleters known.deleters at (instruction_at (function_at (reading_of parts) g) at) names_here)
+
+  pub not_asked : pins_of deleters i ≡ None → PinsWhat (reading_of parts) g at (instruction_at (function_at (reading_of parts) g) at)
+  not_asked e = judged_here None e
+
+  pub asked_here : (pins : List ℕ) → pins_of deleters i ≡ Some pins → Asked parts g deleters known.deleters at (instruction_at (function_at (reading_of parts) g) at) pins
+  asked_here pins e = judged_here (Some pins) e
+
+abbrev pub known_of : {parts : Parts} {g : ℕ} {deleters : Deleters} {tables : Tables} → IsReady parts g deleters tables → IsKnown parts g deleters
+known_of ready = record { sound = ready.sound; there = ready.there; deleters = ready.deleters }
+
+-- ---- its tables
+
+module _ (parts : Parts) (g : ℕ) (deleters : Deleters) (tables : Tables) (ready : IsReady parts g deleters tables) where
+  abbrev image : Reading
+  image = reading_of parts
+
+  abbrev f : Function
+  f = function_at image g
+
+  module _ (at : ℕ) (inside : at < length f.code) (pins : List ℕ) (asked : Asked parts g deleters ready.deleters at (instruction_at f at) pins) where
     pub next_inside : suc at < length f.code
     next_inside = by (order (suc at) (length f.code))
       where
@@ -148,16 +171,3 @@ module _ (parts : Parts) (g : ℕ) (deleters : Deleters) (tables : Tables) (read
     pub pins_told : (b : Bool) → MatchBool b (PinsByTables tables at pins) (PinsByTables tables at pins → ⊥) → MatchBool b (PinsWhat image g at (instruction_at f at)) (PinsWhat image g at (instruction_at f at) → ⊥)
     pins_told true told = asked.what.1 (all_pinned told)
     pins_told false not = λ what. not (told_by_tables (asked.what.0 what))
-
-  module _ (at : ℕ) (inside : at < length f.code) (i : Instruction) (is : i ≡ instruction_at f at) where
-    names_here : Names true image f (instruction_at f at)
-    names_here = (fine_at parts ready.sound g ready.there at inside).names
-
-    pub calls_here : CallsWithin deleters i
-    calls_here = subst (CallsWithin deleters) (sym is) (calls_within (instruction_at f at) names_here)
-
-    pub not_asked : pins_of deleters i ≡ None → PinsWhat image g at (instruction_at f at)
-    not_asked e = subst (Judged at (instruction_at f at)) (ap (pins_of deleters) (sym is) ∙ e) (judged at (instruction_at f at) names_here)
-
-    pub asked_here : (pins : List ℕ) → pins_of deleters i ≡ Some pins → Asked at (instruction_at f at) pins
-    asked_here pins e = subst (Judged at (instruction_at f at)) (ap (pins_of deleters) (sym is) ∙ e) (judged at (instruction_at f at) names_here)

@@ -31,6 +31,12 @@ pub record IsReady (parts : Parts) (g : ℕ) (d : Deleters) (t : Tables) : Type 
   pub deleters : TellsDeleters parts d
   pub tables : AreTables parts g t
 
+-- the function is there, and it is known which functions may delete
+pub record IsKnown (parts : Parts) (g : ℕ) (d : Deleters) : Type 0 where
+  pub sound : Sound parts
+  pub there : g < length parts.functions
+  pub deleters : TellsDeleters parts d
+
 -- ---- which instructions have to pin
 
 abbrev pub may_delete : Deleters → ℕ → Bool

@@ -4,7 +4,7 @@ ghost use Rattle.rc_base.specs.BitSets.{marks};
 ghost use Rattle.rc_code.specs.Running.{function_at, reading_of};
 ghost use Rattle.rc_stops.specs.Rows.{row_at};
 ghost use Rattle.rc_sealed.specs.Pinned.{Pinned};
-ghost use Rattle.rc_pinning.specs.Tables.{has_number, pins_of, CallsWithin, IsReady, PinsByTables};
+ghost use Rattle.rc_pinning.specs.Tables.{has_number, pins_of, CallsWithin, IsKnown, IsReady, PinsByTables};
 
 use crate::stops::number_at;
 use crate::tables::Tables;
@@ -74,6 +74,18 @@ fn pins_of<'p>(deleters: &Deleters, instruction: &'p Instruction) -> Option<&'p 
             where_so(deleters.may_delete(*number), pins.as_slice())
         }
         _ => None,
+    }
+}
+
+/// Whether an instruction has to pin.
+pub(crate) fn has_to_pin(parts: &Parts, number: u32, deleters: &Deleters, at: usize) -> bool
+    requires known { IsKnown parts.now number deleters.now }
+    requires inside { at < length (function_at (reading_of parts.now) number).code }
+    ensures { result ≡ false → Pinned (reading_of parts.now) number at }
+{
+    match pins_of(deleters, instruction_of(function_of(parts, number), at)) {
+        None => false,
+        Some(_pins) => true,
     }
 }
 

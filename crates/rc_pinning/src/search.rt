@@ -1,14 +1,15 @@
 // The first instruction of a function that doesn't pin what it has to.
-ghost use Rattle.std.specs.Prelude.{◌≡◌, ◌<◌, length, IfOk};
+ghost use Rattle.std.specs.Prelude.{◌≡◌, ◌<◌, ℕ, false, length, IfOk};
 ghost use Rattle.rc_code.specs.Image.{FieldsFit};
 ghost use Rattle.rc_code.specs.Running.{function_at, reading_of};
 ghost use Rattle.rc_code.specs.Soundness.{Sound};
 ghost use Rattle.rc_sealed.specs.Faults.{IsWide};
+ghost use Rattle.rc_sealed.specs.Pinned.{Pinned};
 ghost use Rattle.rc_deleters.specs.Calls.{TellsDeleters};
-ghost use Rattle.rc_pinning.specs.Tables.{IsReady};
+ghost use Rattle.rc_pinning.specs.Tables.{IsKnown, IsReady};
 ghost use Rattle.rc_pinning.specs.Unpinned.{TellsUnpinned};
 
-use crate::pins::is_pinned;
+use crate::pins::{has_to_pin, is_pinned};
 use crate::tables::{Tables, tables_of};
 use rc_base::NoMemory;
 use rc_code::Parts;
@@ -22,6 +23,19 @@ fn code_length(parts: &Parts, number: u32) -> usize
     ensures { result ≡ length (function_at (reading_of parts.now) number).code }
 {
     function_of(parts, number).code.as_slice().len()
+}
+
+/// Whether an instruction of a function has to pin.
+fn some_has_to_pin(parts: &Parts, number: u32, deleters: &Deleters) -> bool
+    requires { IsKnown parts.now number deleters.now }
+    ensures { result ≡ false → (at : ℕ) → at < length (function_at (reading_of parts.now) number).code → Pinned (reading_of parts.now) number at }
+{
+    for at in 0..code_length(parts, number) {
+        if has_to_pin(parts, number, deleters, at) {
+            return true;
+        }
+    }
+    false
 }
 
 /// The first instruction that doesn't pin what it has to, by tables.
@@ -38,8 +52,8 @@ fn search(parts: &Parts, number: u32, deleters: &Deleters, tables: &Tables) -> O
 }
 
 /// The first instruction of a function that doesn't pin what it has to, none where each pins it. It asks
-/// which functions may delete. Each instruction is looked at once, and each is woken for what is used
-/// behind it at most 128 times.
+/// which functions may delete. Each instruction is looked at once; and where one has to pin, each is woken
+/// for what is used behind it at most 128 times.
 ///
 /// # Errors
 ///
@@ -57,6 +71,9 @@ pub fn first_unpinned(
     requires deleters { TellsDeleters parts.now deleters.now }
     ensures { IfOk result (λ found. TellsUnpinned parts.now number found) }
 {
+    if !some_has_to_pin(parts, number, deleters) {
+        return Ok(None);
+    }
     let tables = tables_of(alloc, parts, number)?;
     Ok(search(parts, number, deleters, &tables))
 }

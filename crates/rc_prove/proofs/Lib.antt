@@ -11,5 +11,6 @@ pub mod Stretches
 pub mod Targets
 pub mod Families
 pub mod Widening
+pub mod Gathering
 pub mod Starts
 pub mod Answering

@@ -43,6 +43,15 @@ module _ (image : Reading) (where_is : Place) (spots : List Spot) where
     pub ahead_part : (to : ℕ) → to ≤ length spots → LooksAhead image where_is (take to spots) first sets
     ahead_part to t = record { all = spots; looks = looks; are = subst (λ n. AreSpotsFrom image where_is 0 (take n spots)) (let e : to - 0 ≡ to = omega arith in e) (from_part 0 to (omega arith) t looks.are) }
 
+    pub from_first : (target to : ℕ) → first ≡ Some target → to ≤ length spots → LooksFrom image where_is (take to spots) target sets
+    from_first target to is t = record {
+      from = 0;
+      are = (ahead_part to t).are;
+      is = (looks.begins target is).0;
+      same = (looks.begins target is).1;
+      frames = looks.frames;
+    }
+
     pub from_behind : (at to target : ℕ) → LeadsBehind spots at target → at + 1 ≤ to → to ≤ length spots → LooksFrom image where_is (slice_range spots (at + 1) to) target sets
     from_behind at to target leads f t = record {
       from = at + 1;

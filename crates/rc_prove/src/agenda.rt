@@ -1,5 +1,5 @@
 // Which parts are to be gone over.
-ghost use Rattle.std.specs.Prelude.{◌<◌, OnSome, length};
+ghost use Rattle.std.specs.Prelude.{◌<◌, ◌+◌, OnSome, length};
 
 use crate::losses::{Loss, Losses};
 use crate::map::{Map, Part};
@@ -8,11 +8,15 @@ use std::alloc::Global;
 use std::collections::VecDeque;
 
 /// The numbers of the parts that are to be gone over, each once. One that is put in comes last, so that
-/// all that it waits for is gone over before it.
+/// all that it waits for is gone over before it. But those of a function that is gone over come before
+/// all others: a loop is gone over until it loses nothing, and only then what stands behind it.
 #[derive(Drop)]
 pub(crate) struct Agenda {
+    /// Those of the function that is gone over.
+    pub near: VecDeque<usize>,
+    /// All others.
     pub list: VecDeque<usize>,
-    /// Whether a part is in the list.
+    /// Whether a part is in one of these.
     pub waits: Vec<bool>,
 }
 
@@ -24,14 +28,28 @@ pub(crate) fn all_parts(alloc: Global, parts: usize) -> Result<Agenda, NoMemory>
         list.push_back(part)?;
         waits.push(true)?;
     }
-    Ok(Agenda { list, waits })
+    Ok(Agenda {
+        near: VecDeque::new(alloc),
+        list,
+        waits,
+    })
+}
+
+/// Takes out the number of the next one.
+fn take(agenda: &mut Agenda) -> Option<usize>
+    ensures { OnSome result (length agenda.new.near.items + length agenda.new.list.items < length agenda.old.near.items + length agenda.old.list.items) }
+{
+    match agenda.near.pop_front() {
+        Some(number) => Some(number),
+        None => agenda.list.pop_front(),
+    }
 }
 
 /// Takes out the next one.
 pub(crate) fn next_of(agenda: &mut Agenda, map: &Map) -> Option<Part>
-    ensures { OnSome result (length agenda.new.list.items < length agenda.old.list.items) }
+    ensures { OnSome result (length agenda.new.near.items + length agenda.new.list.items < length agenda.old.near.items + length agenda.old.list.items) }
 {
-    let Some(number) = agenda.list.pop_front() else {
+    let Some(number) = take(agenda) else {
         return None;
     };
     if number < agenda.waits.len() {
@@ -49,6 +67,15 @@ fn put(agenda: &mut Agenda, part: usize) -> Result<(), NoMemory> {
     Ok(())
 }
 
+/// Puts in a part of the function that is gone over, unless it is there.
+fn put_near(agenda: &mut Agenda, part: usize) -> Result<(), NoMemory> {
+    if part < agenda.waits.len() && !agenda.waits[part] {
+        agenda.waits[part] = true;
+        agenda.near.push_back(part)?;
+    }
+    Ok(())
+}
+
 /// Puts in the part at the entry of a function.
 fn put_entry(agenda: &mut Agenda, map: &Map, function: usize) -> Result<(), NoMemory> {
     if function >= map.functions.len() {
@@ -60,7 +87,7 @@ fn put_entry(agenda: &mut Agenda, map: &Map, function: usize) -> Result<(), NoMe
     }
 }
 
-/// Puts in the part at a target of a function.
+/// Puts in the part at a target of the function that is gone over.
 fn put_target(
     agenda: &mut Agenda,
     map: &Map,
@@ -72,7 +99,7 @@ fn put_target(
     }
     match map.functions[function].targets.as_slice().get(target) {
         None => Ok(()),
-        Some(part) => put(agenda, *part),
+        Some(part) => put_near(agenda, *part),
     }
 }
 

@@ -43,6 +43,18 @@ fn note_target(sets: &mut Vec<Loss>, target: Option<u32>) -> Result<(), NoMemory
     Ok(())
 }
 
+/// With the set of the first instruction noted, if that is a target and its set lost a fact.
+pub(crate) fn with_first(
+    mut sets: Vec<Loss>,
+    first: Option<u32>,
+    lost: bool,
+) -> Result<Vec<Loss>, NoMemory> {
+    if lost {
+        note_target(&mut sets, first)?;
+    }
+    Ok(sets)
+}
+
 /// Notes the sets that an instruction gives facts to, if one of them lost a fact.
 pub(crate) fn note(sets: &mut Vec<Loss>, spot: &Spot, lost: bool) -> Result<(), NoMemory> {
     if !lost {

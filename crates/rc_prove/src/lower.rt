@@ -10,7 +10,7 @@ ghost use Rattle.rc_sealed.specs.Carrying.{entry_pairs};
 ghost use Rattle.rc_prove.specs.Visiting.{sets_of, IsFrame, PlaceFits, SpotFits};
 ghost use Rattle.rc_prove.specs.Lowering.{Lessens, LooksFrom, Lowered};
 
-use crate::losses::Losses;
+use crate::losses::{Losses, with_first};
 use crate::meeting::{meet, restart};
 use crate::reading::{numbers, read};
 use crate::spot::{Place, Spot};
@@ -90,9 +90,11 @@ pub(crate) fn lower(
     let lost = meet(frames, first, &work);
     restart(&mut work, frames, first);
     let more = pass(alloc, place, spots, entries, exits, frames, &mut work)?;
+    let lost_some = lost | more.lost;
+    let sets = with_first(more.sets, first, lost)?;
     Ok(Losses {
-        lost: lost | more.lost,
-        sets: more.sets,
+        lost: lost_some,
+        sets,
     })
 }
 

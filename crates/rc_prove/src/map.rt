@@ -91,7 +91,8 @@ fn next_part(map: &mut Map, spot: &Spot, part: usize, other: Part) -> Result<usi
     Ok(number)
 }
 
-/// Adds the part at the entry of a function, and answers its number.
+/// Adds the part at the entry of a function, and one at its first instruction if that is a target, and
+/// answers the number of the last of these.
 fn add_entry(map: &mut Map, number: usize, route: &Route) -> Result<usize, NoMemory> {
     let function = route.place.function;
     let part = add_part(
@@ -105,10 +106,19 @@ fn add_entry(map: &mut Map, number: usize, route: &Route) -> Result<usize, NoMem
     if function < map.functions.len() {
         map.functions[function].entry = Some(part);
     }
-    if route.first.is_some() {
-        add_target(map, function, part)?;
+    if route.first.is_none() {
+        return Ok(part);
     }
-    Ok(part)
+    let first = add_part(
+        map,
+        Part {
+            route: number,
+            function,
+            start: Start::First,
+        },
+    )?;
+    add_target(map, function, first)?;
+    Ok(first)
 }
 
 /// Adds the parts of a function.

@@ -1,5 +1,5 @@
 // The parts of the way through a function: each from the entry or a target to the next target.
-ghost use Rattle.std.specs.Prelude.{◌≤◌, length, IfOk};
+ghost use Rattle.std.specs.Prelude.{◌≡◌, ◌≤◌, length, IfOk, Some};
 ghost use Rattle.rc_prove.specs.Family.{family_of, LessenedAt, RouteFits};
 ghost use Rattle.rc_prove.specs.Lowering.{LeadsBehind};
 
@@ -14,8 +14,10 @@ use std::alloc::Global;
 /// Where a part begins.
 #[derive(Clone, Copy)]
 pub(crate) enum Start {
-    /// At the entry.
+    /// At the entry. It ends there if the first instruction is a target.
     Entry,
+    /// At the first instruction, which is a target.
+    First,
     /// At the target that stands behind an instruction.
     Behind(usize),
 }
@@ -34,6 +36,16 @@ fn end_of(spots: &[Spot], from: usize) -> usize
     spots.len()
 }
 
+/// Where the part at the entry ends.
+fn entry_end(route: &Route) -> usize
+    ensures { result ≤ length route.now.spots.items }
+{
+    match route.first {
+        None => end_of(route.spots.as_slice(), 0),
+        Some(_target) => 0,
+    }
+}
+
 /// Goes over the part at the entry.
 fn lower_first(
     alloc: Global,
@@ -47,12 +59,39 @@ fn lower_first(
 {
     let place = route.place;
     let spots = route.spots.as_slice();
-    let end = end_of(spots, 0);
+    let end = entry_end(route);
     lower(
         alloc,
         place,
         &spots[..end],
         route.first,
+        entries,
+        exits,
+        frames[place.function].as_mut_slice(),
+    )
+}
+
+/// Goes over the part at the first instruction, which is a target with this set.
+fn lower_at_first(
+    alloc: Global,
+    route: &Route,
+    target: u32,
+    entries: &mut [FactSet],
+    exits: &mut [FactSet],
+    frames: &mut [Vec<FactSet>],
+) -> Result<Losses, NoMemory>
+    requires fits { RouteFits route.now (family_of entries.old exits.old frames.old) }
+    requires first { route.now.first ≡ Some target }
+    ensures { IfOk result (λ losses. LessenedAt route.now (family_of entries.old exits.old frames.old) (family_of entries.new exits.new frames.new) losses.lost) }
+{
+    let place = route.place;
+    let spots = route.spots.as_slice();
+    let end = end_of(spots, 0);
+    lower_from(
+        alloc,
+        place,
+        &spots[..end],
+        target,
         entries,
         exits,
         frames[place.function].as_mut_slice(),
@@ -88,6 +127,44 @@ fn lower_behind(
     )
 }
 
+/// Goes over the part at the first instruction, if that is a target.
+fn lower_target(
+    alloc: Global,
+    route: &Route,
+    entries: &mut [FactSet],
+    exits: &mut [FactSet],
+    frames: &mut [Vec<FactSet>],
+) -> Result<Losses, NoMemory>
+    requires { RouteFits route.now (family_of entries.old exits.old frames.old) }
+    ensures { IfOk result (λ losses. LessenedAt route.now (family_of entries.old exits.old frames.old) (family_of entries.new exits.new frames.new) losses.lost) }
+{
+    let Some(target) = route.first else {
+        return Ok(no_losses(alloc));
+    };
+    lower_at_first(alloc, route, target, entries, exits, frames)
+}
+
+/// Goes over the part behind an instruction, if one begins there.
+fn lower_next(
+    alloc: Global,
+    route: &Route,
+    at: usize,
+    entries: &mut [FactSet],
+    exits: &mut [FactSet],
+    frames: &mut [Vec<FactSet>],
+) -> Result<Losses, NoMemory>
+    requires { RouteFits route.now (family_of entries.old exits.old frames.old) }
+    ensures { IfOk result (λ losses. LessenedAt route.now (family_of entries.old exits.old frames.old) (family_of entries.new exits.new frames.new) losses.lost) }
+{
+    let Some(spot) = route.spots.as_slice().get(at) else {
+        return Ok(no_losses(alloc));
+    };
+    let Some(target) = spot.next else {
+        return Ok(no_losses(alloc));
+    };
+    lower_behind(alloc, route, at, target, entries, exits, frames)
+}
+
 /// Goes over the part that begins there, if one does.
 pub(crate) fn lower_part(
     alloc: Global,
@@ -100,14 +177,9 @@ pub(crate) fn lower_part(
     requires { RouteFits route.now (family_of entries.old exits.old frames.old) }
     ensures { IfOk result (λ losses. LessenedAt route.now (family_of entries.old exits.old frames.old) (family_of entries.new exits.new frames.new) losses.lost) }
 {
-    let Start::Behind(at) = start else {
-        return lower_first(alloc, route, entries, exits, frames);
-    };
-    let Some(spot) = route.spots.as_slice().get(at) else {
-        return Ok(no_losses(alloc));
-    };
-    let Some(target) = spot.next else {
-        return Ok(no_losses(alloc));
-    };
-    lower_behind(alloc, route, at, target, entries, exits, frames)
+    match start {
+        Start::Entry => lower_first(alloc, route, entries, exits, frames),
+        Start::First => lower_target(alloc, route, entries, exits, frames),
+        Start::Behind(at) => lower_next(alloc, route, at, entries, exits, frames),
+    }
 }

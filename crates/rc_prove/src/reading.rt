@@ -1,5 +1,5 @@
 // Sets under other names.
-ghost use Rattle.std.specs.Prelude.{◌≡◌, ◌<◌, ◌≤◌, ◌++◌, ◌&&◌, ◌||◌, ℕ, IsTrue, IfOk, OnOk, length, get_or};
+ghost use Rattle.std.specs.Prelude.{◌≡◌, ◌<◌, ◌≤◌, ◌&&◌, ◌||◌, IsTrue, IfOk, length, get_or};
 ghost use Rattle.std.specs.List.{All, list_any, range_with_len};
 ghost use Rattle.rc_facts.specs.declared.fact.Fact.{Fact as AnyFact};
 ghost use Rattle.rc_facts.specs.Facts.{holds, is_over, same_fact};
@@ -11,39 +11,13 @@ use rc_base::NoMemory;
 use rc_facts::{Fact, FactSet};
 use std::alloc::Global;
 
-/// The numbers below one, in their order.
+/// The numbers below one, in their order, with room for one more.
 pub(crate) fn numbers(alloc: Global, count: u32) -> Result<Vec<u32>, NoMemory>
     ensures { IfOk result (λ all. all.items ≡ range_with_len 0 count) }
 {
-    let mut all = Vec::new(alloc);
+    let mut all = Vec::with_capacity(alloc, count as usize + 1)?;
     for x in 0..count {
         all.push(x)?;
-    }
-    Ok(all)
-}
-
-/// Adds the facts on a variable and each below a number.
-fn add_row(all: &mut Vec<Fact>, x: u32, count: u32) -> Result<(), NoMemory>
-    ensures { OnOk result (all.new.items ≡ all.old.items ++ facts_with x count) }
-{
-    all.push(Fact::Trad(x))?;
-    all.push(Fact::NonNull(x))?;
-    for y in 0..count {
-        all.push(Fact::In(x, y))?;
-        all.push(Fact::Up(x, y))?;
-    }
-    Ok(())
-}
-
-/// All facts on variables below a number.
-fn every(alloc: Global, count: u32) -> Result<Vec<Fact>, NoMemory>
-    requires { count ≤ 128 }
-    ensures { IfOk result (λ all. all.items ≡ every_fact count) }
-{
-    let width = count as usize;
-    let mut all = Vec::with_capacity(alloc, 2 * width * (width + 1))?;
-    for x in 0..count {
-        add_row(&mut all, x, count)?;
     }
     Ok(all)
 }
@@ -61,18 +35,46 @@ fn named(fact: Fact, names: &[u32]) -> Fact
     }
 }
 
-/// Adds those of some facts that a set has under other names.
-fn gather(found: &mut FactSet, set: &FactSet, names: &[u32], all: &[Fact])
-    requires over { All (λ p. IsTrue (is_over (length names.now) p)) all.now }
-    requires own { All (λ p. IsTrue (is_over set.now.variables (fact_with (λ v. get_or names.now v 0) p))) all.now }
+/// Adds a fact, if a set has it under other names.
+fn gather_one(found: &mut FactSet, set: &FactSet, names: &[u32], fact: Fact)
+    requires over { IsTrue (is_over (length names.now) fact) }
+    requires names { All (λ x. x < set.now.variables) names.now }
     requires room { length names.now ≤ found.old.variables }
     ensures variables { found.new.variables ≡ found.old.variables }
-    ensures facts { (fact : AnyFact) → holds found.new fact ≡ (holds found.old fact || list_any (λ p. holds set.now (fact_with (λ v. get_or names.now v 0) p) && same_fact p fact) all.now) }
+    ensures facts { (p : AnyFact) → holds found.new p ≡ (holds found.old p || (holds set.now (fact_with (λ v. get_or names.now v 0) fact) && same_fact fact p)) }
 {
-    for fact in all {
-        if set.has(named(*fact, names)) {
-            found.add(*fact);
-        }
+    if set.has(named(fact, names)) {
+        found.add(fact);
+    }
+}
+
+/// Adds the facts on a variable and each other that a set has under other names.
+fn gather_row(found: &mut FactSet, set: &FactSet, names: &[u32], x: u32)
+    requires x { x < length names.now }
+    requires names { All (λ x. x < set.now.variables) names.now }
+    requires few { length names.now ≤ 128 }
+    requires room { length names.now ≤ found.old.variables }
+    ensures variables { found.new.variables ≡ found.old.variables }
+    ensures facts { (p : AnyFact) → holds found.new p ≡ (holds found.old p || list_any (λ q. holds set.now (fact_with (λ v. get_or names.now v 0) q) && same_fact q p) (facts_with x (length names.now))) }
+{
+    gather_one(found, set, names, Fact::Trad(x));
+    gather_one(found, set, names, Fact::NonNull(x));
+    for y in 0..names.len() as u32 {
+        gather_one(found, set, names, Fact::In(x, y));
+        gather_one(found, set, names, Fact::Up(x, y));
+    }
+}
+
+/// Adds all facts that a set has under other names.
+fn gather(found: &mut FactSet, set: &FactSet, names: &[u32])
+    requires names { All (λ x. x < set.now.variables) names.now }
+    requires few { length names.now ≤ 128 }
+    requires room { length names.now ≤ found.old.variables }
+    ensures variables { found.new.variables ≡ found.old.variables }
+    ensures facts { (p : AnyFact) → holds found.new p ≡ (holds found.old p || list_any (λ q. holds set.now (fact_with (λ v. get_or names.now v 0) q) && same_fact q p) (every_fact (length names.now))) }
+{
+    for x in 0..names.len() as u32 {
+        gather_row(found, set, names, x);
     }
 }
 
@@ -90,9 +92,7 @@ pub(crate) fn read(
     ensures variables { IfOk result (λ found. found.variables ≡ variables) }
     ensures facts { IfOk result (λ found. (fact : AnyFact) → holds found fact ≡ read_by names.now set.now fact) }
 {
-    let count = u32::try_from(names.len()).map_err(|_| NoMemory)?;
-    let all = every(alloc, count)?;
     let mut found = FactSet::empty(alloc, variables)?;
-    gather(&mut found, set, names, all.as_slice());
+    gather(&mut found, set, names);
     Ok(found)
 }

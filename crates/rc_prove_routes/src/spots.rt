@@ -13,7 +13,7 @@ use crate::walk::Walk;
 use rc_base::NoMemory;
 use rc_code::{Instruction, Simple};
 use rc_image_counts::{function_of, instruction_of};
-use rc_image_steps::{effect_at, next_height, span_at};
+use rc_image_steps::{View, next_height, view_at};
 use rc_prove::Spot;
 use rc_prove_ways::leads_at;
 
@@ -44,8 +44,7 @@ fn spot_at(walk: &Walk<'_>, at: u32, height: usize) -> Result<Spot, NoMemory>
     ensures { IfOk result (λ spot. SpotIs (image_of walk.now.site) walk.now.site.number at spot) }
 {
     let instruction = instruction_of(function_of(walk.site.parts, walk.site.number), at as usize);
-    let effect = effect_at(walk.alloc, &walk.site, at, height)?;
-    let span = span_at(&walk.site, at, height);
+    let View { effect, span } = view_at(walk.alloc, &walk.site, at, height)?;
     let leads = leads_at(instruction, at as usize, walk.targets, walk.ranks);
     Ok(Spot {
         effect,

@@ -9,7 +9,7 @@ use Rattle.rc_edges.specs.News.{news_of}
 use Rattle.rc_carrying.specs.Left.{stay, HasOwn, Left}
 use Rattle.rc_carrying.proofs.Dropping.{fresh_over, fresh_own, all_left}
 use Rattle.rc_carrying.proofs.Carried.{assigned_below, listed_over}
-use Rattle.rc_carrying.proofs.Ready.{added_over, behind_before, forgot_closed}
+use Rattle.rc_carrying.proofs.Ready.{added_over, added_own, behind_before, forgot_closed}
 use Rattle.rc_carrying.proofs.leaving.carry_any.Goals as goal
 
 pub cross-requires-clause-closed : goal.cross-requires-clause-closed
@@ -25,7 +25,7 @@ drop_gone-requires-clause-over c =
     (subst (λ m. (p : Fact) → IsTrue (holds c.cross.new.set p) ↔ Behind m c.args.scratch (assigned e) (news_of m (set_at c.args.exits.now) (renewed c.args.scratch e)) (holds c.forget.new.self) p) c.forget.ensures.variables c.in_ok-cross.ensures.facts) in
     let over = listed_over n news (added_over n c.args.scratch c.args.exits.now e c.requires.ready.last c.requires.below) in
     let lt : c.args.scratch < n = (let r = c.requires.ready.last in omega (arith, r)) in
-    subst (λ m. (fact : Fact) → IsTrue (holds c.reset.new.set fact) → IsTrue (is_over m fact)) (sym (c.reset.ensures.variables ∙ c.in_ok-cross.ensures.variables ∙ c.forget.ensures.variables)) (fresh_over n c.args.scratch lt (assigned e) (assigned_below c.args.scratch e c.requires.below) news (holds c.args.set.now) over c.requires.ready.closed (holds c.cross.new.set) (holds c.reset.new.set) crossed c.reset.ensures.facts)
+    subst (λ m. (fact : Fact) → IsTrue (holds c.add_own.new.set fact) → IsTrue (is_over m fact)) (sym (c.add_own.ensures.variables ∙ c.in_ok-cross.ensures.variables ∙ c.forget.ensures.variables)) (fresh_over n c.args.scratch lt (assigned e) (assigned_below c.args.scratch e c.requires.below) news (holds c.args.set.now) over c.requires.ready.closed (holds c.cross.new.set) (holds c.add_own.new.set) crossed (added_own c.args.scratch (holds c.cross.new.set) (holds c.add_own.new.set) (λ p is. ((crossed p).0 is).1) c.add_own.ensures.facts))
 
 pub drop_gone-requires-clause-own : goal.drop_gone-requires-clause-own
 drop_gone-requires-clause-own c =
@@ -36,7 +36,7 @@ drop_gone-requires-clause-own c =
     (subst (λ m. (p : Fact) → IsTrue (holds c.cross.new.set p) ↔ Behind m c.args.scratch (assigned e) (news_of m (set_at c.args.exits.now) (renewed c.args.scratch e)) (holds c.forget.new.self) p) c.forget.ensures.variables c.in_ok-cross.ensures.facts) in
     let over = listed_over n news (added_over n c.args.scratch c.args.exits.now e c.requires.ready.last c.requires.below) in
     let lt : c.args.scratch < n = (let r = c.requires.ready.last in omega (arith, r)) in
-    subst (λ m. HasOwn m (holds c.reset.new.set)) (sym (c.reset.ensures.variables ∙ c.in_ok-cross.ensures.variables ∙ c.forget.ensures.variables)) (fresh_own n c.args.scratch lt (assigned e) (assigned_below c.args.scratch e c.requires.below) news (holds c.args.set.now) over c.requires.ready.closed (holds c.cross.new.set) (holds c.reset.new.set) crossed c.reset.ensures.facts)
+    subst (λ m. HasOwn m (holds c.add_own.new.set)) (sym (c.add_own.ensures.variables ∙ c.in_ok-cross.ensures.variables ∙ c.forget.ensures.variables)) (fresh_own n c.args.scratch lt (assigned e) (assigned_below c.args.scratch e c.requires.below) news (holds c.args.set.now) over c.requires.ready.closed (holds c.cross.new.set) (holds c.add_own.new.set) crossed (added_own c.args.scratch (holds c.cross.new.set) (holds c.add_own.new.set) (λ p is. ((crossed p).0 is).1) c.add_own.ensures.facts))
 
 pub returns-clause-facts : goal.returns-clause-facts
 returns-clause-facts c =
@@ -48,4 +48,4 @@ returns-clause-facts c =
     let over = listed_over n news (added_over n c.args.scratch c.args.exits.now e c.requires.ready.last c.requires.below) in
     let lt : c.args.scratch < n = (let r = c.requires.ready.last in omega (arith, r)) in
     subst (λ (x : Option ℕ). (fact : Fact) → IsTrue (holds c.drop_gone.new.set fact) ↔ Left n c.args.scratch (stay c.args.low c.args.top x) (assigned e) news (holds c.args.set.now) fact) c.assigned_by.ensures
-    (all_left n c.args.scratch lt (assigned e) (assigned_below c.args.scratch e c.requires.below) news (holds c.args.set.now) over c.requires.ready.closed (holds c.cross.new.set) (holds c.reset.new.set) crossed c.reset.ensures.facts (stay c.args.low c.args.top c.assigned_by.result) (holds c.drop_gone.new.set) c.drop_gone.ensures.facts)
+    (all_left n c.args.scratch lt (assigned e) (assigned_below c.args.scratch e c.requires.below) news (holds c.args.set.now) over c.requires.ready.closed (holds c.cross.new.set) (holds c.add_own.new.set) crossed (added_own c.args.scratch (holds c.cross.new.set) (holds c.add_own.new.set) (λ p is. ((crossed p).0 is).1) c.add_own.ensures.facts) (stay c.args.low c.args.top c.assigned_by.result) (holds c.drop_gone.new.set) c.drop_gone.ensures.facts)

@@ -12,7 +12,7 @@ use Rattle.rc_image_steps.specs.declared.site.Site.{Site}
 use Rattle.rc_image_steps.specs.Sites.{function_in, image_of, IsSite}
 use Rattle.rc_image_steps.proofs.Places.{function_fits, height_fits, is_fine}
 use Rattle.rc_image_steps.proofs.Stepping.{call_room}
-use Rattle.rc_image_steps.proofs.site.effect_at.Goals as goal
+use Rattle.rc_image_steps.proofs.site.effect_by.Goals as goal
 
 if_more : (r : Result Effect NoMemory) (P Q : Effect → Type 0) → ((e : Effect) → P e → Q e) → IfOk r P → IfOk r Q
 if_more (Ok e) P Q more h = more e h
@@ -48,7 +48,7 @@ of_call-requires-clause-room c =
     let t = c.requires.there in
     let b = height_fits image f c.args.at (omega (arith, t)) in
     let n = c.requires.site.narrow in
-    let w = c.places_at-places.ensures.low in
+    let w = c.requires.places.low in
     omega (arith, l, r, b, n, w)
 
 pub of_other-requires : goal.of_other-requires
@@ -67,4 +67,4 @@ returns-in-Some c =
     let f = function_in site in
     let at = c.args.at in
     let i : c.instruction_of-instruction.result.now ≡ instruction_at f at = c.instruction_of-instruction.ensures ∙ ap (λ (g : Function). instruction_at g at) c.function_of-function.ensures in
-    if_more c.of_call.result _ _ (λ e tells. tells f (lowest image f at) (height image f at - 1) c.in-Some.ensures.0 c.places_at-places.ensures.low ∙ ap (effect_of image f (lowest image f at) (height image f at - 1)) (sym c.in-Some.ensures.1 ∙ i)) c.of_call.ensures
+    if_more c.of_call.result _ _ (λ e tells. tells f (lowest image f at) (height image f at - 1) c.in-Some.ensures.0 c.requires.places.low ∙ ap (effect_of image f (lowest image f at) (height image f at - 1)) (sym c.in-Some.ensures.1 ∙ i)) c.of_call.ensures
