@@ -195,14 +195,13 @@ given_back copies spare names lost old new g given known work found own l read s
 
 -- entries
 
-pub begun_by : (copies spare : ℕ) (own : List ℕ) (entry : Known) (first read_set closed gone met : Fact → Bool) → own ≡ range_with_len 0 copies → ((p : Fact) → read_set p ≡ read_by own entry p) → ((p : Fact) → IsTrue (closed p) ↔ Derivable (suc spare) read_set p) → ((p : Fact) → gone p ≡ (closed p && not (names spare p))) → ((p : Fact) → met p ≡ (first p && gone p))
-    → (fact : Fact) → IsTrue (met fact) ↔ (IsTrue (first fact) × Derivable (suc spare) (λ p. is_over copies p && holds entry p) fact × (names spare fact ≡ false))
-begun_by copies spare own entry first read_set closed gone met numbers reads closes forgets meets fact = (
+pub begun_by : (copies spare : ℕ) (own : List ℕ) (entry : Known) (read_set closed gone : Fact → Bool) → own ≡ range_with_len 0 copies → ((p : Fact) → read_set p ≡ read_by own entry p) → ((p : Fact) → IsTrue (closed p) ↔ Derivable (suc spare) read_set p) → ((p : Fact) → gone p ≡ (closed p && not (names spare p)))
+    → (fact : Fact) → IsTrue (gone fact) ↔ (Derivable (suc spare) (λ p. is_over copies p && holds entry p) fact × (names spare fact ≡ false))
+begun_by copies spare own entry read_set closed gone numbers reads closes forgets fact = (
   λ is. (
-      let a = and_parts (first fact) (gone fact) (sym (meets fact) ∙ is) in
-      let b = and_parts (closed fact) (not (names spare fact)) (sym (forgets fact) ∙ a.1) in
-      (a.0, derivable_more (λ p e. sym (whole p) ∙ e) ((closes fact).0 b.0), falsely (names spare fact) b.1)),
-  λ h. meets fact ∙ and_from (first fact) (gone fact) h.0 (forgets fact ∙ and_from (closed fact) (not (names spare fact)) ((closes fact).1 (derivable_more (λ p e. whole p ∙ e) h.1)) (truly (names spare fact) h.2)),
+      let b = and_parts (closed fact) (not (names spare fact)) (sym (forgets fact) ∙ is) in
+      (derivable_more (λ p e. sym (whole p) ∙ e) ((closes fact).0 b.0), falsely (names spare fact) b.1)),
+  λ h. forgets fact ∙ and_from (closed fact) (not (names spare fact)) ((closes fact).1 (derivable_more (λ p e. whole p ∙ e) h.0)) (truly (names spare fact) h.1),
 )
   where
     falsely : (b : Bool) → not b ≡ true → b ≡ false

@@ -70,23 +70,3 @@ pub fn call_at(
         Node::Return { .. } => Ok(false),
     }
 }
-
-/// Keeps at the entries of functions what the calls of one give, from what is known before its points.
-/// Says whether a fact was lost. The only error is want of memory.
-pub fn call(
-    alloc: Global,
-    nodes: &[Node],
-    points: &[FactSet],
-    entries: &mut [FactSet],
-) -> Result<bool, NoMemory>
-    requires points { length points.now ≡ length nodes.now }
-    requires ready { (p : ℕ) (node : AnyNode) → slice_get (nodes_of nodes.now) p ≡ Some node → NodeReady node (get_or points.now p no_set).variables entries.old }
-    ensures { IfOk result (λ lost. Loses lost entries.old entries.new (CallsGive (nodes_of nodes.now) points.now (length nodes.now))) }
-{
-    let mut lost = false;
-    for p in 0..nodes.len() {
-        let more = call_at(alloc, &nodes[p], &points[p], entries)?;
-        lost = lost || more;
-    }
-    Ok(lost)
-}

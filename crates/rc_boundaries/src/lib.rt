@@ -9,6 +9,7 @@ mod losing;
 mod reading;
 mod returns;
 
-pub use calls::{call, call_at};
+pub use calls::call_at;
 pub use entries::begin;
-pub use returns::{Exit, leave, leave_at};
+pub use losing::lose;
+pub use returns::{Exit, leave_at};

@@ -107,29 +107,3 @@ pub fn leave_at(
         Node::Return { given: variable } => give(alloc, *variable, known, exit, exits),
     }
 }
-
-/// Keeps at the exit of a function what its returns give, from what is known before its points. Says
-/// whether a fact was lost. The only error is want of memory.
-pub fn leave(
-    alloc: Global,
-    nodes: &[Node],
-    points: &[FactSet],
-    exit: Exit,
-    exits: &mut [FactSet],
-) -> Result<bool, NoMemory>
-    requires points { length points.now ≡ length nodes.now }
-    requires known { (p : ℕ) → p < length points.now → (get_or points.now p no_set).variables ≡ suc exit.result }
-    requires ready { (p : ℕ) (node : AnyNode) → slice_get (nodes_of nodes.now) p ≡ Some node → ReturnReady node exit.result }
-    requires few { exit.result < 128 }
-    requires hidden { exit.copies ≤ exit.result }
-    requires there { exit.function < length exits.old }
-    requires places { (get_or exits.old exit.function no_set).variables ≡ suc exit.copies }
-    ensures { IfOk result (λ lost. Loses lost exits.old exits.new (λ p fact. p ≡ exit.function → ReturnsGive (nodes_of nodes.now) points.now exit.copies exit.result (length nodes.now) fact)) }
-{
-    let mut lost = false;
-    for p in 0..nodes.len() {
-        let more = leave_at(alloc, &nodes[p], &points[p], exit, exits)?;
-        lost = lost || more;
-    }
-    Ok(lost)
-}

@@ -6,7 +6,7 @@ ghost use Rattle.rc_unchecked.specs.Images.{HasImage};
 
 use rc_base::NoMemory;
 use rc_code::{Image, Loaded};
-use rc_compile::{CompileFault, typed_program, within_bounds};
+use rc_compile::{CompileFault, too_much, typed_program};
 use rc_core::program::Program;
 use rc_emit::compile_program;
 use std::alloc::Global;
@@ -36,10 +36,10 @@ pub fn image(alloc: Global, program: &Program) -> Result<Image, NoMemory>
 pub fn finish(alloc: Global, program: &Program) -> Result<Image, CompileFault>
     ensures { Finishes (program_of program.now) result }
 {
-    within_bounds(alloc, program)?;
-    match image(alloc, program) {
+    let _parts = program.parts();
+    match compile_program(alloc, program) {
         Ok(image) => Ok(image),
-        Err(_) => Err(CompileFault::Memory),
+        Err(fault) => Err(too_much(fault)),
     }
 }
 

@@ -1,9 +1,11 @@
 // The program of a text: its words, its tree, the rules of types, and the counts of what it needs.
-ghost use Rattle.std.specs.Prelude.{◌≡◌, ◌≤◌, ℕ, List, length};
+ghost use Rattle.std.specs.Prelude.{◌≡◌, ◌≤◌, ℕ, List, length, Err};
 ghost use Rattle.rc_syntax.specs.Shape.{tree_of};
 ghost use Rattle.rc_syntax.specs.Tree.{Tree as WrittenTree};
 ghost use Rattle.rc_syntax.specs.WordShapes.{tokens_of};
+ghost use Rattle.rc_core.specs.Programs.{Program as WrittenProgram};
 ghost use Rattle.rc_core.specs.Shapes.{program_of};
+ghost use Rattle.rc_elab.specs.Counting.{Counts};
 ghost use Rattle.rc_typing.specs.Checks.{Refuses};
 ghost use Rattle.rc_compile.specs.Acceptance.{HasWords};
 ghost use Rattle.rc_compile.specs.Answers.{IsOnlyTree};
@@ -104,6 +106,17 @@ pub fn typed_program(alloc: Global, text: &[u8]) -> Result<Program, CompileFault
     typed(alloc, text, &tree)
 }
 
+/// Why a text is refused whose program needs more region variables or points than one may.
+pub fn too_much(fault: ElabFault) -> CompileFault
+    ensures { (program : WrittenProgram) → Counts {T = Unit {0}} program (Err fault) → KeepsWithin {T = Unit {0}} program (Err result) }
+{
+    match fault {
+        ElabFault::Variables(line) => CompileFault::Refused(Refusal::Variables(line)),
+        ElabFault::Points => CompileFault::Refused(Refusal::Points),
+        ElabFault::Memory => CompileFault::Memory,
+    }
+}
+
 /// Whether a program needs no more than one may: at most 128 region variables in each function, and
 /// 65,536 points in all of them.
 ///
@@ -116,9 +129,7 @@ pub fn within_bounds(alloc: Global, program: &Program) -> Result<(), CompileFaul
 {
     match count(alloc, program) {
         Ok(()) => Ok(()),
-        Err(ElabFault::Variables(line)) => Err(CompileFault::Refused(Refusal::Variables(line))),
-        Err(ElabFault::Points) => Err(CompileFault::Refused(Refusal::Points)),
-        Err(ElabFault::Memory) => Err(CompileFault::Memory),
+        Err(fault) => Err(too_much(fault)),
     }
 }
 

@@ -10,7 +10,7 @@ mod laws;
 pub mod refusal;
 mod well_typed;
 
-pub use compiling::{program, tree, typed_program, within_bounds};
+pub use compiling::{program, too_much, tree, typed_program, within_bounds};
 pub use decided::{a_program_deletes_in_place, a_text_is_a_program_or_refused};
 pub use fault::CompileFault;
 pub use laws::a_text_has_one_answer;

@@ -11,8 +11,7 @@ use Rattle.rc_edges.specs.News.{places_of}
 abbrev pub lacks : Facts → List Fact → Bool
 lacks set facts = list_any (λ p. not (set p)) facts
 
--- An instruction may do this: a call is of a function whose exit is given, and speaks of as many variables at least as the call has
--- places. No instruction finds that a variable is null, and none is an entry.
+-- a call is of a function whose exit is given, and speaks of as many variables at least as the call has places
 abbrev pub CallFits : List Known → Effect → Type 0
 CallFits exits nothing = Unit {0}
 CallFits exits (nulled x) = Unit {0}
@@ -25,6 +24,6 @@ CallFits exits (loaded x y note) = Unit {0}
 CallFits exits (looked_at y) = Unit {0}
 CallFits exits (stored z y note) = Unit {0}
 CallFits exits (present y) = Unit {0}
-CallFits exits (absent y) = ⊥
+CallFits exits (absent y) = Unit {0}
 CallFits exits (called x g arguments) = (g < length exits) × (length (places_of arguments x) ≤ (get_or exits g no_set).variables)
-CallFits exits (entered pairs) = ⊥
+CallFits exits (entered pairs) = Unit {0}

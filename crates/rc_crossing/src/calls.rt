@@ -4,7 +4,8 @@ ghost use Rattle.std.specs.List.{All, list_any};
 ghost use Rattle.rc_facts.specs.declared.fact.Fact.{Fact as AnyFact};
 ghost use Rattle.rc_facts.specs.Derivable.{Derivable};
 ghost use Rattle.rc_facts.specs.Facts.{holds, is_over, names, same_fact};
-ghost use Rattle.rc_facts.specs.Shut.{together};
+ghost use Rattle.rc_facts.specs.Null.{null_news};
+ghost use Rattle.rc_facts.specs.Shut.{together, IsBehind};
 ghost use Rattle.rc_flow.specs.Flow.{Behind, IsClosed};
 ghost use Rattle.rc_edges.specs.Edges.{all_below};
 ghost use Rattle.rc_edges.specs.News.{fact_if, row_news, rows_news, places_of};
@@ -142,7 +143,7 @@ fn settle(set: &mut FactSet, news: &[Fact], scratch: u32)
     derive(set, news);
 }
 
-/// What stands behind a call without a result.
+/// What stands behind an effect that assigns no variable.
 fn learn(set: &mut FactSet, news: &[Fact], scratch: u32)
     requires over { All (λ p. IsTrue (is_over set.old.variables p)) news.now }
     requires scratch { scratch < set.old.variables }
@@ -152,6 +153,40 @@ fn learn(set: &mut FactSet, news: &[Fact], scratch: u32)
 {
     settle(set, news, scratch);
     set.forget(scratch);
+}
+
+/// The facts of a variable that is null, over so many variables.
+fn null(alloc: Global, variables: u32, variable: u32) -> Result<Vec<Fact>, NoMemory>
+    ensures { IfOk result (λ news. news.items ≡ null_news variables variable) }
+{
+    let mut all = Vec::new(alloc);
+    all.push(Fact::Trad(variable))?;
+    for other in (0..variables).rev() {
+        all.push(Fact::In(variable, other))?;
+    }
+    Ok(all)
+}
+
+/// What stands where a variable is null.
+pub(crate) fn learn_null(
+    alloc: Global,
+    set: &mut FactSet,
+    y: u32,
+    scratch: u32,
+) -> Result<(), NoMemory>
+    requires y { y < scratch }
+    requires scratch { suc scratch ≡ set.old.variables }
+    requires closed { IsClosed set.old.variables scratch (holds set.old) }
+    ensures variables { set.new.variables ≡ set.old.variables }
+    ensures facts { OnOk result ((fact : AnyFact) → IsTrue (holds set.new fact) ↔ IsBehind set.old.variables scratch (holds set.old) (null_news set.old.variables y) fact) }
+{
+    if !set.has(Fact::NonNull(y)) {
+        set.add_null(y, scratch);
+        return Ok(());
+    }
+    let news = null(alloc, set.count(), y)?;
+    learn(set, news.as_slice(), scratch);
+    Ok(())
 }
 
 /// What stands behind a call whose result a variable gets.

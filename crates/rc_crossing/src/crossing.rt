@@ -1,21 +1,21 @@
 // What an effect makes of a closed set, of which no fact names the scratch variable.
-ghost use Rattle.std.specs.Prelude.{◌≡◌, ◌<◌, ◌↔◌, ◌∷◌, [], Some, None, IsTrue, OnOk, ℕ, suc};
+ghost use Rattle.std.specs.Prelude.{◌≡◌, ◌<◌, ◌↔◌, ◌∷◌, [], Some, None, IsTrue, OnOk, ℕ, suc, map};
 ghost use Rattle.rc_facts.specs.declared.fact.Fact.{Fact as AnyFact};
 ghost use Rattle.rc_facts.specs.declared.fact.Fact.TheVariants.{In, NonNull, Up};
 ghost use Rattle.rc_facts.specs.Facts.{holds};
 ghost use Rattle.rc_facts.specs.Shut.{IsBehind};
 ghost use Rattle.rc_flow.specs.Flow.{set_at, Behind, IsClosed};
 ghost use Rattle.rc_rlang.specs.RegionFlow.{assigned};
-ghost use Rattle.rc_graph.specs.Nodes.{effect_of};
-ghost use Rattle.rc_edges.specs.Edges.{renewed, EffectBelow};
-ghost use Rattle.rc_edges.specs.News.{news_of, note_news};
+ghost use Rattle.rc_graph.specs.Nodes.{effect_of, entry_of};
+ghost use Rattle.rc_edges.specs.Edges.{renewed, pairs_below, EffectBelow};
+ghost use Rattle.rc_edges.specs.News.{news_of, note_news, pair_news};
 ghost use Rattle.rc_crossing.specs.Fitting.{CallFits};
 
-use crate::calls::call;
+use crate::calls::{call, learn_null};
 use rc_base::NoMemory;
 use rc_core::ty::Note;
 use rc_facts::{Fact, FactSet};
-use rc_graph::Effect;
+use rc_graph::{Effect, Entry};
 use std::alloc::Global;
 
 /// A variable isn't null.
@@ -118,6 +118,37 @@ fn assign_below(set: &mut FactSet, x: u32, y: u32, scratch: u32)
     set.assign_under(x, y, scratch);
 }
 
+/// A variable is in the region of another, or null.
+fn link(set: &mut FactSet, x: u32, y: u32, scratch: u32)
+    requires x { x < scratch }
+    requires y { y < scratch }
+    requires scratch { scratch < set.old.variables }
+    requires closed { IsClosed set.old.variables scratch (holds set.old) }
+    ensures variables { set.new.variables ≡ set.old.variables }
+    ensures facts { (fact : AnyFact) → IsTrue (holds set.new fact) ↔ IsBehind set.old.variables scratch (holds set.old) (In x y ∷ []) fact }
+{
+    if set.has(Fact::In(x, y)) {
+        return;
+    }
+    set.add_within(x, y, scratch);
+}
+
+/// Parameters and their hidden copies are in each other's regions.
+fn enter(set: &mut FactSet, entries: &[Entry], scratch: u32)
+    requires below { pairs_below scratch (map entry_of entries.now) }
+    requires scratch { scratch < set.old.variables }
+    requires closed { IsClosed set.old.variables scratch (holds set.old) }
+    ensures variables { set.new.variables ≡ set.old.variables }
+    ensures facts { (fact : AnyFact) → IsTrue (holds set.new fact) ↔ IsBehind set.old.variables scratch (holds set.old) (pair_news (map entry_of entries.now)) fact }
+{
+    let Some((first, rest)) = entries.split_first() else {
+        return;
+    };
+    link(set, first.local, first.copy, scratch);
+    link(set, first.copy, first.local, scratch);
+    enter(set, rest, scratch);
+}
+
 /// What may stand behind an effect: the facts before and the new ones, and all that is derivable then, in
 /// which the scratch variable stands for the one that is assigned.
 pub fn cross(
@@ -146,7 +177,7 @@ pub fn cross(
         Effect::LookedAt(y) => look_at(set, *y, scratch),
         Effect::Stored(z, y, note) => store(set, *z, *y, *note, scratch),
         Effect::Present(y) => look_at(set, *y, scratch),
-        Effect::Absent(_) => (),
+        Effect::Absent(y) => learn_null(alloc, set, *y, scratch)?,
         Effect::Called {
             result,
             function,
@@ -159,7 +190,7 @@ pub fn cross(
             *result,
             scratch,
         )?,
-        Effect::Entered { .. } => (),
+        Effect::Entered { entries } => enter(set, entries, scratch),
     }
     Ok(())
 }

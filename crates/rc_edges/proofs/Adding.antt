@@ -10,7 +10,7 @@ use Rattle.rc_facts.specs.declared.fact.Fact.{Fact}
 use Rattle.rc_facts.specs.declared.fact.Fact.TheVariants.{In, Up, Trad, NonNull}
 use Rattle.rc_facts.specs.Facts.{same_fact, is_over}
 use Rattle.rc_facts.proofs.Sets.{same_fact-true}
-use Rattle.rc_rlang.specs.RegionFlow.{Effect, nothing, nulled, moved, fixed, beside, made, under, loaded, looked_at, stored, present, absent, called, entered}
+use Rattle.rc_rlang.specs.RegionFlow.{Effect, nothing, nulled, moved, fixed, beside, made, under, loaded, looked_at, stored, present, absent, called, entered, assigned}
 use Rattle.rc_annotations.specs.Annotations.{Facts, Annotation, by_note, of_null, some_pair, gained, is_place, place_in, some_below, pair_fact, exit_facts}
 use Rattle.rc_edges.specs.Edges.{all_below, pairs_below, EffectBelow, AreNews}
 use Rattle.rc_facts.specs.Null.{in_each, null_news}
@@ -378,3 +378,19 @@ module _ (n : ℕ) (a : Annotation) where
     sound = each_sound n (gained (exit_facts a) effect) (news_of n a.exit effect) (news_each effect b);
     whole = news_has effect;
   }
+
+pub assigned_below : (s : ℕ) (effect : Effect) → EffectBelow s effect → IfSome (assigned effect) (λ x. x < s)
+assigned_below s nothing b = tt {0}
+assigned_below s (nulled x) b = b
+assigned_below s (moved x y) b = b.0
+assigned_below s (fixed x) b = b
+assigned_below s (beside x y) b = b.0
+assigned_below s (made x) b = b
+assigned_below s (under x y) b = b.0
+assigned_below s (loaded x y note) b = b.0
+assigned_below s (looked_at y) b = tt {0}
+assigned_below s (stored z y note) b = tt {0}
+assigned_below s (present y) b = tt {0}
+assigned_below s (absent y) b = tt {0}
+assigned_below s (called x g ys) b = b.0
+assigned_below s (entered pairs) b = tt {0}

@@ -10,8 +10,11 @@ use Rattle.rc_rlang.specs.RegionFlow.{Effect, assigned, one_of}
 use Rattle.rc_annotations.specs.Annotations.{Facts, Annotation, gained, exit_facts, allowed, allowed_where, fact_with, renamed, renamed_by, is_below, assigning}
 use Rattle.rc_flow.specs.Flow.{Behind}
 use Rattle.rc_facts.specs.Shut.{together}
-use Rattle.rc_edges.specs.Edges.{EffectBelow, AreNews, Carries, renewed, renewed_by}
+use Rattle.rc_edges.specs.Edges.{EffectBelow, AreNews, Crossed, renewed, renewed_by}
 use Rattle.rc_edges.specs.EdgeLaws.{AllBelow}
+use Rattle.rc_edges.specs.News.{news_of}
+use Rattle.rc_edges.proofs.Adding.{news_are}
+use Rattle.rc_edges.proofs.Downward.{renewed_below}
 use Rattle.rc_edges.proofs.Renaming.{derivable_under, fixed_names, same_names, names_twice, renewed_under, gained_under, clamped, clamped_below, clamped_over, clamped_less, over_clamped}
 
 not_both : {P : Type 0} (b : Bool) → b ≡ true → b ≡ false → P
@@ -135,13 +138,8 @@ news_allow n s u a effect before news fact over lt below old own are = (
   λ d. allowed_up n s u a effect before news over fact own (assigned effect) (λ p q. up n s u a effect before news over lt below old are q) d,
 )
 
-pub edges_allow : (n s u : ℕ) (a : Annotation) (effect : Effect) (from to : ℕ) (e : _) (before : Facts) (fact : Fact) → s < u → u < n → EffectBelow s effect → AllBelow s before → is_below s fact → Carries s (exit_facts a) effect from to e →
-    allowed n u (gained (exit_facts a)) effect before fact ↔ Behind (suc s) s e.assigned e.news.items before fact
-edges_allow n s u a effect from to e before fact over lt below old own c =
-    let same = news_allow n s u a effect before e.news.items fact over lt below old own c.news in (
-      λ d. subst (λ x. Behind (suc s) s x e.news.items before fact) (sym c.assigned) (same.0 d),
-      λ d. same.1 (subst (λ x. Behind (suc s) s x e.news.items before fact) c.assigned d),
-    )
+pub edges_allow : (n s u : ℕ) (a : Annotation) (effect : Effect) (before : Facts) (fact : Fact) → s < u → u < n → EffectBelow s effect → AllBelow s before → is_below s fact → allowed n u (gained (exit_facts a)) effect before fact ↔ Crossed a.exit s effect before fact
+edges_allow n s u a effect before fact over lt below old own = news_allow n s u a effect before (news_of (suc s) a.exit (renewed s effect)) fact over lt below old own (news_are (suc s) a (renewed s effect) (renewed_below s effect below))
 
 -- fewer variables
 

@@ -70,8 +70,7 @@ module _ (r : Rlang) (temporaries : ℕ → ℕ) where
     follows = record {
       along = λ g f p edge fact there one is. (
           let t = temporaries g in
-          let c = (h g f there).1.along p edge fact one is in
-          (edges_allow (variables f t) (spare f t) (scratch f t) a edge.effect p edge.to c.flow (a.before g p) fact (omega arith) (omega arith) ((h g f there).0 p edge one) (o.points g f p there) (o.points g f edge.to there fact is) c.carries).1 c.behind);
+          (edges_allow (variables f t) (spare f t) (scratch f t) a edge.effect (a.before g p) fact (omega arith) (omega arith) ((h g f there).0 p edge one) (o.points g f p there) (o.points g f edge.to there fact is)).1 ((h g f there).1.along p edge fact one is));
       calls = λ g f p edge x k arguments fact there one is_call is. derivable_wider (omega arith) ((h g f there).1.calls p edge x k arguments fact one is_call is);
       entry = λ g f fact there is. derivable_wider (omega arith) ((h g f there).1.entry fact is);
       exit = λ g f p given fact there one is. derivable_wider (omega arith) ((h g f there).1.exit p one.node given fact one.there one.returns is);
@@ -84,8 +83,8 @@ module _ (r : Rlang) (temporaries : ℕ → ℕ) where
       let t = temporaries g in
       let s = spare f t in
       record {
-        along = λ p edge e fact one carries is.
-            (edges_allow (variables f t) s (scratch f t) a edge.effect p edge.to e (b.before g p) fact (omega arith) (omega arith) (own p edge one) (λ q k. c.at_points g f p q there k) (c.at_points g f edge.to fact there is) carries).0
+        along = λ p edge fact one is.
+            (edges_allow (variables f t) s (scratch f t) a edge.effect (b.before g p) fact (omega arith) (omega arith) (own p edge one) (λ q k. c.at_points g f p q there k) (c.at_points g f edge.to fact there is)).0
             (allowed_more (variables f t) (scratch f t) (gained (exit_facts (between b a))) (gained (exit_facts a)) (assigned edge.effect) edge.effect (b.before g p) (b.before g p) fact (same_gains b a) (λ q k. k)
             ((follows_inside r temporaries b (between b a) c (record { before = λ g p q k. k; entry = i.entry; exit = i.exit })).along g f p edge fact there one is));
         calls = λ p edge x k arguments fact one is_call below is.

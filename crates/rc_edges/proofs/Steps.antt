@@ -1,23 +1,28 @@
 -- The steps of a search for the greatest consistent facts.
-use Rattle.std.proofs.Common.{◌≡◌, ℕ, zero, suc, ◌<◌, ◌≤◌, Bool, true, false, ◌||◌, not, nat_eq, nat_lt, IsTrue, List, [], ◌∷◌, length, get_or, Option, Some, None, refl, sym, ap, ◌∙◌, subst, arith, ◌⊎◌, inl, inr}
+use Rattle.std.proofs.Common.{◌≡◌, ℕ, zero, suc, ◌<◌, ◌≤◌, Bool, true, false, ◌||◌, ◌&&◌, not, nat_eq, nat_lt, IsTrue, ◌↔◌, List, [], ◌∷◌, length, get_or, Option, Some, None, IfSome, refl, sym, ap, ◌∙◌, subst, arith, ◌⊎◌, inl, inr}
 use Rattle.std.specs.Prelude.{slice_get, is_some}
 use Rattle.std.proofs.lemmas.Bool.{and_parts, and_from, or_cases, or_left, or_right, eqb-true, eq-eqb, ltb-true, lt-ltb}
 use Rattle.std.proofs.lemmas.Option.{slice_get_within}
 use Rattle.rc_facts.specs.declared.fact.Fact.{Fact}
 use Rattle.rc_facts.specs.declared.fact.Fact.TheVariants.{In, Up, Trad, NonNull}
-use Rattle.rc_facts.specs.Facts.{Known, holds, is_over, names, same_fact}
+use Rattle.rc_facts.specs.Facts.{Known, holds, is_over, names, replaced, same_fact, with_replaced}
+use Rattle.rc_facts.specs.Shut.{together}
 use Rattle.rc_facts.specs.Derivable.{Derivable, stated}
 use Rattle.rc_facts.proofs.Sets.{same_fact-true}
 use Rattle.rc_facts.proofs.Closes.{derivable_over}
 use Rattle.rc_rlang.specs.RegionCode.{Routine, Rlang}
 use Rattle.rc_rlang.specs.IsRlang.{IsRlang}
-use Rattle.rc_rlang.specs.RegionFlow.{called, Edge, Node, copies, routine_nodes}
-use Rattle.rc_annotations.specs.Annotations.{Annotation, Consistent, fact_with, renamed, is_below, returned_facts, NodeEdge}
+use Rattle.rc_rlang.specs.RegionFlow.{assigned, called, Edge, Effect, Node, copies, routine_nodes}
+use Rattle.rc_annotations.specs.Annotations.{Annotation, Consistent, Facts, fact_with, renamed, is_below, returned_facts, NodeEdge}
 use Rattle.rc_annotations.specs.Laws.{Within}
 use Rattle.rc_annotations.specs.Heights.{temporaries_of}
 use Rattle.rc_annotations.proofs.Derivations.{derivable_more, either_more}
-use Rattle.rc_flow.specs.Flow.{AreShut, Behind, IsInside, no_set, set_at}
-use Rattle.rc_edges.specs.Edges.{EffectBelow, all_below, kept, spare}
+use Rattle.rc_flow.specs.Flow.{AreShut, Behind, IsClosed, no_set, set_at}
+use Rattle.rc_flow.proofs.Flows.{behind_more, derivable_cut, derivable_replaced}
+use Rattle.rc_edges.specs.Edges.{Crossed, EffectBelow, all_below, kept, renewed, spare}
+use Rattle.rc_edges.specs.News.{news_of}
+use Rattle.rc_edges.proofs.Adding.{assigned_below, news_are}
+use Rattle.rc_edges.proofs.Downward.{news_over, renewed_below}
 use Rattle.rc_edges.specs.EdgeLaws.{AllBelow}
 use Rattle.rc_edges.specs.Families.{Family, Settled, Owned, KeepsInside, annotation_in}
 use Rattle.rc_edges.proofs.Owning.{functions_own}
@@ -27,8 +32,8 @@ use Rattle.rc_edges.specs.Inferred.{GreatestOf, ShapedAt, has_point, only_of}
 use Rattle.rc_edges.proofs.Fitting.{calls_fit, returns_fit}
 use Rattle.rc_edges.proofs.Restricting.{inside_only, only_consistent}
 use Rattle.rc_edges.specs.Reading.{Loses, read_by}
-use Rattle.rc_edges.specs.Boundaries.{CallsGive, ReturnsGive, given_facts}
-use Rattle.rc_edges.specs.Searching.{Searching, Full, Lowered, Passed, with_points, with_entries, with_exits}
+use Rattle.rc_edges.specs.Boundaries.{CallsGive, NodeGives, NodeReturns, ReturnsGive, given_facts}
+use Rattle.rc_edges.specs.Searching.{Searching, Full, with_points, with_entries, with_exits}
 
 -- numbers and variables
 
@@ -146,6 +151,60 @@ none_held : (fact : Fact) → holds no_set fact ≡ false
 unfolding holds
 none_held fact = refl
 
+-- a set that has a fact is in its list
+pub get_within : (sets : List Known) (p : ℕ) (fact : Fact) → IsTrue (set_at sets p fact) → p < length sets
+get_within [] p fact has = not_both (holds no_set fact) has (none_held fact)
+get_within (x ∷ sets) zero fact has = omega arith
+get_within (x ∷ sets) (suc p) fact has = let l = get_within sets p fact has in omega (arith, l)
+
+get_same : (sets : List Known) (p : ℕ) (d : Known) → p < length sets → get_or sets p d ≡ get_or sets p no_set
+get_same [] p d lt = absurd (omega (arith, lt))
+get_same (x ∷ sets) zero d lt = refl
+get_same (x ∷ sets) (suc p) d lt = get_same sets p d (omega (arith, lt))
+
+-- what stands behind an effect
+
+over_put : (n x s v : ℕ) → x < n → replaced x s v < n → v < n
+over_put n x s v lt l = by (nat_eq v x) refl
+  where
+    by : (b : Bool) → nat_eq v x ≡ b → v < n
+    by true e = let q = eqb-true v x e in omega (arith, q, lt)
+    by false e = rw e at l
+
+below_put : (n x s : ℕ) → x < n → (p : Fact) → is_below n (with_replaced x s p) → is_below n p
+below_put n x s lt (In a b) l = (over_put n x s a lt l.0, over_put n x s b lt l.1)
+below_put n x s lt (Up a b) l = (over_put n x s a lt l.0, over_put n x s b lt l.1)
+below_put n x s lt (Trad a) l = over_put n x s a lt l
+below_put n x s lt (NonNull a) l = over_put n x s a lt l
+
+module _ (s : ℕ) (exits : ℕ → Facts) (effect : Effect) (own : EffectBelow s effect) (before : Facts) where
+  given_over : AllBelow s before → (p : Fact) → together before (news_of (suc s) exits (renewed s effect)) p ≡ true → is_over (suc s) p ≡ true
+  given_over below p e = elim (or_cases (before p) _ e) [
+    | inl old ↦ below_over (suc s) p (more_below s (suc s) (omega arith) p (below p old))
+    | inr new ↦ news_over (suc s) p (news_of (suc s) exits (renewed s effect)) (news_are (suc s) (record { before = λ g p fact. false; entry = λ g fact. false; exit = exits }) (renewed s effect) (renewed_below s effect own)).over new
+  ]
+
+  behind_below : (x : Option ℕ) (news : List Fact) → IfSome x (λ v. v < s) → ((p : Fact) → together before news p ≡ true → is_over (suc s) p ≡ true) → (fact : Fact) → Behind (suc s) s x news before fact → is_below s fact
+  behind_below None news lt over fact d = below_unnamed s fact (over_below (suc s) fact (derivable_over over d.0)) d.1
+  behind_below (Some x) news lt over fact d = below_unnamed s fact (below_put (suc s) x s (omega (arith, lt)) fact (over_below (suc s) (with_replaced x s fact) (derivable_over over d.0))) d.1
+
+  pub crossed_below : AllBelow s before → (fact : Fact) → Crossed exits s effect before fact → is_below s fact
+  crossed_below below = behind_below (assigned effect) (news_of (suc s) exits (renewed s effect)) (assigned_below s effect own) (given_over below)
+
+  behind_shut : (x : Option ℕ) (news : List Fact) (given : Facts) → ((p : Fact) → IsTrue (given p) → Behind (suc s) s x news before p) → (fact : Fact) → names s fact ≡ false → Derivable (suc s) given fact → Behind (suc s) s x news before fact
+  behind_shut None news given h fact apart d = (derivable_cut (λ p e. (h p e).0) d, apart)
+  behind_shut (Some x) news given h fact apart d = (derivable_replaced x s (omega arith) (λ p e. (h p e).0) d, apart)
+
+  pub crossed_shut : (given : Facts) → ((p : Fact) → IsTrue (given p) → Crossed exits s effect before p) → (fact : Fact) → names s fact ≡ false → Derivable (suc s) given fact → Crossed exits s effect before fact
+  crossed_shut = behind_shut (assigned effect) (news_of (suc s) exits (renewed s effect))
+
+-- a set may stand at a point: it is shut, it doesn't speak of the result, and has what each consistent annotation has
+pub record Stands (r : Rlang) (g : ℕ) (f : Routine) (p : ℕ) (set : Known) : Type 0 where
+  pub wide : set.variables ≡ kept f (temporaries_of r g)
+  pub closed : IsClosed (kept f (temporaries_of r g)) (spare f (temporaries_of r g)) (holds set)
+  pub below : AllBelow (spare f (temporaries_of r g)) (holds set)
+  pub inside : (b : Annotation) → Consistent r (temporaries_of r) b → Within ((only_of r b).before g p) (holds set)
+
 module _ (r : Rlang) (is : IsRlang r) where
   abbrev heights : ℕ → ℕ
   heights = temporaries_of r
@@ -163,51 +222,90 @@ module _ (r : Rlang) (is : IsRlang r) where
     keeps : (m : Family) → Searching r m → (b : Annotation) → Consistent r heights b → KeepsInside r heights (only_of r b) (annotation_in m) g f
     keeps m s b c = search_keeps r heights (only_of r b) (annotation_in m) (only_consistent r is b c) (s.inside b c) s.order g f there owned.hidden owned.own
 
-    -- its points lose facts
+    pub stands : (m : Family) → Searching r m → (p : ℕ) → p < length (routine_nodes f) → Stands r g f p (get_or (get_or m.points g []) p no_set)
+    stands m s p lt =
+        let shape = s.shaped.each g f there in
+        let under : p < length (get_or m.points g []) = (let q = shape.points in omega (arith, q, lt)) in
+        record { wide = shape.before p no_set under; closed = s.shut g f there p under; below = s.order.points g f p there; inside = λ b c. (s.inside b c).before g p }
+
+    -- the sets of its points become others that may stand there
     module _ (m : Family) (ps : List (List Known)) (s : Searching r m) (long : length ps ≡ length m.points) (others : (k : ℕ) → (k ≡ g → ⊥) → get_or ps k [] ≡ get_or m.points k [])
-        (passed : Lowered (routine_nodes f) (copies f) (spare f (heights g)) (get_or m.entries g no_set) m.exits (get_or m.points g []) (get_or ps g [])) where
-      passed_inside : (b : Annotation) → Consistent r heights b → IsInside ((only_of r b).before g) (get_or ps g [])
-      passed_inside b c =
-          let c1 = only_consistent r is b c in
-          passed.inside ((only_of r b).before g)
-          (λ p edge e fact one carries has. (keeps m s b c).along p edge e fact (record { node = one.node; place = one.place; there = one.there; is = one.is }) carries has)
-          (λ fact has. (
-            derivable_more (λ p q. and_from (is_over (copies f) p) (set_at m.entries g p) (below_over (copies f) p (s.order.entries g f there p q)) q) ((keeps m s b c).entry fact has),
-            unnamed (spare f (heights g)) fact (c1.at_points g f 0 fact there has),
-          ))
-          (λ p fact lt has. (s.inside b c).before g p fact has)
+        (count : length (get_or ps g []) ≡ length (routine_nodes f)) (each : (p : ℕ) → p < length (routine_nodes f) → Stands r g f p (get_or (get_or ps g []) p no_set)) where
+      below_count : (p : ℕ) → p < length (get_or ps g []) → p < length (routine_nodes f)
+      below_count p lt = omega (arith, lt, count)
 
-      long_points : length (get_or ps g []) ≡ length (routine_nodes f)
-      long_points = passed.long ∙ (s.shaped.each g f there).points
-
-      pub pass_step : Searching r (with_points m ps)
-      pass_step = record {
+      pub row_step : Searching r (with_points m ps)
+      row_step = record {
         shaped = record {
           points = long ∙ s.shaped.points;
           entries = s.shaped.entries;
           exits = s.shaped.exits;
           each = pick (λ k. (f1 : Routine) → slice_get r.functions k ≡ Some f1 → ShapedAt f1 (heights k) (get_or ps k []) (get_or m.entries k no_set) (get_or m.exits k no_set)) g
-              (for_it (λ f1. ShapedAt f1 (heights g) (get_or ps g []) (get_or m.entries g no_set) (get_or m.exits g no_set)) (record { points = long_points; before = passed.variables; entry = (s.shaped.each g f there).entry; exit = (s.shaped.each g f there).exit }))
+              (for_it (λ f1. ShapedAt f1 (heights g) (get_or ps g []) (get_or m.entries g no_set) (get_or m.exits g no_set)) (record {
+                points = count;
+                before = λ p d lt. ap (λ (k : Known). k.variables) (get_same (get_or ps g []) p d lt) ∙ (each p (below_count p lt)).wide;
+                entry = (s.shaped.each g f there).entry;
+                exit = (s.shaped.each g f there).exit;
+              }))
               (λ k apart f1 th. subst (λ sets. ShapedAt f1 (heights k) sets (get_or m.entries k no_set) (get_or m.exits k no_set)) (sym (others k apart)) (s.shaped.each k f1 th));
         };
         order = record {
           entries = s.order.entries;
           exits = s.order.exits;
           points = λ k f1 p. pick (λ k. (f1 : Routine) → slice_get r.functions k ≡ Some f1 → AllBelow (spare f1 (heights k)) (set_at (get_or ps k []) p)) g
-              (λ f1 th fact has. s.order.points g f1 p th fact (passed.fewer p fact has))
+              (for_it (λ f1. AllBelow (spare f1 (heights g)) (set_at (get_or ps g []) p)) (λ fact has. (each p (below_count p (get_within (get_or ps g []) p fact has))).below fact has))
               (λ k apart f1 th. subst (λ sets. AllBelow (spare f1 (heights k)) (set_at sets p)) (sym (others k apart)) (s.order.points k f1 p th)) k f1;
           main = s.order.main;
         };
         inside = λ b c. record {
           before = λ k p. pick (λ k. Within ((only_of r b).before k p) (set_at (get_or ps k []) p)) g
-              (λ fact has. passed_inside b c p fact (let lt = a_point p (and_parts (has_point (slice_get r.functions g) p) (b.before g p fact) has).0 in omega (arith, lt, long_points)) has)
+              (λ fact has. (each p (a_point p (and_parts (has_point (slice_get r.functions g) p) (b.before g p fact) has).0)).inside b c fact has)
               (λ k apart. subst (λ sets. Within ((only_of r b).before k p) (set_at sets p)) (sym (others k apart)) ((s.inside b c).before k p)) k;
           entry = (s.inside b c).entry;
           exit = (s.inside b c).exit;
         };
         shut = pick (λ k. (f1 : Routine) → slice_get r.functions k ≡ Some f1 → AreShut (kept f1 (heights k)) (spare f1 (heights k)) (get_or ps k [])) g
-            (for_it (λ f1. AreShut (kept f1 (heights g)) (spare f1 (heights g)) (get_or ps g [])) passed.shut)
+            (for_it (λ f1. AreShut (kept f1 (heights g)) (spare f1 (heights g)) (get_or ps g [])) (λ p lt. (each p (below_count p lt)).closed))
             (λ k apart f1 th. subst (λ sets. AreShut (kept f1 (heights k)) (spare f1 (heights k)) sets) (sym (others k apart)) (s.shut k f1 th));
+      }
+
+    -- a set that may stand at a point loses what no consistent annotation has there
+    pub stands_less : (p : ℕ) (old new : Known) (stays : Fact → Type 0) → Stands r g f p old → new.variables ≡ old.variables → ((fact : Fact) → IsTrue (holds new fact) ↔ (IsTrue (holds old fact) × stays fact)) → ((fact : Fact) → names (spare f (heights g)) fact ≡ false → Derivable (kept f (heights g)) (holds new) fact → stays fact)
+        → ((b : Annotation) → Consistent r heights b → (fact : Fact) → IsTrue ((only_of r b).before g p fact) → stays fact) → Stands r g f p new
+    stands_less p old new stays at wide facts again give = record {
+      wide = wide ∙ at.wide;
+      closed = record {
+        shut = λ fact apart d. (facts fact).1 (at.closed.shut fact apart (derivable_more (λ q is. ((facts q).0 is).0) d), again fact apart d);
+        clean = λ fact is. at.closed.clean fact ((facts fact).0 is).0;
+      };
+      below = λ fact is. at.below fact ((facts fact).0 is).0;
+      inside = λ b c fact has. (facts fact).1 (at.inside b c fact has, give b c fact has);
+    }
+
+    -- what follows from its entry may stand at its first point
+    abbrev pub Entered : Family → Fact → Type 0
+    Entered m fact = Derivable (kept f (heights g)) (λ q. is_over (copies f) q && set_at m.entries g q) fact × (names (spare f (heights g)) fact ≡ false)
+
+    pub entered_inside : (m : Family) → Searching r m → (b : Annotation) → Consistent r heights b → (fact : Fact) → IsTrue ((only_of r b).before g 0 fact) → Entered m fact
+    entered_inside m s b c fact has = (
+      derivable_more (λ p q. and_from (is_over (copies f) p) (set_at m.entries g p) (below_over (copies f) p (s.order.entries g f there p q)) q) ((keeps m s b c).entry fact has),
+      unnamed (spare f (heights g)) fact ((only_consistent r is b c).at_points g f 0 fact there has),
+    )
+
+    -- what an edge carries may stand behind it
+    module _ (m : Family) (s : Searching r m) (p : ℕ) (edge : Edge) (one : NodeEdge f p edge) (known : Known) (here : Stands r g f p known) where
+      pub crossed_inside : (b : Annotation) → Consistent r heights b → (fact : Fact) → IsTrue ((only_of r b).before g edge.to fact) → Crossed (set_at m.exits) (spare f (heights g)) edge.effect (holds known) fact
+      crossed_inside b c fact has = behind_more (kept f (heights g)) (spare f (heights g)) (assigned edge.effect) (news_of (kept f (heights g)) (set_at m.exits) (renewed (spare f (heights g)) edge.effect)) ((only_of r b).before g p) (holds known) fact (here.inside b c) ((keeps m s b c).along p edge fact one has)
+
+      pub crossed_stands : (after : Known) → after.variables ≡ kept f (heights g) → ((fact : Fact) → IsTrue (holds after fact) ↔ Crossed (set_at m.exits) (spare f (heights g)) edge.effect (holds known) fact) → Stands r g f edge.to after
+      crossed_stands after wide facts = record {
+        wide = wide;
+        closed = record {
+          shut = λ fact apart d. (facts fact).1 (crossed_shut (spare f (heights g)) (set_at m.exits) edge.effect (owned.own p edge one) (holds known) (holds after) (λ q is. (facts q).0 is) fact apart d);
+          clean = λ fact is. ((facts fact).0 is).1;
+        };
+        below = λ fact is. crossed_below (spare f (heights g)) (set_at m.exits) edge.effect (owned.own p edge one) (holds known) here.below fact ((facts fact).0 is);
+        inside = λ b c fact has. (facts fact).1 (crossed_inside b c fact has);
       }
 
     -- entries lose what its calls don't give, or some of them
@@ -279,24 +377,23 @@ module _ (r : Rlang) (is : IsRlang r) where
                 ((keeps m s b c).exit p node given fact at returns (returned_below f (heights g) given (λ x e. returns_fit r is g f there (heights g) p node x at (returns ∙ ap Some e))) has),
           )
 
-    -- where nothing was lost, nothing drops a fact
-    pub settled_here : (m : Family) (old : List Known) → Searching r m → Passed (routine_nodes f) (copies f) (spare f (heights g)) (get_or m.entries g no_set) m.exits old (get_or m.points g []) → ((h : ℕ) (fact : Fact) → IsTrue (set_at m.entries h fact) → CallsGive (routine_nodes f) (get_or m.points g []) (length (routine_nodes f)) h fact)
-        → ((fact : Fact) → IsTrue (set_at m.exits g fact) → ReturnsGive (routine_nodes f) (get_or m.points g []) (copies f) (spare f (heights g)) (length (routine_nodes f)) fact) → Settled r heights (annotation_in m) g f
-    settled_here m old s passed calls returns = record {
-      along = λ p edge fact one has. (
-          let c = passed.along p edge fact (record { node = one.node; place = one.place; there = one.there; is = one.is }) has in
-          record { flow = c.flow; carries = c.carries; behind = c.behind });
-      calls = λ p edge x h arguments fact one is_call has. stated (and_parts (is_over (length arguments) fact) _ (calls h fact has p one.node (slice_get_within (routine_nodes f) p one.node one.there) one.there one.place edge one.is x arguments is_call)).1;
-      entry = λ fact has. derivable_more (λ p q. (and_parts (is_over (copies f) p) (set_at m.entries g p) q).1) (passed.entry fact has);
-      exit = λ p node given fact at gives has. derivable_more (either_more (λ q k. k) (given_returned f (heights g) given)) (returns fact has p node (slice_get_within (routine_nodes f) p node at) at given gives).1;
+    -- where the sets before a point lost nothing to it, nothing is dropped there
+    pub settled_by : (m : Family) → ((p : ℕ) (edge : Edge) (fact : Fact) → NodeEdge f p edge → IsTrue (set_at (get_or m.points g []) edge.to fact) → Crossed (set_at m.exits) (spare f (heights g)) edge.effect (set_at (get_or m.points g []) p) fact)
+        → ((p : ℕ) (node : Node) (h : ℕ) (fact : Fact) → slice_get (routine_nodes f) p ≡ Some node → IsTrue (set_at m.entries h fact) → NodeGives node (get_or (get_or m.points g []) p no_set) h fact)
+        → ((fact : Fact) → IsTrue (set_at (get_or m.points g []) 0 fact) → Entered m fact)
+        → ((p : ℕ) (node : Node) (fact : Fact) → slice_get (routine_nodes f) p ≡ Some node → IsTrue (set_at m.exits g fact) → NodeReturns node (get_or (get_or m.points g []) p no_set) (copies f) (spare f (heights g)) fact)
+        → Settled r heights (annotation_in m) g f
+    settled_by m along calls entry returns = record {
+      along = along;
+      calls = λ p edge x h arguments fact one is_call has. stated (and_parts (is_over (length arguments) fact) _ (calls p one.node h fact one.there has one.place edge one.is x arguments is_call)).1;
+      entry = λ fact has. derivable_more (λ p q. (and_parts (is_over (copies f) p) (set_at m.entries g p) q).1) (entry fact has).0;
+      exit = λ p node given fact at gives has. derivable_more (either_more (λ q k. k) (given_returned f (heights g) given)) (returns p node fact at has given gives).1;
     }
 
   -- functions whose points stayed
   pub settled_stays : (m : Family) (ps : List (List Known)) (k : ℕ) (f : Routine) → get_or ps k [] ≡ get_or m.points k [] → Settled r heights (annotation_in m) k f → Settled r heights (annotation_in (with_points m ps)) k f
   settled_stays m ps k f same s = record {
-    along = λ p edge fact one has. (
-        let c = s.along p edge fact one (subst (λ sets. IsTrue (set_at sets edge.to fact)) same has) in
-        record { flow = c.flow; carries = c.carries; behind = subst (λ sets. Behind (kept f (heights k)) (spare f (heights k)) c.flow.assigned c.flow.news.items (set_at sets p) fact) (sym same) c.behind });
+    along = λ p edge fact one has. subst (λ sets. Crossed (set_at m.exits) (spare f (heights k)) edge.effect (set_at sets p) fact) (sym same) (s.along p edge fact one (subst (λ sets. IsTrue (set_at sets edge.to fact)) same has));
     calls = λ p edge x h arguments fact one is_call has. subst (λ sets. Derivable (kept f (heights k)) (set_at sets p) (fact_with (λ v. get_or arguments v 0) fact)) (sym same) (s.calls p edge x h arguments fact one is_call has);
     entry = λ fact has. s.entry fact (subst (λ sets. IsTrue (set_at sets 0 fact)) same has);
     exit = λ p node given fact at gives has. subst (λ sets. Derivable (kept f (heights k)) (λ q. set_at sets p q || returned_facts f (heights k) given q) (fact_with (renamed (copies f) (spare f (heights k))) fact)) (sym same) (s.exit p node given fact at gives has);
@@ -330,12 +427,6 @@ module _ (r : Rlang) (is : IsRlang r) where
       truly : (b : Bool) → b ≡ false → not b ≡ true
       truly true e = cc
       truly false e = refl
-
-      -- a set that has a fact is in its list
-      get_within : (sets : List Known) (p : ℕ) (fact : Fact) → IsTrue (set_at sets p fact) → p < length sets
-      get_within [] p fact has = not_both (holds no_set fact) has (none_held fact)
-      get_within (x ∷ sets) zero fact has = omega arith
-      get_within (x ∷ sets) (suc p) fact has = let l = get_within sets p fact has in omega (arith, l)
 
       within : (g p : ℕ) (fact : Fact) → IsTrue (set_at (get_or m.points g []) p fact) → p < length (get_or m.points g [])
       within g p fact has = get_within (get_or m.points g []) p fact has

@@ -4,9 +4,7 @@ use Rattle.rc_facts.specs.declared.fact.Fact.{Fact}
 use Rattle.rc_facts.specs.Derivable.{Derivable}
 use Rattle.rc_rlang.specs.RegionFlow.{Effect}
 use Rattle.rc_annotations.specs.Annotations.{Facts, Annotation, gained, exit_facts, allowed, is_below}
-use Rattle.rc_flow.specs.declared.edge.Edge.{Edge as FlowEdge}
-use Rattle.rc_flow.specs.Flow.{Behind}
-use Rattle.rc_edges.specs.Edges.{Carries, EffectBelow}
+use Rattle.rc_edges.specs.Edges.{Crossed, EffectBelow}
 
 abbrev pub AllBelow : ℕ → Facts → Type 0
 AllBelow s facts = (p : Fact) → IsTrue (facts p) → is_below s p
@@ -14,8 +12,8 @@ AllBelow s facts = (p : Fact) → IsTrue (facts p) → is_below s p
 -- of facts on variables below s, the scratch variable of the edge: over n variables with another scratch variable, above s, the same ones
 -- are allowed behind the effect
 abbrev pub EdgesAllow : Type 0
-EdgesAllow = (n s u : ℕ) (a : Annotation) (effect : Effect) (from to : ℕ) (e : FlowEdge) (before : Facts) (fact : Fact) → s < u → u < n → EffectBelow s effect → AllBelow s before → is_below s fact → Carries s (exit_facts a) effect from to e →
-    allowed n u (gained (exit_facts a)) effect before fact ↔ Behind (suc s) s e.assigned e.news.items before fact
+EdgesAllow = (n s u : ℕ) (a : Annotation) (effect : Effect) (before : Facts) (fact : Fact) → s < u → u < n → EffectBelow s effect → AllBelow s before → is_below s fact →
+    allowed n u (gained (exit_facts a)) effect before fact ↔ Crossed a.exit s effect before fact
 
 -- what is derivable from facts on variables below m, of such variables, is so over m variables
 abbrev pub FewerDerive : Type 0

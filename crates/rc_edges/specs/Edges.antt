@@ -9,7 +9,8 @@ use Rattle.rc_rlang.specs.RegionCode.{Routine}
 use Rattle.rc_rlang.specs.RegionFlow.{Effect, nothing, nulled, moved, fixed, beside, made, under, loaded, looked_at, stored, present, absent, called, entered, assigned, result_variable}
 use Rattle.rc_annotations.specs.Annotations.{Facts, assigning, gained}
 pub use Rattle.rc_annotations.specs.Annotations.{NodeEdge}
-use Rattle.rc_flow.specs.declared.edge.Edge.{Edge as FlowEdge}
+use Rattle.rc_flow.specs.Flow.{Behind}
+use Rattle.rc_edges.specs.News.{news_of}
 
 -- the scratch variable of edges, and how many variables facts are kept over
 abbrev pub spare : Routine → (temporaries : ℕ) → ℕ
@@ -57,9 +58,6 @@ pub record AreNews (n : ℕ) (exits : ℕ → List ℕ → Option ℕ → Facts)
   pub sound : (fact : Fact) → IsTrue (list_any (λ p. same_fact p fact) news) → IsTrue (gained exits effect fact)
   pub whole : (fact : Fact) → IsTrue (is_over n fact) → IsTrue (gained exits effect fact) → IsTrue (list_any (λ p. same_fact p fact) news)
 
--- the edge carries facts as this effect does, from a point to another
-pub record Carries (s : ℕ) (exits : ℕ → List ℕ → Option ℕ → Facts) (effect : Effect) (from to : ℕ) (e : FlowEdge) : Type 0 where
-  pub begins : e.from ≡ from
-  pub leads : e.to ≡ to
-  pub assigned : e.assigned ≡ assigned effect
-  pub news : AreNews (suc s) exits (renewed s effect) e.news.items
+-- a fact may stand behind an edge with this effect, by what is known before it and what exits say
+abbrev pub Crossed : (exits : ℕ → Facts) → (s : ℕ) → Effect → (before : Facts) → Fact → Type 0
+Crossed exits s effect before fact = Behind (suc s) s (assigned effect) (news_of (suc s) exits (renewed s effect)) before fact

@@ -9,9 +9,8 @@ use Rattle.rc_rlang.specs.RegionCode.{Routine, Rlang}
 use Rattle.rc_rlang.specs.RegionFlow.{called, Edge, Node, copies, variables, routine_nodes}
 use Rattle.rc_annotations.specs.Annotations.{Annotation, Consistent, exit_facts, returned_facts, fact_with, renamed, is_below, NodeEdge}
 use Rattle.rc_annotations.specs.Laws.{Inside}
-use Rattle.rc_flow.specs.declared.edge.Edge.{Edge as FlowEdge}
-use Rattle.rc_flow.specs.Flow.{Behind, set_at}
-use Rattle.rc_edges.specs.Edges.{spare, kept, EffectBelow, Carries}
+use Rattle.rc_flow.specs.Flow.{set_at}
+use Rattle.rc_edges.specs.Edges.{Crossed, spare, kept, EffectBelow}
 use Rattle.rc_edges.specs.EdgeLaws.{AllBelow}
 
 pub record Family : Type 0 where
@@ -30,15 +29,9 @@ module _ (r : Rlang) (temporaries : ℕ → ℕ) where
     pub points : (g : ℕ) (f : Routine) (p : ℕ) → slice_get r.functions g ≡ Some f → AllBelow (spare f (temporaries g)) (a.before g p)
     pub main : (fact : Fact) → a.entry r.main fact ≡ false
 
-  -- an edge of flow that carries facts as this one of a node does
-  pub record Carried (a : Annotation) (g : ℕ) (f : Routine) (p : ℕ) (edge : Edge) (fact : Fact) : Type 0 where
-    pub flow : FlowEdge
-    pub carries : Carries (spare f (temporaries g)) (exit_facts a) edge.effect p edge.to flow
-    pub behind : Behind (kept f (temporaries g)) (spare f (temporaries g)) flow.assigned flow.news.items (a.before g p) fact
-
   -- of a function: nothing is dropped on an edge, where another is called, where it begins and where it ends
   pub record Settled (a : Annotation) (g : ℕ) (f : Routine) : Type 0 where
-    pub along : (p : ℕ) (edge : Edge) (fact : Fact) → NodeEdge f p edge → IsTrue (a.before g edge.to fact) → Carried a g f p edge fact
+    pub along : (p : ℕ) (edge : Edge) (fact : Fact) → NodeEdge f p edge → IsTrue (a.before g edge.to fact) → Crossed a.exit (spare f (temporaries g)) edge.effect (a.before g p) fact
     pub calls : (p : ℕ) (edge : Edge) (x : Option ℕ) (h : ℕ) (arguments : List ℕ) (fact : Fact) → NodeEdge f p edge → edge.effect ≡ called x h arguments → IsTrue (a.entry h fact) → Derivable (kept f (temporaries g)) (a.before g p) (fact_with (λ v. get_or arguments v 0) fact)
     pub entry : (fact : Fact) → IsTrue (a.before g 0 fact) → Derivable (kept f (temporaries g)) (a.entry g) fact
     pub exit : (p : ℕ) (node : Node) (given : Option ℕ) (fact : Fact) → slice_get (routine_nodes f) p ≡ Some node → node.returns ≡ Some given → IsTrue (a.exit g fact) →
@@ -62,7 +55,7 @@ module _ (r : Rlang) (temporaries : ℕ → ℕ) where
   -- what a search keeps: over the variables of points, a consistent annotation inside a family has nothing that is dropped by an edge of
   -- the family, or where a function begins
   pub record KeepsInside (b a : Annotation) (g : ℕ) (f : Routine) : Type 0 where
-    pub along : (p : ℕ) (edge : Edge) (e : FlowEdge) (fact : Fact) → NodeEdge f p edge → Carries (spare f (temporaries g)) (exit_facts a) edge.effect p edge.to e → IsTrue (b.before g edge.to fact) → Behind (kept f (temporaries g)) (spare f (temporaries g)) e.assigned e.news.items (b.before g p) fact
+    pub along : (p : ℕ) (edge : Edge) (fact : Fact) → NodeEdge f p edge → IsTrue (b.before g edge.to fact) → Crossed a.exit (spare f (temporaries g)) edge.effect (b.before g p) fact
     pub calls : (p : ℕ) (edge : Edge) (x : Option ℕ) (h : ℕ) (arguments : List ℕ) (fact : Fact) → NodeEdge f p edge → edge.effect ≡ called x h arguments → is_below (spare f (temporaries g)) (fact_with (λ v. get_or arguments v 0) fact) → IsTrue (b.entry h fact) →
         Derivable (kept f (temporaries g)) (a.before g p) (fact_with (λ v. get_or arguments v 0) fact)
     pub entry : (fact : Fact) → IsTrue (b.before g 0 fact) → Derivable (kept f (temporaries g)) (a.entry g) fact

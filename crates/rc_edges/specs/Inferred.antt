@@ -55,8 +55,3 @@ pub record Shaped (r : Rlang) (temporaries : ℕ → ℕ) (m : Family) : Type 0 
   pub entries : length m.entries ≡ length r.functions
   pub exits : length m.exits ≡ length r.functions
   pub each : (g : ℕ) (f : Routine) → slice_get r.functions g ≡ Some f → ShapedAt f (temporaries g) (get_or m.points g []) (get_or m.entries g no_set) (get_or m.exits g no_set)
-
--- the facts are the greatest consistent ones of region code
-pub record Inferred (code : RegionParts) (facts : Facts) : Type 0 where
-  pub shaped : Shaped (rlang_of code) (temporaries_of (rlang_of code)) (family_of facts)
-  pub greatest : GreatestOf (rlang_of code) (temporaries_of (rlang_of code)) (annotation_in (family_of facts))

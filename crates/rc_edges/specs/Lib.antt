@@ -7,3 +7,4 @@ pub mod Calls
 pub mod Reading
 pub mod Boundaries
 pub mod Searching
+pub mod Heads

@@ -1,5 +1,5 @@
 // Whether a program keeps within what it may need.
-ghost use Rattle.std.specs.Prelude.{◌≡◌, ◌<◌, ◌≤◌, ◌+◌, ℕ, List, length, map, sum, slice_get, Some, MatchOption, option_map};
+ghost use Rattle.std.specs.Prelude.{◌≡◌, ◌<◌, ◌≤◌, ◌+◌, ℕ, List, length, map, sum, slice_get, Some, IfOk, MatchOption, option_map};
 ghost use Rattle.rc_core.specs.Laid.{AreLaidOut};
 ghost use Rattle.rc_core.specs.Programs.{Struct};
 ghost use Rattle.rc_core.specs.declared.parts.Function.{Function};
@@ -16,7 +16,7 @@ use rc_core::Layouts;
 use rc_core::parts::Function;
 use rc_core::program::Program;
 use rc_core::ty::Ty;
-use std::alloc::Global;
+use std::alloc::{AllocError, Global};
 
 fn behind_body(given: &Option<Ty>) -> u32
     ensures { result ≡ end_points (option_map ty_of given.now) }
@@ -61,19 +61,40 @@ fn first_wide(functions: &[Function]) -> Option<u32>
     None
 }
 
-/// Whether the translation of the program keeps within its bounds: each function within 128 region
-/// variables, and else the line of the first that doesn't; and then all within 65,536 points.
+/// Whether the translation of the program keeps within its bounds, by the layouts of its structs: each
+/// function within 128 region variables, and else the line of the first that doesn't; and then all within
+/// 65,536 points.
 #[tactic(auto, using(crate::proofs::Functions::parameters_fit))]
-pub fn count(alloc: Global, program: &Program) -> Result<(), ElabFault>
+pub(crate) fn count_laid(program: &Program, layouts: &Layouts) -> Result<(), ElabFault>
+    requires { AreLaidOut (program_of program.now).structs layouts.now }
     ensures { Counts (program_of program.now) result }
 {
     let parts = program.parts();
     if let Some(line) = first_wide(parts.functions.as_slice()) {
         return Err(ElabFault::Variables(line));
     }
-    let layouts = Layouts::new(alloc, parts.structs.as_slice())?;
-    match points_left(parts.functions.as_slice(), &layouts) {
+    match points_left(parts.functions.as_slice(), layouts) {
         None => Err(ElabFault::Points),
         Some(_) => Ok(()),
     }
+}
+
+/// The layouts of the structs of a program.
+pub(crate) fn layouts_of(alloc: Global, program: &Program) -> Result<Layouts, AllocError>
+    ensures { IfOk result (λ layouts. AreLaidOut (program_of program.now).structs layouts) }
+{
+    Layouts::new(alloc, program.parts().structs.as_slice())
+}
+
+/// Whether the translation of the program keeps within its bounds: each function within 128 region
+/// variables, and else the line of the first that doesn't; and then all within 65,536 points.
+///
+/// # Errors
+///
+/// That line; more than 65,536 points; out of memory.
+pub fn count(alloc: Global, program: &Program) -> Result<(), ElabFault>
+    ensures { Counts (program_of program.now) result }
+{
+    let layouts = layouts_of(alloc, program)?;
+    count_laid(program, &layouts)
 }

@@ -4,7 +4,7 @@ ghost use Rattle.rc_core.specs.Shapes.{program_of};
 ghost use Rattle.rc_elab.specs.Counting.{Counts};
 ghost use Rattle.rc_elab.specs.Elaborating.{Means, Translates};
 
-use crate::counting::count;
+use crate::counting::{count_laid, layouts_of};
 use crate::fault::ElabFault;
 use rc_core::program::Program;
 use rc_rlang::rlang::Rlang;
@@ -23,10 +23,11 @@ pub fn elaborate(alloc: Global, program: &Program) -> Result<Rlang, ElabFault>
     ensures means { Means (program_of program.now) result }
 {
     let _parts = program.parts();
-    count(alloc, program)?;
-    let parts = match region_parts(alloc, program) {
+    let layouts = layouts_of(alloc, program)?;
+    count_laid(program, &layouts)?;
+    let parts = match region_parts(alloc, program, &layouts) {
         Ok(parts) => parts,
         Err(_) => return Err(ElabFault::Memory),
     };
-    Ok(Rlang::new(parts))
+    Ok(Rlang::new(parts, layouts))
 }

@@ -1,4 +1,5 @@
 pub mod OneMask
 pub mod Removing
+pub mod Walks
 pub mod Unmarked
 pub mod Checked

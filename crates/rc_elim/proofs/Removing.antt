@@ -1,36 +1,28 @@
 -- Rows of marks made by facts mark exactly what may go.
-use Rattle.std.proofs.Common.{◌≡◌, ◌<◌, ◌≤◌, ◌+◌, ◌↔◌, ℕ, zero, suc, Bool, true, false, List, [], ◌∷◌, ◌++◌, length, map, get_or, drop, append_assoc, append-nil, Option, Some, None, Result, Ok, Err, IfOk, refl, sym, ap, ◌∙◌, subst, arith, IsTrue}
+use Rattle.std.proofs.Common.{◌≡◌, ◌<◌, ◌≤◌, ◌+◌, ◌↔◌, ℕ, zero, suc, Bool, true, false, List, [], ◌∷◌, ◌++◌, length, map, get_or, drop, append_assoc, append-nil, Option, Some, None, refl, sym, ap, ◌∙◌, subst, arith, IsTrue}
 use Rattle.std.specs.Prelude.{slice_get, IfSome, nat_lt, ◌&&◌}
 use Rattle.std.proofs.lemmas.Bool.{and_from, lt-ltb}
 use Rattle.std.proofs.Math.Seq.{drop-cons}
 use Rattle.std.proofs.lemmas.List.{get_or-map, length-map}
-use Rattle.std.proofs.lemmas.List.Elements.{All-get_or}
 use Rattle.std.proofs.lemmas.Option.{get_or_from_slice_get, slice_get-get_or, slice_get_within}
-use Rattle.std.specs.declared.vec.Vec.{Vec}
-use Rattle.std.specs.declared.alloc.Global.{Global as Alloc}
 use Rattle.rc_core.specs.declared.ty.Note.{Note}
 use Rattle.rc_core.specs.declared.ty.Note.TheVariants.{Plain, SameRegion, ParentPtr, Traditional}
 use Rattle.rc_facts.specs.declared.fact.Fact.{Fact}
 use Rattle.rc_facts.specs.Facts.{Known, is_over, holds}
 use Rattle.rc_rlang.specs.RegionCode.{Routine, Rlang}
-use Rattle.rc_rlang.specs.IsRlang.{IsRlang}
 use Rattle.rc_rlang.specs.Shapes.{rlang_of, routine_in}
-use Rattle.rc_rlang.specs.declared.code.Routine.{Routine as CodeRoutine}
 use Rattle.rc_rlang.specs.declared.code.RegionParts.{RegionParts}
 use Rattle.rc_core.specs.Shapes.{struct_of}
 use Rattle.rc_annotations.specs.Heights.{temporaries_of}
-use Rattle.rc_graph.specs.declared.node.Node.{Node as CodeNode}
-use Rattle.rc_graph.specs.Nodes.{node_of, nodes_of}
-use Rattle.rc_edges.specs.Families.{annotation_in}
-use Rattle.rc_edges.proofs.Owning.{functions_own}
+use Rattle.rc_edges.specs.Families.{Family, annotation_in}
 use Rattle.rc_edges.specs.declared.facts.Facts.{Facts}
-use Rattle.rc_edges.specs.Inferred.{Inferred, Shaped, family_of}
+use Rattle.rc_edges.specs.Heads.{Inferred}
 use Rattle.rc_edges.proofs.Restricting.{greatest_removes}
-use Rattle.rc_elim.specs.Marking.{AreMarked, IsMarked}
+use Rattle.rc_elim.specs.Marking.{AreMarked}
 use Rattle.rc_elim.specs.Masks.{HasPoints, MarksRemovable}
 use Rattle.rc_rlang.specs.RegionFlow.{Effect, nothing, nulled, moved, fixed, beside, made, under, loaded, looked_at, stored, present, absent, called, entered, Edge, Node, routine_nodes}
 use Rattle.rc_annotations.specs.Annotations.{Annotation, asked, asked_of, asked_by, Proven}
-use Rattle.rc_flow.specs.Flow.{HaveVariables, no_set, set_at}
+use Rattle.rc_flow.specs.Flow.{set_at}
 use Rattle.rc_edges.specs.Edges.{EffectBelow, NodeEdge, spare, kept}
 use Rattle.rc_elim.specs.Asking.{AsksOver, bits_of}
 use Rattle.rc_elim.specs.Masks.{has_asked, is_proven, marks_in}
@@ -106,11 +98,11 @@ is_asked : (asked : Option Fact) (facts : Fact → Bool) → has_asked asked fac
 is_asked None facts e = absurd cc
 is_asked (Some fact) facts e = record { fact = fact; asks = refl; has = e }
 
-record There {A : Type 0} (xs : List A) (i : ℕ) : Type 0 where
-  it : A
-  is : slice_get xs i ≡ Some it
+pub record There {A : Type 0} (xs : List A) (i : ℕ) : Type 0 where
+  pub it : A
+  pub is : slice_get xs i ≡ Some it
 
-there_at : {A : Type 0} (xs : List A) (i : ℕ) → i < length xs → There xs i
+pub there_at : {A : Type 0} (xs : List A) (i : ℕ) → i < length xs → There xs i
 there_at [] i h = absurd (omega (arith, h))
 there_at (x ∷ xs) zero h = record { it = x; is = refl }
 there_at (x ∷ xs) (suc i) h = let t = there_at xs i (omega (arith, h)) in record { it = t.it; is = t.is }
@@ -168,71 +160,20 @@ mapped_there f xs i x d l e = get_or-map f xs i x d l ∙ ap f (sym e)
 pub found_there : {X Y : Type 0} (f : X → Y) (xs : List X) (i : ℕ) (x : X) → i < length xs → x ≡ get_or xs i x → slice_get (map f xs) i ≡ Some (f x)
 found_there f xs i x l e = slice_get-get_or (map f xs) i (f x) (subst (λ n. i < n) (sym (length-map xs f)) l) ∙ ap (λ y. Some y) (mapped_there f xs i x (f x) l e)
 
-pub asks_there : (nodes : List CodeNode) (sets : List Known) (i : ℕ) (node : CodeNode) (facts : Known) → i < length nodes → i < length sets → node ≡ get_or nodes i node → facts ≡ get_or sets i facts →
-    ((p : ℕ) (n : Node) → slice_get (nodes_of nodes) p ≡ Some n → AsksOver (get_or sets p no_set).variables n) → AsksOver facts.variables (node_of node)
-asks_there nodes sets i node facts l k is there over =
-    subst (λ (s : Known). AsksOver s.variables (node_of node)) (read_there sets i facts no_set k there) (over i (node_of node) (found_there node_of nodes i node l is))
-
-pub bits_pushed : (nodes : List CodeNode) (sets : List Known) (i : ℕ) (node : CodeNode) (facts : Known) (bit : Bool) (before after all : List Bool) → i < length nodes → i < length sets → node ≡ get_or nodes i node → facts ≡ get_or sets i facts →
-    bit ≡ is_proven (node_of node) (holds facts) → after ≡ before ++ bit ∷ [] → before ++ bits_of (drop i (nodes_of nodes)) (drop i sets) ≡ all → after ++ bits_of (drop (i + 1) (nodes_of nodes)) (drop (i + 1) sets) ≡ all
-bits_pushed nodes sets i node facts bit before after all l k is there b a e =
-    ap (λ xs. xs ++ bits_of (drop (i + 1) (nodes_of nodes)) (drop (i + 1) sets)) (a ∙ ap (λ x. before ++ x ∷ []) b)
-    ∙ bits_step (nodes_of nodes) sets i (node_of node) facts before all (subst (λ n. i < n) (sym (length-map nodes node_of)) l) k (sym (mapped_there node_of nodes i node (node_of node) l is)) there e
-
-module _ (parts : RegionParts) (facts : Facts) (code : IsRlang (rlang_of parts)) (shaped : Shaped (rlang_of parts) (temporaries_of (rlang_of parts)) (family_of facts)) where
-  abbrev r : Rlang
-  r = rlang_of parts
-
-  abbrev t : ℕ → ℕ
-  t = temporaries_of (rlang_of parts)
-
-  -- a function of the code with its sets
-  module _ (g : ℕ) (routine : CodeRoutine) (sets : Vec _ Alloc) (there : g < length parts.functions.items) (is : routine ≡ get_or parts.functions.items g routine) (are : sets ≡ get_or facts.points.items g sets) where
-    abbrev f : Routine
-    f = routine_in (map struct_of parts.structs.items) routine
-
-    pub function_there : slice_get r.functions g ≡ Some f
-    function_there = found_there (routine_in (map struct_of parts.structs.items)) parts.functions.items g routine there is
-
-    points_there : g < length facts.points.items
-    points_there = subst (λ n. g < n) (sym (sym (length-map facts.points.items (λ s. s.items)) ∙ shaped.points ∙ length-map parts.functions.items (routine_in (map struct_of parts.structs.items)))) there
-
-    pub sets_there : get_or (family_of facts).points g [] ≡ sets.items
-    sets_there = mapped_there (λ s. s.items) facts.points.items g sets [] points_there are
-
-    pub as_many_sets : length sets.items ≡ length (routine_nodes f)
-    as_many_sets = ap length (sym sets_there) ∙ (shaped.each g f function_there).points
-
-    pub sets_asked : (p : ℕ) (node : Node) → slice_get (routine_nodes f) p ≡ Some node → AsksOver (get_or sets.items p no_set).variables node
-    sets_asked p node at =
-        let have : HaveVariables (kept f (t g)) sets.items = subst (HaveVariables (kept f (t g))) sets_there (shaped.each g f function_there).before in
-        let l : p < length sets.items = subst (λ n. p < n) (sym as_many_sets) (slice_get_within (routine_nodes f) p node at) in
-        subst (λ n. AsksOver n node) (sym (All-get_or (λ (s : Known). s.variables ≡ kept f (t g)) sets.items p no_set l have)) (node_over f (t g) p node (functions_own r code g f function_there).own at)
-
-    is_marked : (bits : List Bool) → bits ≡ bits_of (routine_nodes f) sets.items → IsMarked parts facts g bits
-    is_marked bits e = λ other other_there. (
-        let same : Some f ≡ Some other = sym function_there ∙ other_there in
-        let is_it : f ≡ other = cc in
-        e ∙ ap (bits_of (routine_nodes f)) (sym sets_there) ∙ ap (λ (h : Routine). bits_of (routine_nodes h) (get_or (family_of facts).points g [])) is_it)
-
-    pub marked_if : {E : Type 0} (result : Result (Vec Bool Alloc) E) (nodes : List Node) (given : List Known) → nodes ≡ routine_nodes f → given ≡ sets.items → IfOk result (λ bits. bits.items ≡ bits_of nodes given) → IfOk result (λ bits. IsMarked parts facts g bits.items)
-    marked_if (Ok bits) nodes given e d is = is_marked bits.items (is ∙ ap (λ ns. bits_of ns given) e ∙ ap (bits_of (routine_nodes f)) d)
-    marked_if (Err fault) nodes given e d is = tt
-
 -- ---- all of them
 
-pub marked_each : (parts : RegionParts) (facts : Facts) (n : ℕ) (rows : List (List Bool)) → n ≡ length parts.functions.items → AreMarked parts facts n rows → (g : ℕ) (f : Routine) → slice_get (rlang_of parts).functions g ≡ Some f → get_or rows g [] ≡ bits_of (routine_nodes f) (get_or (family_of facts).points g [])
-marked_each parts facts n rows e m g f is = m.each g (subst (λ k. g < k) (length-map parts.functions.items (routine_in (map struct_of parts.structs.items)) ∙ sym e) (slice_get_within (rlang_of parts).functions g f is)) f is
+pub marked_each : (parts : RegionParts) (family : Family) (n : ℕ) (rows : List (List Bool)) → n ≡ length parts.functions.items → AreMarked parts family n rows → (g : ℕ) (f : Routine) → slice_get (rlang_of parts).functions g ≡ Some f → get_or rows g [] ≡ bits_of (routine_nodes f) (get_or family.points g [])
+marked_each parts family n rows e m g f is = m.each g (subst (λ k. g < k) (length-map parts.functions.items (routine_in (map struct_of parts.structs.items)) ∙ sym e) (slice_get_within (rlang_of parts).functions g f is)) f is
 
-pub has_points : (parts : RegionParts) (facts : Facts) (n : ℕ) (rows : List (List Bool)) → n ≡ length parts.functions.items → Inferred parts facts → AreMarked parts facts n rows → HasPoints (rlang_of parts) rows
+pub has_points : (parts : RegionParts) (facts : Facts) (n : ℕ) (rows : List (List Bool)) → n ≡ length parts.functions.items → (inferred : Inferred parts facts) → AreMarked parts inferred.family n rows → HasPoints (rlang_of parts) rows
 has_points parts facts n rows e inferred m = record {
   functions = m.functions ∙ e ∙ sym (length-map parts.functions.items (routine_in (map struct_of parts.structs.items)));
-  points = λ g f is. ap length (marked_each parts facts n rows e m g f is) ∙ bits_length (routine_nodes f) (get_or (family_of facts).points g []) (inferred.shaped.each g f is).points;
+  points = λ g f is. ap length (marked_each parts inferred.family n rows e m g f is) ∙ bits_length (routine_nodes f) (get_or inferred.family.points g []) (inferred.shaped.each g f is).points;
 }
 
-pub marks_removable : (parts : RegionParts) (facts : Facts) (n : ℕ) (rows : List (List Bool)) → n ≡ length parts.functions.items → Inferred parts facts → AreMarked parts facts n rows → MarksRemovable (rlang_of parts) (marks_in rows)
+pub marks_removable : (parts : RegionParts) (facts : Facts) (n : ℕ) (rows : List (List Bool)) → n ≡ length parts.functions.items → (inferred : Inferred parts facts) → AreMarked parts inferred.family n rows → MarksRemovable (rlang_of parts) (marks_in rows)
 marks_removable parts facts n rows e inferred m = λ g p.
-    let a = annotation_in (family_of facts) in
-    let proven = marks_proven (rlang_of parts) a rows (family_of facts).points (λ h q fact. refl) (m.functions ∙ e ∙ sym (length-map parts.functions.items (routine_in (map struct_of parts.structs.items)))) (λ h f is. (inferred.shaped.each h f is).points) (marked_each parts facts n rows e m) g p in
+    let a = annotation_in inferred.family in
+    let proven = marks_proven (rlang_of parts) a rows inferred.family.points (λ h q fact. refl) (m.functions ∙ e ∙ sym (length-map parts.functions.items (routine_in (map struct_of parts.structs.items)))) (λ h f is. (inferred.shaped.each h f is).points) (marked_each parts inferred.family n rows e m) g p in
     let may_go = greatest_removes (rlang_of parts) (temporaries_of (rlang_of parts)) a inferred.greatest g p in
     (λ is. may_go.1 (proven.0 is), λ is. proven.1 (may_go.0 is))

@@ -1,3 +1,4 @@
 pub mod Masks
 pub mod Asking
+pub mod Walking
 pub mod Marking

@@ -58,7 +58,7 @@ pub(crate) fn asks(nodes: &[Node], point: usize) -> bool
 }
 
 /// Whether a set has the fact that a node asks.
-fn is_proven(node: &Node, facts: &FactSet) -> bool
+pub(crate) fn is_proven(node: &Node, facts: &FactSet) -> bool
     requires { AsksOver facts.now.variables (node_of node.now) }
     ensures { result ≡ is_proven (node_of node.now) (holds facts.now) }
 {
@@ -66,21 +66,4 @@ fn is_proven(node: &Node, facts: &FactSet) -> bool
         None => false,
         Some(fact) => facts.has(fact),
     }
-}
-
-/// For each node whether the set before it has the fact that it asks.
-///
-/// # Errors
-///
-/// Out of memory.
-pub(crate) fn proven(alloc: Global, nodes: &[Node], sets: &[FactSet]) -> Result<Vec<bool>, NoMemory>
-    requires sets { length sets.now ≡ length nodes.now }
-    requires over { (p : ℕ) (node : RegionNode) → slice_get (nodes_of nodes.now) p ≡ Some node → AsksOver (get_or sets.now p no_set).variables node }
-    ensures { IfOk result (λ bits. bits.items ≡ bits_of (nodes_of nodes.now) sets.now) }
-{
-    let mut bits = Vec::new(alloc);
-    for i in 0..nodes.len() {
-        bits.push(is_proven(&nodes[i], &sets[i]))?;
-    }
-    Ok(bits)
 }

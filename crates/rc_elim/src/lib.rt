@@ -4,6 +4,7 @@
 mod asking;
 mod mask;
 mod removal;
+mod walking;
 
 pub use mask::Mask;
 pub use removal::removable;

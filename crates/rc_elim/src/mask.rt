@@ -70,8 +70,8 @@ fn has_check(alloc: Global, code: &Rlang, function: u32, point: u32) -> Result<b
     let Some(routine) = parts.functions.get(function as usize) else {
         return Ok(false);
     };
-    let layouts = Layouts::new(alloc, parts.structs.as_slice())?;
-    let graph = graph_of(alloc, &layouts, routine)?;
+    let layouts = code.layouts();
+    let graph = graph_of(alloc, layouts, routine)?;
     Ok(asks(graph.nodes.as_slice(), point as usize))
 }
 
@@ -94,8 +94,8 @@ impl Mask {
         ensures marks { IfOk result (λ mask. (g p : ℕ) → marks_in mask g p ≡ false) }
     {
         let parts = code.parts();
-        let layouts = Layouts::new(alloc, parts.structs.as_slice())?;
-        let rows = no_marks(alloc, &layouts, parts)?;
+        let layouts = code.layouts();
+        let rows = no_marks(alloc, layouts, parts)?;
         Ok(Mask { rows })
     }
 

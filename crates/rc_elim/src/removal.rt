@@ -1,61 +1,48 @@
 // The checks that facts prove needless.
-ghost use Rattle.std.specs.Prelude.{◌≡◌, ◌<◌, IfOk, OnOk, ◌+◌, length, map};
-ghost use Rattle.rc_core.specs.Laid.{AreLaidOut};
-ghost use Rattle.rc_core.specs.Shapes.{struct_of};
+ghost use Rattle.std.specs.Prelude.{◌≡◌, ◌<◌, IfOk, length};
 ghost use Rattle.rc_rlang.specs.IsRlang.{IsRlang};
 ghost use Rattle.rc_rlang.specs.Shapes.{rlang_of};
-ghost use Rattle.rc_annotations.specs.Heights.{temporaries_of};
-ghost use Rattle.rc_edges.specs.Inferred.{Inferred, Shaped, family_of};
+ghost use Rattle.rc_edges.specs.Heads.{Inferred};
 ghost use Rattle.rc_elim.specs.Marking.{AreMarked, IsMarked};
 ghost use Rattle.rc_elim.specs.Masks.{HasPoints, MarksRemovable, marks_in, rows_of};
 
-use crate::asking::proven;
 use crate::mask::Mask;
+use crate::walking::{Way, proven};
 use rc_base::NoMemory;
-use rc_core::Layouts;
 use rc_edges::Facts;
-use rc_graph::graph_of;
 use rc_rlang::code::RegionParts;
 use rc_rlang::rlang::Rlang;
 use std::alloc::Global;
 
-/// The marks of the function of this number, by the facts before its points.
+/// The marks of the function of this number, by what is known before its points.
 fn function_marks(
     alloc: Global,
-    layouts: &Layouts,
-    parts: &RegionParts,
+    _parts: &RegionParts,
     facts: &Facts,
     function: usize,
 ) -> Result<Vec<bool>, NoMemory>
-    requires laid { AreLaidOut (map struct_of parts.now.structs.items) layouts.now }
-    requires code { IsRlang (rlang_of parts.now) }
-    requires shaped { Shaped (rlang_of parts.now) (temporaries_of (rlang_of parts.now)) (family_of facts.now) }
-    requires there { function < length parts.now.functions.items }
-    ensures { IfOk result (λ bits. IsMarked parts.now facts.now function bits.items) }
+    requires code { IsRlang (rlang_of _parts.now) }
+    requires inferred { Inferred _parts.now facts.now }
+    requires there { function < length _parts.now.functions.items }
+    ensures { (inferred : Inferred _parts.now facts.now) → IfOk result (λ bits. IsMarked _parts.now inferred.family function bits.items) }
 {
-    let graph = graph_of(alloc, layouts, &parts.functions[function])?;
-    proven(
+    let way = Way {
         alloc,
-        graph.nodes.as_slice(),
-        facts.points[function].as_slice(),
-    )
+        graph: &facts.graphs[function],
+        exits: facts.exits.as_slice(),
+    };
+    proven(&way, facts.points[function].as_slice())
 }
 
 /// The marks of all functions.
-fn all_marks(
-    alloc: Global,
-    layouts: &Layouts,
-    parts: &RegionParts,
-    facts: &Facts,
-) -> Result<Vec<Vec<bool>>, NoMemory>
-    requires laid { AreLaidOut (map struct_of parts.now.structs.items) layouts.now }
+fn all_marks(alloc: Global, parts: &RegionParts, facts: &Facts) -> Result<Vec<Vec<bool>>, NoMemory>
     requires code { IsRlang (rlang_of parts.now) }
-    requires shaped { Shaped (rlang_of parts.now) (temporaries_of (rlang_of parts.now)) (family_of facts.now) }
-    ensures { IfOk result (λ rows. AreMarked parts.now facts.now (length parts.now.functions.items) (rows_of rows.items)) }
+    requires inferred { Inferred parts.now facts.now }
+    ensures { (inferred : Inferred parts.now facts.now) → IfOk result (λ rows. AreMarked parts.now inferred.family (length parts.now.functions.items) (rows_of rows.items)) }
 {
     let mut rows = Vec::new(alloc);
     for function in 0..parts.functions.len() {
-        let row = function_marks(alloc, layouts, parts, facts, function)?;
+        let row = function_marks(alloc, parts, facts, function)?;
         rows.push(row)?;
     }
     Ok(rows)
@@ -72,8 +59,6 @@ pub fn removable(alloc: Global, code: &Rlang, facts: &Facts) -> Result<Mask, NoM
     ensures points { IfOk result (HasPoints (rlang_of code.now)) }
     ensures marks { IfOk result (λ mask. MarksRemovable (rlang_of code.now) (marks_in mask)) }
 {
-    let parts = code.parts();
-    let layouts = Layouts::new(alloc, parts.structs.as_slice())?;
-    let rows = all_marks(alloc, &layouts, parts, facts)?;
+    let rows = all_marks(alloc, code.parts(), facts)?;
     Ok(Mask { rows })
 }

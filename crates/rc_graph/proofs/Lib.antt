@@ -1,2 +1,3 @@
+mod Headings
 mod Numbering
 mod Walking

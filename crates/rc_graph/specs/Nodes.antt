@@ -1,10 +1,10 @@
 -- What the nodes in code stand for in definitions, how the region variables of a function are numbered in code, and over what its nodes
 -- are made.
-use Rattle.std.specs.Prelude.{◌≡◌, ℕ, zero, suc, ◌+◌, List, [], ◌∷◌, map, count_by}
+use Rattle.std.specs.Prelude.{◌≡◌, ℕ, zero, suc, ◌+◌, List, [], ◌∷◌, map, count_by, length, slice_get, Some}
 use Rattle.rc_core.specs.Types.{Ty}
 use Rattle.rc_core.specs.Programs.{Struct}
 use Rattle.rc_core.specs.Laid.{AreLaidOut}
-use Rattle.rc_rlang.specs.RegionCode.{Routine}
+use Rattle.rc_rlang.specs.RegionCode.{Rlang, Routine}
 use Rattle.rc_rlang.specs.RegionFlow.{Node, Effect, Ends, nothing, nulled, moved, fixed, beside, made, under, loaded, looked_at, stored, present, absent, called, entered, going, forking, returning, one_of, is_regional, copies, result_variable, routine_nodes}
 use Rattle.rc_graph.specs.declared.node.Entry.{Entry}
 use Rattle.rc_graph.specs.declared.node.Effect.{Effect as CodeEffect}
@@ -13,6 +13,7 @@ use Rattle.rc_graph.specs.declared.node.Node.{Node as CodeNode}
 use Rattle.rc_graph.specs.declared.node.Node.TheVariants.{Go, Fork, Return}
 use Rattle.rc_rlang.specs.RegionVariables.{routine_temporaries}
 use Rattle.rc_graph.specs.declared.graph.Graph.{Graph}
+use Rattle.rc_graph.specs.Heads.{AreHeads}
 use Rattle.rc_graph.specs.declared.names.Names.{Names}
 use Rattle.rc_graph.specs.declared.output.Context.{Context}
 use Rattle.rc_graph.specs.declared.output.Ways.{Ways}
@@ -74,3 +75,9 @@ pub record IsGraph (f : Routine) (g : Graph) : Type 0 where
   pub nodes : nodes_of g.nodes.items ≡ routine_nodes f
   pub hidden : g.copies ≡ copies f
   pub result : g.result ≡ result_variable f (routine_temporaries f)
+  pub heads : AreHeads (nodes_of g.nodes.items) g.heads.items
+
+-- the graphs of the functions before k
+pub record AreGraphs (r : Rlang) (k : ℕ) (graphs : List Graph) : Type 0 where
+  pub long : length graphs ≡ k
+  pub each : (g : ℕ) (f : Routine) (graph : Graph) → slice_get r.functions g ≡ Some f → slice_get graphs g ≡ Some graph → IsGraph f graph

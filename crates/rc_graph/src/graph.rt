@@ -11,6 +11,7 @@ ghost use Rattle.rc_graph.specs.Nodes.{Numbers, Serves, IsGraph, effect_of, entr
 ghost use Rattle.rc_plans.specs.Plans.{routine_plan};
 
 use crate::acts::given;
+use crate::heads::heads_of;
 use crate::names::{Names, is_regional, number};
 use crate::node::{Effect, Entry, Node};
 use crate::output::{Context, Ways, go, known, leave};
@@ -31,6 +32,8 @@ pub struct Graph {
     pub copies: u32,
     /// The variable of the result.
     pub result: u32,
+    /// Of each point whether it is a head, where ways may meet, and one place behind the last.
+    pub heads: Vec<bool>,
 }
 
 /// The parameters that are regions or pointers, with their hidden copies.
@@ -133,9 +136,11 @@ pub fn graph_of(alloc: Global, layouts: &Layouts, routine: &Routine) -> Result<G
     };
     let mut all = Vec::new(alloc);
     nodes(&context, routine, &mut all)?;
+    let heads = heads_of(alloc, all.as_slice())?;
     Ok(Graph {
         nodes: all,
         copies: names.copies,
         result,
+        heads,
     })
 }

@@ -4,6 +4,7 @@
 
 mod acts;
 mod graph;
+mod heads;
 mod names;
 mod node;
 mod operations;

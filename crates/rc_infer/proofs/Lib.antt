@@ -1,4 +1,7 @@
-pub mod Carrying
 pub mod Places
+pub mod GraphLists
+pub mod Lists
+pub mod Covers
+pub mod Walks
 pub mod Starts
-pub mod Visits
+pub mod Ending

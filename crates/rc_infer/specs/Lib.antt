@@ -1,4 +1,4 @@
-pub mod Visiting
+pub mod Covering
+pub mod Steps
+pub mod Walking
 pub mod Starting
-pub mod Sweeping
-pub mod Turning

@@ -1,5 +1,9 @@
-//! The greatest consistent facts of region code: at its points, at the entries and at the exits of its
+//! The greatest consistent facts of region code: at the heads, at the entries and at the exits of its
 //! functions.
+//!
+//! Walks go from head to head: a working set is the head's, and goes over the points behind it in place. A
+//! round of walks over all functions, in which no set loses a fact, shows that the facts are consistent.
+//! Before it, heads have their turns while they wait for one.
 #![tactic(auto)]
 
 mod graphs;
@@ -7,7 +11,7 @@ mod rounds;
 mod start;
 mod steps;
 mod turns;
-mod visit;
 mod waiting;
+mod walk;
 
 pub use rounds::infer;

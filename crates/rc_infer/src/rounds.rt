@@ -1,40 +1,51 @@
-// Rounds over functions, until no entry or exit loses a fact.
-ghost use Rattle.std.specs.Prelude.{◌≡◌, ℕ, IfOk, OnOk, length};
-ghost use Rattle.rc_core.specs.Laid.{AreLaidOut};
+// Rounds over functions, until no set loses a fact.
+ghost use Rattle.std.specs.Prelude.{length, IfOk, OnOk};
 ghost use Rattle.rc_rlang.specs.Shapes.{rlang_of};
-ghost use Rattle.rc_edges.specs.Inferred.{Inferred, family_of};
-ghost use Rattle.rc_edges.specs.Searching.{Gone, Searching};
+ghost use Rattle.rc_edges.specs.Heads.{Inferred};
+ghost use Rattle.rc_edges.specs.Inferred.{family_of};
+ghost use Rattle.rc_infer.specs.Covering.{Turning};
+ghost use Rattle.rc_infer.specs.Walking.{Found, Rounded};
 
 use crate::graphs::graphs;
 use crate::start::full;
-use crate::turns::{Field, sweep};
-use crate::visit::visit;
+use crate::steps::Place;
+use crate::turns::sweep;
+use crate::walk::{Field, walk};
 use rc_base::NoMemory;
-use rc_core::Layouts;
 use rc_edges::Facts;
 use rc_rlang::rlang::Rlang;
 use std::alloc::Global;
 
-/// Goes through all functions, and says whether an entry or an exit lost a fact.
-fn round(
-    alloc: Global,
-    layouts: &Layouts,
-    code: &Rlang,
-    facts: &mut Facts,
-) -> Result<bool, NoMemory>
-    requires laid { AreLaidOut (rlang_of code.now).structs layouts.now }
-    requires searching { Searching (rlang_of code.now) (family_of facts.old) }
-    ensures { IfOk result (Gone (rlang_of code.now) (length code.now.functions.items) (family_of facts.old) (family_of facts.new)) }
+/// Goes through all functions, and says whether a set lost a fact.
+fn round(field: &Field<'_>, facts: &mut Facts) -> Result<bool, NoMemory>
+    requires { Turning (rlang_of field.now.code.now) field.now.graphs.now (family_of facts.old) }
+    ensures { IfOk result (Rounded (rlang_of field.now.code.now) field.now.graphs.now (length field.now.graphs.now) (family_of facts.old) (family_of facts.new)) }
 {
     let mut lost = false;
-    for function in 0..code.parts().functions.len() {
-        let more = visit(alloc, layouts, code, facts, function)?;
-        lost = lost || more;
+    for function in 0..field.graphs.len() {
+        let graph = &field.graphs[function];
+        let end = u32::try_from(graph.nodes.len()).map_err(|_| NoMemory)?;
+        let losses = walk(field, graph, facts, Place { function, point: 0 }, end)?;
+        lost = lost | losses.lost;
     }
     Ok(lost)
 }
 
-/// The greatest consistent facts of region code. Points have their turns until none waits for one; a
+/// Goes through heads and functions until no set loses a fact.
+fn search(field: &Field<'_>, facts: &mut Facts) -> Result<(), NoMemory>
+    requires { Turning (rlang_of field.now.code.now) field.now.graphs.now (family_of facts.old) }
+    ensures { OnOk result (Found (rlang_of field.now.code.now) field.now.graphs.now (family_of facts.new)) }
+{
+    'rounds: loop {
+        sweep(field, facts)?;
+        let lost = round(field, facts)?;
+        if !lost {
+            return Ok(());
+        }
+    }
+}
+
+/// The greatest consistent facts of region code. Heads have their turns until none waits for one; a
 /// round through all functions that loses nothing shows that the facts are consistent.
 ///
 /// # Errors
@@ -43,19 +54,14 @@ fn round(
 pub fn infer(alloc: Global, code: &Rlang) -> Result<Facts, NoMemory>
     ensures { IfOk result (Inferred code.now) }
 {
-    let layouts = Layouts::new(alloc, code.parts().structs.as_slice())?;
-    let mut facts = full(alloc, &layouts, code)?;
-    let graphs = graphs(alloc, &layouts, code)?;
+    let graphs = graphs(alloc, code)?;
+    let mut facts = full(alloc, code, graphs.as_slice())?;
     let field = Field {
         alloc,
         code,
         graphs: graphs.as_slice(),
     };
-    'rounds: loop {
-        sweep(&field, &mut facts)?;
-        let lost = round(alloc, &layouts, code, &mut facts)?;
-        if !lost {
-            return Ok(facts);
-        }
-    }
+    search(&field, &mut facts)?;
+    facts.graphs = graphs;
+    Ok(facts)
 }

@@ -1,146 +1,135 @@
-// The steps through a function, of the facts of all functions.
-ghost use Rattle.std.specs.Prelude.{◌≡◌, ◌<◌, OnOk, IfOk, Some, length, slice_get};
-ghost use Rattle.rc_rlang.specs.RegionFlow.{Node};
-ghost use Rattle.rc_graph.specs.Nodes.{nodes_of};
+// The steps of a walk at one point of a function, of the facts of all functions.
+ghost use Rattle.std.specs.Prelude.{◌≡◌, ◌<◌, ◌≤◌, suc, true, false, [], IfOk, OnOk, length, get_or};
+ghost use Rattle.rc_facts.specs.Facts.{holds};
+ghost use Rattle.rc_flow.specs.Flow.{IsClosed, no_set};
+ghost use Rattle.rc_graph.specs.Nodes.{node_of};
+ghost use Rattle.rc_edges.specs.Boundaries.{NodeReady, ReturnReady};
 ghost use Rattle.rc_edges.specs.Inferred.{family_of};
-ghost use Rattle.rc_infer.specs.Turning.{CalledFrom, LeftFrom, LoweredAt, known_at};
-ghost use Rattle.rc_infer.specs.Visiting.{CalledAt, LeftAt, PassedAt, Ready};
+ghost use Rattle.rc_passing.specs.Leading.{GoesOnAlone, LeadsOn, MayLead, NodeLeads};
+ghost use Rattle.rc_infer.specs.Covering.{Ready, known_at};
+ghost use Rattle.rc_infer.specs.Steps.{CalledFrom, CameIn, LeftFrom, RowLost};
 
-use crate::waiting::Place;
 use rc_base::NoMemory;
-use rc_boundaries::{Exit, call, call_at, leave, leave_at};
+use rc_boundaries::{Exit, begin, call_at, leave_at};
 use rc_edges::Facts;
-use rc_graph::Graph;
-use rc_passing::{come_in, cross, pass};
+use rc_facts::FactSet;
+use rc_graph::{Effect, Graph, Node};
+use rc_passing::{Loss, Setting, lead, note};
 use std::alloc::Global;
 
-/// Lets facts pass through a function.
-pub(crate) fn pass_through(
+/// A point of a function.
+#[derive(Clone, Copy)]
+pub(crate) struct Place {
+    pub(crate) function: usize,
+    pub(crate) point: u32,
+}
+
+/// The function that a node calls, if it does.
+pub(crate) fn callee(node: &Node) -> Option<usize> {
+    match node {
+        Node::Go { effect, .. } => match effect {
+            Effect::Called { function, .. } => Some(*function as usize),
+            _ => None,
+        },
+        _ => None,
+    }
+}
+
+/// Takes from the first set of a function what doesn't follow from its entry.
+pub(crate) fn come_in(
     alloc: Global,
     graph: &Graph,
     facts: &mut Facts,
     function: usize,
-) -> Result<(), NoMemory>
+) -> Result<bool, NoMemory>
     requires { Ready graph.now function (family_of facts.old) }
-    ensures { OnOk result (PassedAt graph.now function (family_of facts.old) (family_of facts.new)) }
+    ensures { IfOk result (λ lost. CameIn graph.now function (family_of facts.old) (family_of facts.new) lost) }
 {
     let sets = facts.points[function].as_mut_slice();
     let entry = &facts.entries[function];
-    pass(alloc, graph, sets, entry, facts.exits.as_slice())
+    begin(alloc, sets, entry, graph.copies, graph.result)
 }
 
-/// Takes from the entries of functions what the calls of one don't give.
-pub(crate) fn call_others(
-    alloc: Global,
-    graph: &Graph,
-    facts: &mut Facts,
-    function: usize,
-) -> Result<bool, NoMemory>
-    requires { Ready graph.now function (family_of facts.old) }
-    ensures { IfOk result (CalledAt graph.now function (family_of facts.old) (family_of facts.new)) }
-{
-    let points = facts.points[function].as_slice();
-    call(
-        alloc,
-        graph.nodes.as_slice(),
-        points,
-        facts.entries.as_mut_slice(),
-    )
-}
-
-/// Takes from the exit of a function what its returns don't give.
-pub(crate) fn leave_it(
-    alloc: Global,
-    graph: &Graph,
-    facts: &mut Facts,
-    function: usize,
-) -> Result<bool, NoMemory>
-    requires { Ready graph.now function (family_of facts.old) }
-    ensures { IfOk result (LeftAt graph.now function (family_of facts.old) (family_of facts.new)) }
-{
-    let points = facts.points[function].as_slice();
-    let exit = Exit {
-        function,
-        copies: graph.copies,
-        result: graph.result,
-    };
-    leave(
-        alloc,
-        graph.nodes.as_slice(),
-        points,
-        exit,
-        facts.exits.as_mut_slice(),
-    )
-}
-
-/// At the first point of a function, lets facts come in from its entry.
-pub(crate) fn come_into(
-    alloc: Global,
-    graph: &Graph,
-    facts: &mut Facts,
-    place: Place,
-) -> Result<(), NoMemory>
-    requires { Ready graph.now place.function (family_of facts.old) }
-    ensures { OnOk result (LoweredAt graph.now place.function (family_of facts.old) (family_of facts.new)) }
-{
-    if place.point != 0 {
-        return Ok(());
-    }
-    let sets = facts.points[place.function].as_mut_slice();
-    let entry = &facts.entries[place.function];
-    come_in(alloc, graph, sets, entry)
-}
-
-/// Lets facts cross the edges of a point, and says whether one was dropped.
-pub(crate) fn cross_from(
-    alloc: Global,
-    graph: &Graph,
-    facts: &mut Facts,
-    place: Place,
-) -> Result<bool, NoMemory>
-    requires ready { Ready graph.now place.function (family_of facts.old) }
+/// At a head the working set becomes the head's.
+pub(crate) fn restart(graph: &Graph, facts: &Facts, place: Place, work: &mut FactSet)
+    requires ready { Ready graph.now place.function (family_of facts.now) }
     requires there { place.point < length graph.now.nodes.items }
-    ensures { IfOk result (λ dropped. LoweredAt graph.now place.function (family_of facts.old) (family_of facts.new)) }
+    requires work { work.old.variables ≡ suc graph.now.result }
+    ensures wide { work.new.variables ≡ work.old.variables }
+    ensures head { get_or graph.now.heads.items place.point true ≡ true → work.new ≡ known_at (family_of facts.now) place.function place.point }
+    ensures inner { get_or graph.now.heads.items place.point true ≡ false → work.new ≡ work.old }
 {
-    let sets = facts.points[place.function].as_mut_slice();
-    cross(alloc, graph, sets, facts.exits.as_slice(), place.point)
+    if !graph.heads[place.point as usize] {
+        return;
+    }
+    let sets = facts.points[place.function].as_slice();
+    work.copy(&sets[place.point as usize]);
 }
 
-/// Takes from the entries of functions what the calls at a point don't give.
+/// Takes from the entry of the function that a node calls what the call doesn't give.
 pub(crate) fn call_from(
     alloc: Global,
-    graph: &Graph,
+    node: &Node,
     facts: &mut Facts,
-    place: Place,
+    work: &FactSet,
+    losses: &mut Vec<Loss>,
 ) -> Result<bool, NoMemory>
-    requires ready { Ready graph.now place.function (family_of facts.old) }
-    requires there { place.point < length graph.now.nodes.items }
-    ensures { (node : Node) → slice_get (nodes_of graph.now.nodes.items) place.point ≡ Some node → IfOk result (CalledFrom node (known_at (family_of facts.old) place.function place.point) (family_of facts.old) (family_of facts.new)) }
+    requires { NodeReady (node_of node.now) work.now.variables (family_of facts.old).entries }
+    ensures { IfOk result (λ lost. CalledFrom (node_of node.now) work.now (family_of facts.old) (family_of facts.new) lost) }
 {
-    let node = &graph.nodes[place.point as usize];
-    let sets = facts.points[place.function].as_slice();
-    let known = &sets[place.point as usize];
-    call_at(alloc, node, known, facts.entries.as_mut_slice())
+    let lost = call_at(alloc, node, work, facts.entries.as_mut_slice())?;
+    if let Some(function) = callee(node) {
+        note(losses, lost, Loss::Entry(function))?;
+    }
+    Ok(lost)
 }
 
-/// Takes from the exit of a function what its return at a point doesn't give.
+/// Takes from the exit of a function what its return at a node doesn't give.
 pub(crate) fn leave_from(
     alloc: Global,
-    graph: &Graph,
+    node: &Node,
+    exit: Exit,
     facts: &mut Facts,
-    place: Place,
+    work: &FactSet,
+    losses: &mut Vec<Loss>,
 ) -> Result<bool, NoMemory>
-    requires ready { Ready graph.now place.function (family_of facts.old) }
-    requires there { place.point < length graph.now.nodes.items }
-    ensures { (node : Node) → slice_get (nodes_of graph.now.nodes.items) place.point ≡ Some node → IfOk result (LeftFrom node (known_at (family_of facts.old) place.function place.point) graph.now place.function (family_of facts.old) (family_of facts.new)) }
+    requires known { work.now.variables ≡ suc exit.result }
+    requires ready { ReturnReady (node_of node.now) exit.result }
+    requires few { exit.result < 128 }
+    requires hidden { exit.copies ≤ exit.result }
+    requires there { exit.function < length (family_of facts.old).exits }
+    requires places { (get_or (family_of facts.old).exits exit.function no_set).variables ≡ suc exit.copies }
+    ensures { IfOk result (λ lost. LeftFrom (node_of node.now) work.now exit.copies exit.result exit.function (family_of facts.old) (family_of facts.new) lost) }
 {
-    let node = &graph.nodes[place.point as usize];
-    let sets = facts.points[place.function].as_slice();
-    let known = &sets[place.point as usize];
-    let exit = Exit {
-        function: place.function,
-        copies: graph.copies,
-        result: graph.result,
+    let lost = leave_at(alloc, node, work, exit, facts.exits.as_mut_slice())?;
+    note(losses, lost, Loss::Exit)?;
+    Ok(lost)
+}
+
+/// Leads the working set over the edges of a node.
+pub(crate) fn lead_from(
+    alloc: Global,
+    graph: &Graph,
+    node: &Node,
+    function: usize,
+    facts: &mut Facts,
+    work: &mut FactSet,
+    losses: &mut Vec<Loss>,
+) -> Result<bool, NoMemory>
+    requires ready { Ready graph.now function (family_of facts.old) }
+    requires work { work.old.variables ≡ suc graph.now.result }
+    requires closed { IsClosed (suc graph.now.result) graph.now.result (holds work.old) }
+    requires may { MayLead graph.now.heads.items (family_of facts.old).exits graph.now.result (node_of node.now) (get_or (family_of facts.old).points function []) }
+    requires alone { GoesOnAlone graph.now.heads.items (node_of node.now) }
+    ensures work { work.new.variables ≡ work.old.variables }
+    ensures led { OnOk result (LeadsOn graph.now.heads.items (family_of facts.old).exits graph.now.result (node_of node.now) work.old work.new) }
+    ensures lost { IfOk result (λ lost. RowLost function (family_of facts.old) (family_of facts.new) lost (NodeLeads graph.now.heads.items (family_of facts.old).exits graph.now.result (node_of node.now) work.old)) }
+{
+    let setting = Setting {
+        alloc,
+        graph,
+        exits: facts.exits.as_slice(),
     };
-    leave_at(alloc, node, known, exit, facts.exits.as_mut_slice())
+    let sets = facts.points[function].as_mut_slice();
+    lead(&setting, sets, work, node, losses)
 }

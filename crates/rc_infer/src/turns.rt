@@ -1,55 +1,58 @@
-// Turns of the search: at one point after another, and at once into the functions that are called.
-ghost use Rattle.std.specs.Prelude.{◌≡◌, ◌<◌, ℕ, OnOk, IfOk, Some, length, slice_get};
-ghost use Rattle.std.specs.List.{All};
+// Turns of the search: from one head after another, and at once into the functions that are called.
+ghost use Rattle.std.specs.Prelude.{◌≡◌, ◌<◌, ◌≤◌, true, slice_get, Some, OnOk, length};
 ghost use Rattle.rc_rlang.specs.Shapes.{rlang_of};
-ghost use Rattle.rc_graph.specs.declared.graph.Graph.{Graph as AnyGraph};
 ghost use Rattle.rc_edges.specs.Inferred.{family_of};
-ghost use Rattle.rc_infer.specs.Sweeping.{Swept};
-ghost use Rattle.rc_infer.specs.Turning.{Turning};
+ghost use Rattle.rc_infer.specs.Covering.{Turning};
+ghost use Rattle.rc_infer.specs.Walking.{Swept};
 
-use crate::steps::{call_from, come_into, cross_from, leave_from};
-use crate::waiting::{Losses, Place, Waiting};
+use crate::steps::Place;
+use crate::waiting::Waiting;
+use crate::walk::{Field, Losses, walk};
 use rc_base::NoMemory;
 use rc_edges::Facts;
 use rc_graph::Graph;
-use rc_rlang::rlang::Rlang;
-use std::alloc::Global;
 
-/// The code that is searched, and the graph of each of its functions.
-#[derive(Clone, Copy)]
-pub(crate) struct Field<'a> {
-    pub(crate) alloc: Global,
-    pub(crate) code: &'a Rlang,
-    pub(crate) graphs: &'a [Graph],
+/// The first head behind a point, or the end of the function.
+fn next_head(heads: &[bool], point: u32, end: u32) -> u32
+    requires below { point < end }
+    requires heads { end < length heads.now }
+    ensures over { point < result }
+    ensures within { result ≤ end }
+{
+    for other in point + 1..end {
+        if heads[other as usize] {
+            return other;
+        }
+    }
+    end
 }
 
-/// Carries facts on from a point, and says where some were lost.
-fn turn(
+/// Walks from a head to before the next one, or goes over its point alone.
+fn walk_from(
     field: &Field<'_>,
     graph: &Graph,
     facts: &mut Facts,
     place: Place,
-) -> Result<Losses, NoMemory>
-    requires turning { Turning (rlang_of field.now.code.now) field.now.graphs.now (family_of facts.old) }
+    alone: bool,
+) -> Result<Option<Losses>, NoMemory>
     requires graph { slice_get field.now.graphs.now place.function ≡ Some graph.now }
-    requires there { place.point < length graph.now.nodes.items }
-    ensures { OnOk result (Swept (rlang_of field.now.code.now) (family_of facts.old) (family_of facts.new)) }
+    requires turning { Turning (rlang_of field.now.code.now) field.now.graphs.now (family_of facts.old) }
+    ensures { OnOk result (Swept (rlang_of field.now.code.now) field.now.graphs.now (family_of facts.old) (family_of facts.new)) }
 {
-    come_into(field.alloc, graph, facts, place)?;
-    let behind = cross_from(field.alloc, graph, facts, place)?;
-    let entry = call_from(field.alloc, graph, facts, place)?;
-    let exit = leave_from(field.alloc, graph, facts, place)?;
-    Ok(Losses {
-        behind,
-        entry,
-        exit,
-    })
+    let end = u32::try_from(graph.nodes.len()).map_err(|_| NoMemory)?;
+    if place.point >= end || !graph.heads[place.point as usize] {
+        return Ok(None);
+    }
+    let next = next_head(graph.heads.as_slice(), place.point, end);
+    let to = if alone { place.point + 1 } else { next };
+    let losses = walk(field, graph, facts, place, to)?;
+    Ok(Some(losses))
 }
 
-/// Lets the point that waits first have its turn, where one waits, and says whether one did.
-fn turn_next(field: &Field<'_>, facts: &mut Facts, waiting: &mut Waiting) -> Result<bool, NoMemory>
+/// Lets the head that waits first have its turn, where one waits, and says whether one did.
+fn turn(field: &Field<'_>, facts: &mut Facts, waiting: &mut Waiting) -> Result<bool, NoMemory>
     requires turning { Turning (rlang_of field.now.code.now) field.now.graphs.now (family_of facts.old) }
-    ensures { OnOk result (Swept (rlang_of field.now.code.now) (family_of facts.old) (family_of facts.new)) }
+    ensures { OnOk result (Swept (rlang_of field.now.code.now) field.now.graphs.now (family_of facts.old) (family_of facts.new)) }
 {
     let Some(place) = waiting.next()? else {
         return Ok(false);
@@ -60,22 +63,29 @@ fn turn_next(field: &Field<'_>, facts: &mut Facts, waiting: &mut Waiting) -> Res
     let Some(node) = graph.nodes.get(place.point as usize) else {
         return Ok(false);
     };
-    let losses = turn(field, graph, facts, place)?;
-    waiting.note(place.function, node, losses)?;
+    let first = waiting.is_first(node);
+    let found = walk_from(field, graph, facts, place, first)?;
+    if first {
+        waiting.put_off(place);
+    }
+    if let Some(losses) = found {
+        waiting.note(place.function, losses.sets.as_slice())?;
+    }
+    waiting.go_into(node)?;
     Ok(true)
 }
 
-/// Lets points have their turns until none waits. The points of a function come up one after another,
-/// but those of a function that is called before those behind the call: so what a call gives and learns
+/// Lets heads have their turns until none waits. The heads of a function come up one after another, but
+/// those of a function that is called before what stands behind the call: so what a call gives and learns
 /// is known before facts go on. The order costs or saves time, and decides nothing.
 pub(crate) fn sweep(field: &Field<'_>, facts: &mut Facts) -> Result<(), NoMemory>
     requires turning { Turning (rlang_of field.now.code.now) field.now.graphs.now (family_of facts.old) }
-    ensures { OnOk result (Swept (rlang_of field.now.code.now) (family_of facts.old) (family_of facts.new)) }
+    ensures { OnOk result (Swept (rlang_of field.now.code.now) field.now.graphs.now (family_of facts.old) (family_of facts.new)) }
 {
     let first = field.code.parts().main as usize;
     let mut waiting = Waiting::all(field.alloc, field.graphs, first)?;
     for _turn in 0..u64::MAX {
-        let more = turn_next(field, facts, &mut waiting)?;
+        let more = turn(field, facts, &mut waiting)?;
         if !more {
             return Ok(());
         }

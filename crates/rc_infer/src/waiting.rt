@@ -1,26 +1,20 @@
-// Points that wait for their facts to be carried on, and the order in which they come up.
+// Heads that wait for their facts to be carried on, and the order in which they come up.
 
+use crate::steps::{Place, callee};
 use rc_base::NoMemory;
-use rc_graph::{Effect, Graph, Node};
+use rc_graph::{Graph, Node};
+use rc_passing::Loss;
 use std::alloc::Global;
 
-/// A point of a function.
-#[derive(Clone, Copy)]
-pub(crate) struct Place {
-    pub(crate) function: usize,
-    pub(crate) point: u32,
+/// Whether a point of a function is a head.
+fn is_head(graph: &Graph, point: usize) -> bool {
+    match graph.heads.get(point) {
+        Some(head) => *head,
+        None => false,
+    }
 }
 
-/// Where a fact was lost at a point: behind it, at the entry of a function that it calls, or at the exit
-/// of its own.
-#[derive(Clone, Copy)]
-pub(crate) struct Losses {
-    pub(crate) behind: bool,
-    pub(crate) entry: bool,
-    pub(crate) exit: bool,
-}
-
-/// The points of a function that wait. None waits before `next`.
+/// The heads of a function that wait. None waits before `next`.
 #[derive(Drop)]
 struct Row {
     waits: Vec<bool>,
@@ -28,21 +22,21 @@ struct Row {
 }
 
 impl Row {
-    /// Each of so many points waits.
-    fn whole(alloc: Global, points: usize) -> Result<Row, NoMemory> {
+    /// Each head of a function waits.
+    fn whole(alloc: Global, graph: &Graph) -> Result<Row, NoMemory> {
         let mut waits = Vec::new(alloc);
-        for _point in 0..points {
-            waits.push(true)?;
+        for point in 0..graph.nodes.len() {
+            waits.push(is_head(graph, point))?;
         }
         Ok(Row { waits, next: 0 })
     }
 
-    /// Whether no point waits.
+    /// Whether no head waits.
     fn is_done(&self) -> bool {
         self.waits.len() <= self.next
     }
 
-    /// Lets a point wait.
+    /// Lets a head wait.
     fn mark(&mut self, point: usize) {
         if let Some(waits) = self.waits.get_mut(point) {
             *waits = true;
@@ -52,7 +46,7 @@ impl Row {
         }
     }
 
-    /// The first point that waits, which no longer does then.
+    /// The first head that waits, which no longer does then.
     fn take(&mut self) -> Option<usize> {
         for point in self.next..self.waits.len() {
             if self.waits[point] {
@@ -66,73 +60,71 @@ impl Row {
     }
 }
 
-/// The points that wait, by function; the places from which each function is called; and the functions
-/// whose points come up, the last one first, then those that come up later.
+/// The heads that wait, by function; the heads from which each function is called; which functions came
+/// up; and the functions whose heads come up, the last one first, then those that come up later.
 #[derive(Drop)]
 pub(crate) struct Waiting {
     rows: Vec<Row>,
     callers: Vec<Vec<Place>>,
+    begun: Vec<bool>,
     now: Vec<usize>,
     later: Vec<usize>,
 }
 
-/// The function that a point calls, if it does.
-fn callee(node: &Node) -> Option<usize> {
-    match node {
-        Node::Go { effect, .. } => match effect {
-            Effect::Called { function, .. } => Some(*function as usize),
-            _ => None,
-        },
-        _ => None,
-    }
-}
-
-/// Adds the places of a function from which others are called.
-fn add_calls(function: usize, nodes: &[Node], all: &mut Vec<Vec<Place>>) -> Result<(), NoMemory> {
-    let mut point = 0u32;
-    for node in nodes {
-        if let Some(other) = callee(node) {
+/// Adds the heads of a function from whose walks others are called.
+fn add_calls(function: usize, graph: &Graph, all: &mut Vec<Vec<Place>>) -> Result<(), NoMemory> {
+    let mut head = 0u32;
+    for at in 0..graph.nodes.len() {
+        if is_head(graph, at) {
+            head = u32::try_from(at).map_err(|_| NoMemory)?;
+        }
+        if let Some(other) = callee(&graph.nodes[at]) {
             if let Some(places) = all.get_mut(other) {
-                places.push(Place { function, point })?;
+                places.push(Place {
+                    function,
+                    point: head,
+                })?;
             }
         }
-        point = point.checked_add(1).ok_or(NoMemory)?;
     }
     Ok(())
 }
 
-/// The places from which each function is called.
+/// The heads from whose walks each function is called.
 fn callers(alloc: Global, graphs: &[Graph]) -> Result<Vec<Vec<Place>>, NoMemory> {
     let mut all = Vec::new(alloc);
     for _function in 0..graphs.len() {
         all.push(Vec::new(alloc))?;
     }
     for function in 0..graphs.len() {
-        add_calls(function, graphs[function].nodes.as_slice(), &mut all)?;
+        add_calls(function, &graphs[function], &mut all)?;
     }
     Ok(all)
 }
 
 impl Waiting {
-    /// Each point waits. The points of one function come up first.
+    /// Each head waits. Those of one function come up first.
     pub(crate) fn all(alloc: Global, graphs: &[Graph], first: usize) -> Result<Waiting, NoMemory> {
         let callers = callers(alloc, graphs)?;
         let mut rows = Vec::new(alloc);
+        let mut begun = Vec::new(alloc);
         let mut now = Vec::new(alloc);
         for function in 0..graphs.len() {
-            rows.push(Row::whole(alloc, graphs[function].nodes.len())?)?;
+            rows.push(Row::whole(alloc, &graphs[function])?)?;
+            begun.push(function == first)?;
             now.push(function)?;
         }
         now.push(first)?;
         Ok(Waiting {
             rows,
             callers,
+            begun,
             now,
             later: Vec::new(alloc),
         })
     }
 
-    /// The first waiting point of the function that comes up.
+    /// The first waiting head of the function that comes up.
     fn top(&mut self) -> Result<Option<Place>, NoMemory> {
         for _function in 0..self.now.len() {
             let Some(function) = self.now.pop() else {
@@ -150,7 +142,7 @@ impl Waiting {
         Ok(None)
     }
 
-    /// The point that comes up.
+    /// The head that comes up.
     pub(crate) fn next(&mut self) -> Result<Option<Place>, NoMemory> {
         if let Some(place) = self.top()? {
             return Ok(Some(place));
@@ -159,44 +151,42 @@ impl Waiting {
         self.top()
     }
 
-    /// Lets the points wait to which a node leads.
-    fn lead_on(&mut self, function: usize, node: &Node) {
-        let Some(row) = self.rows.get_mut(function) else {
-            return;
+    /// Whether a node calls a function that has not come up.
+    pub(crate) fn is_first(&self, node: &Node) -> bool {
+        let Some(function) = callee(node) else {
+            return false;
         };
-        match node {
-            Node::Go { to, .. } => row.mark(*to as usize),
-            Node::Fork {
-                to_left,
-                to_right,
-                ..
-            } => {
-                row.mark(*to_left as usize);
-                row.mark(*to_right as usize);
-            }
-            Node::Return { .. } => (),
+        match self.begun.get(function) {
+            Some(begun) => !*begun,
+            None => false,
         }
     }
 
-    /// Lets the function come up next that a node calls, where points of it wait. Its first point does
-    /// where its entry lost a fact.
-    fn go_into(&mut self, node: &Node, lost: bool) -> Result<(), NoMemory> {
+    /// Lets a head wait.
+    pub(crate) fn put_off(&mut self, place: Place) {
+        if let Some(row) = self.rows.get_mut(place.function) {
+            row.mark(place.point as usize);
+        }
+    }
+
+    /// Lets the function come up next that a node calls, where heads of it wait.
+    pub(crate) fn go_into(&mut self, node: &Node) -> Result<(), NoMemory> {
         let Some(function) = callee(node) else {
             return Ok(());
         };
         let Some(row) = self.rows.get_mut(function) else {
             return Ok(());
         };
-        if lost {
-            row.mark(0);
-        }
         if !row.is_done() {
             self.now.push(function)?;
+            if let Some(begun) = self.begun.get_mut(function) {
+                *begun = true;
+            }
         }
         Ok(())
     }
 
-    /// Lets the places wait from which a function is called.
+    /// Lets the heads wait from whose walks a function is called.
     fn come_back(&mut self, function: usize) -> Result<(), NoMemory> {
         let Some(places) = self.callers.get(function) else {
             return Ok(());
@@ -212,19 +202,31 @@ impl Waiting {
         Ok(())
     }
 
-    /// Lets those points wait to which a loss at a node of a function comes.
-    pub(crate) fn note(
-        &mut self,
-        function: usize,
-        node: &Node,
-        losses: Losses,
-    ) -> Result<(), NoMemory> {
-        if losses.behind {
-            self.lead_on(function, node);
+    /// Lets those heads wait that read a set that lost facts on a walk through a function.
+    fn note_one(&mut self, function: usize, loss: Loss) -> Result<(), NoMemory> {
+        match loss {
+            Loss::Head(point) => {
+                self.put_off(Place { function, point });
+                Ok(())
+            }
+            Loss::Entry(other) => {
+                let Some(row) = self.rows.get_mut(other) else {
+                    return Ok(());
+                };
+                if row.is_done() {
+                    self.later.push(other)?;
+                }
+                row.mark(0);
+                Ok(())
+            }
+            Loss::Exit => self.come_back(function),
         }
-        self.go_into(node, losses.entry)?;
-        if losses.exit {
-            self.come_back(function)?;
+    }
+
+    /// Lets those heads wait that read the sets that lost facts on a walk through a function.
+    pub(crate) fn note(&mut self, function: usize, losses: &[Loss]) -> Result<(), NoMemory> {
+        for loss in losses {
+            self.note_one(function, *loss)?;
         }
         Ok(())
     }

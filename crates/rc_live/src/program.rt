@@ -113,11 +113,10 @@ fn lists(alloc: Global, code: &Rlang, listed: Listed) -> Result<Vec<Held>, NoMem
     ensures { IfOk result (λ lists. map held_of lists.items ≡ functions_lists (deletes (rlang_of code.now)) (map (seen listed) (rlang_of code.now).functions) 0) }
 {
     let parts = code.parts();
-    let layouts = Layouts::new(alloc, parts.structs.as_slice())?;
     let program = Program {
         alloc,
         parts,
-        layouts: &layouts,
+        layouts: code.layouts(),
         listed,
     };
     let mut walk = Walk {

@@ -43,11 +43,11 @@ pub fn marks_of(alloc: Global, code: &Rlang, mask: &Mask) -> Result<Vec<bool>, N
     ensures { IfOk result (λ all. all.items ≡ marks_in_order (marks_in mask.now) (rlang_of code.now)) }
 {
     let parts = code.parts();
-    let layouts = Layouts::new(alloc, parts.structs.as_slice())?;
+    let layouts = code.layouts();
     let mut all = Vec::new(alloc);
     let mut number = 0u32;
     for routine in parts.functions.as_slice() {
-        add_marks(alloc, &layouts, mask, number, routine, &mut all)?;
+        add_marks(alloc, layouts, mask, number, routine, &mut all)?;
         number = number.checked_add(1).ok_or(NoMemory)?;
     }
     Ok(all)

@@ -1,4 +1,1 @@
-pub mod Crossing
-pub mod Lists
-pub mod Ways
-mod Each
+pub mod Leadings

@@ -1,13 +1,9 @@
-//! Facts pass through a function: from its entry, along its edges, until no edge drops one; or step by
-//! step, across the edges of one point. What the effects of region code add stands in lists of facts
-//! (`specs/News` of rc_edges).
+//! A set of facts is led over the edges of a function: in place along the one edge to a point that is no
+//! head, and into the sets of heads, which keep what it has too.
 #![tactic(auto)]
 
-mod calls;
-mod edges;
-mod listing;
-mod point;
-mod way;
+mod leading;
+mod losses;
 
-pub use point::{come_in, cross};
-pub use way::pass;
+pub use leading::{Setting, lead};
+pub use losses::{Loss, note};

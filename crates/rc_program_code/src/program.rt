@@ -94,11 +94,10 @@ pub fn program_code<'a>(
 {
     lists_are_maps();
     let parts = code.parts();
-    let layouts = Layouts::new(alloc, parts.structs.as_slice())?;
     let program = Program {
         alloc,
         parts,
-        layouts: &layouts,
+        layouts: code.layouts(),
         live,
     };
     let mut made = Vec::new(alloc);

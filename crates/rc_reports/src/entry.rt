@@ -57,11 +57,11 @@ pub fn entries(alloc: Global, code: &Rlang, mask: &Mask) -> Result<Vec<Entry>, N
     ensures { IfOk result (λ all. all.items ≡ entries (marks_in mask.now) (rlang_of code.now)) }
 {
     let parts = code.parts();
-    let layouts = Layouts::new(alloc, parts.structs.as_slice())?;
+    let layouts = code.layouts();
     let mut all = Vec::new(alloc);
     let mut number = 0u32;
     for routine in parts.functions.as_slice() {
-        add_entries(alloc, &layouts, mask, number, routine, &mut all)?;
+        add_entries(alloc, layouts, mask, number, routine, &mut all)?;
         number = number.checked_add(1).ok_or(NoMemory)?;
     }
     Ok(all)

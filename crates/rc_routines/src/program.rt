@@ -153,17 +153,21 @@ fn routines(
     Ok(routines)
 }
 
-/// The region code of a program, function by function.
+/// The region code of a program, function by function, by the layouts of its structs.
 ///
 /// # Errors
 ///
 /// Out of memory.
-pub fn region_parts(alloc: Global, program: &Program) -> Result<RegionParts, NoMemory>
+pub fn region_parts(
+    alloc: Global,
+    program: &Program,
+    layouts: &Layouts,
+) -> Result<RegionParts, NoMemory>
+    requires { AreLaidOut (program_of program.now).structs layouts.now }
     ensures { IfOk result (λ p. rlang_of p ≡ region_of_program (program_of program.now)) }
 {
     let parts = program.parts();
-    let layouts = Layouts::new(alloc, parts.structs.as_slice())?;
-    let functions = routines(alloc, parts, &layouts, parts.functions.as_slice())?;
+    let functions = routines(alloc, parts, layouts, parts.functions.as_slice())?;
     Ok(RegionParts {
         structs: copy_structs(alloc, parts.structs.as_slice())?,
         globals: copy_globals(alloc, parts.globals.as_slice())?,

@@ -23,6 +23,7 @@ fn finds_entries(alloc: Global) -> Result<bool, NoMemory> {
     let first = only(alloc, Fact::NonNull(0))?;
     let second = only(alloc, Fact::In(0, 1))?;
     let facts = Facts {
+        graphs: Vec::new(alloc),
         points: Vec::new(alloc),
         entries: Vec::from_array(alloc, [first, second])?,
         exits: Vec::new(alloc),
@@ -42,6 +43,7 @@ fn finds_exits(alloc: Global) -> Result<bool, NoMemory> {
     let first = only(alloc, Fact::Trad(1))?;
     let second = only(alloc, Fact::Up(1, 0))?;
     let facts = Facts {
+        graphs: Vec::new(alloc),
         points: Vec::new(alloc),
         entries: Vec::new(alloc),
         exits: Vec::from_array(alloc, [first, second])?,

@@ -1,8 +1,9 @@
-use Rattle.std.proofs.Common.{IsTrue, ◌↔◌, length, ap, ◌∙◌, subst, arith}
+use Rattle.std.proofs.Common.{◌≡◌, suc, ◌&&◌, false, IsTrue, ◌↔◌, length, ap, ◌∙◌, subst, arith}
 use Rattle.std.proofs.lemmas.List.FromFn.{length-range_with_len}
-use Rattle.rc_facts.specs.Facts.{holds}
+use Rattle.rc_facts.specs.Facts.{holds, is_over, names}
 use Rattle.rc_facts.specs.Derivable.{Derivable}
 use Rattle.rc_boundaries.proofs.Handing.{begun_by, range_below}
+use Rattle.rc_boundaries.proofs.Lost.{loses_as}
 use Rattle.rc_boundaries.proofs.entries.begin.Goals as goal
 
 pub read-requires-clause-names : goal.read-requires-clause-names
@@ -14,8 +15,14 @@ read-requires-clause-room c =
     let hidden = c.requires.hidden in
     omega (arith, long, hidden)
 
-pub returns-clause-facts : goal.returns-clause-facts
-returns-clause-facts c =
+pub returns : goal.returns
+returns c =
     let wide = c.in_ok-known.ensures.variables in
-    begun_by c.args.copies c.args.spare c.as_slice.result.now c.args.entry.now (holds c.args.first.now) (holds c.in_ok-known.known) (holds c.close.new.self) (holds c.forget.new.self) (holds c.meet.new.self) (c.as_slice.ensures.value ∙ c.in_ok-own.ensures) c.in_ok-known.ensures.facts
-    (λ p. subst (λ m. IsTrue (holds c.close.new.self p) ↔ Derivable m (holds c.in_ok-known.known) p) (omega (arith, wide)) (c.close.ensures.facts p)) c.forget.ensures.facts c.meet.ensures.facts
+    let s = c.args.spare in
+    let gone = c.forget.new.self in
+    loses_as c.lose.result c.args.sets.now c.lose.new.sets (λ p fact. p ≡ 0 → IsTrue (holds gone fact)) (λ p fact. p ≡ 0 → Derivable (suc s) (λ q. is_over c.args.copies q && holds c.args.entry.now q) fact × (names s fact ≡ false))
+    (λ p fact. (
+    let is = begun_by c.args.copies s c.as_slice.result.now c.args.entry.now (holds c.in_ok-known.known) (holds c.close.new.self) (holds gone) (c.as_slice.ensures.value ∙ c.in_ok-own.ensures) c.in_ok-known.ensures.facts
+    (λ p. subst (λ m. IsTrue (holds c.close.new.self p) ↔ Derivable m (holds c.in_ok-known.known) p) (omega (arith, wide)) (c.close.ensures.facts p)) c.forget.ensures.facts fact in
+    (λ h e. is.0 (h e), λ h e. is.1 (h e))))
+    c.lose.ensures

@@ -14,11 +14,8 @@ use Rattle.rc_elim.specs.Masks.{asks, has_check}
 use Rattle.rc_elim.proofs.Checked.{asked_there}
 use Rattle.rc_elim.proofs.mask.has_check.Goals as goal
 
-pub new-requires : goal.new-requires
-new-requires c = subst (λ ss. StructsFit (map struct_of ss)) (sym (c.as_slice.ensures.value ∙ ap (λ p. p.structs.items) c.parts-parts.ensures.parts)) c.parts-parts.ensures.fits.structs
-
 pub graph_of-requires : goal.graph_of-requires
-graph_of-requires c = record { laid = record { structs = map struct_of c.as_slice.result.now; laid = c.in_ok-layouts.ensures } }
+graph_of-requires c = record { laid = record { structs = (rlang_of c.args.code.now).structs; laid = c.layouts-layouts.ensures } }
 
 pub returns : goal.returns
 returns c =
@@ -27,8 +24,9 @@ returns c =
     let lookup = c.in-Some.ensures.lookup in
     let found : slice_get c.deref.result.now c.args.function ≡ Some routine = slice_get-get_or c.deref.result.now c.args.function routine (ltb-true c.args.function (length c.deref.result.now) (sym lookup.0)) ∙ ap Some (sym lookup.1) in
     let there : slice_get parts.functions.items c.args.function ≡ Some routine = ap (λ (fs : List CodeRoutine). slice_get fs c.args.function) (sym c.deref.ensures.value) ∙ found in
-    let graph = c.in_ok-graph.ensures (map struct_of c.as_slice.result.now) c.in_ok-layouts.ensures in
-    let nodes : nodes_of c.in_ok-graph.graph.nodes.items ≡ routine_nodes (routine_in (map struct_of parts.structs.items) routine) = graph.nodes ∙ ap (λ ss. routine_nodes (routine_in (map struct_of ss) routine)) c.as_slice.ensures.value in
-    c.asks.ensures ∙ ap (λ (ns : List CodeNode). asks (option_map node_of (slice_get ns c.args.point))) c.as_slice-2.ensures.value
+    let structs = (rlang_of c.args.code.now).structs in
+    let graph = c.in_ok-graph.ensures structs c.layouts-layouts.ensures in
+    let nodes : nodes_of c.in_ok-graph.graph.nodes.items ≡ routine_nodes (routine_in (map struct_of parts.structs.items) routine) = graph.nodes ∙ ap (λ (p : RegionParts). routine_nodes (routine_in (map struct_of p.structs.items) routine)) (sym c.parts-parts.ensures.parts) in
+    c.asks.ensures ∙ ap (λ (ns : List CodeNode). asks (option_map node_of (slice_get ns c.args.point))) c.as_slice.ensures.value
     ∙ asked_there parts c.args.function c.args.point routine c.in_ok-graph.graph.nodes.items there nodes
     ∙ ap (λ (p : RegionParts). has_check (rlang_of p) c.args.function c.args.point) c.parts-parts.ensures.parts

@@ -1,7 +1,8 @@
-use Rattle.std.proofs.Common.{◌++◌, map, refl, sym, ap, ◌∙◌}
+use Rattle.std.proofs.Common.{◌++◌, map, refl, sym, ap, ◌∙◌, subst}
 use Rattle.rc_core.specs.Shapes.{ty_of}
 use Rattle.rc_rlang.specs.RegionFlow.{temporary_variable, routine_nodes}
 use Rattle.rc_rlang.specs.Shapes.{routine_in}
+use Rattle.rc_graph.specs.Heads.{AreHeads}
 use Rattle.rc_graph.specs.Nodes.{nodes_of}
 use Rattle.rc_graph.proofs.graph.graph_of.Goals as goal
 
@@ -13,4 +14,5 @@ returns c structs laid =
       nodes = c.in_ok-nodes.ensures structs (record { laid = laid; numbers = n }) ∙ ap (λ ns. nodes_of ns ++ routine_nodes f) c.new-all.ensures.items;
       hidden = n.hidden;
       result = c.in_ok-result.ensures f n ∙ ap (temporary_variable f) (c.in_ok-height.ensures structs);
+      heads = subst (λ ns. AreHeads (nodes_of ns) c.in_ok-heads.heads.items) c.as_slice-2.ensures.value c.in_ok-heads.ensures;
     }

@@ -2,9 +2,9 @@ use Rattle.std.proofs.Common.{◌≡◌, length, ap, subst, arith}
 use Rattle.std.proofs.lemmas.List.{length-map}
 use Rattle.rc_rlang.specs.declared.code.RegionParts.{RegionParts}
 use Rattle.rc_rlang.specs.Shapes.{rlang_of, routine_in}
-use Rattle.rc_infer.specs.Turning.{AreGraphs}
+use Rattle.rc_graph.specs.Nodes.{AreGraphs}
 use Rattle.rc_infer.proofs.Places.{found}
-use Rattle.rc_infer.proofs.Carrying.{graphs_none, graphs_more}
+use Rattle.rc_infer.proofs.GraphLists.{graphs_none, graphs_more}
 use Rattle.rc_infer.proofs.graphs.graphs.Goals as goal
 
 pub loop-g-init : goal.loop-g-init
@@ -18,7 +18,7 @@ loop-g-preserved c =
     let room = c.parts-parts.result.now.functions.ok.0 in
     let same = ap (λ (p : RegionParts). length p.functions.items) c.parts-parts.ensures.parts in
     let there = found c.args.code.now c.parts-parts.result.now c.loop-g.g c.index.result.now c.parts-parts.ensures.parts (omega (arith, test, end, room, same)) c.index.ensures in
-    graphs_more r c.loop-g.g (routine_in r.structs c.index.result.now) c.loop-g.all.items c.push.new.self.items c.in_ok-graph.graph there c.loop-g.invariant (c.in_ok-graph.ensures r.structs c.requires) c.in_ok-push.ensures.items
+    graphs_more r c.loop-g.g (routine_in r.structs c.index.result.now) c.loop-g.all.items c.push.new.self.items c.in_ok-graph.graph there c.loop-g.invariant (c.in_ok-graph.ensures r.structs c.layouts-layouts.ensures) c.in_ok-push.ensures.items
 
 pub returns : goal.returns
 returns c =
@@ -33,4 +33,4 @@ returns c =
     subst (λ k. AreGraphs r k c.loop-g.all.items) all c.loop-g.invariant
 
 pub graph_of-requires : goal.graph_of-requires
-graph_of-requires c = record { laid = record { structs = (rlang_of c.args.code.now).structs; laid = c.requires } }
+graph_of-requires c = record { laid = record { structs = (rlang_of c.args.code.now).structs; laid = c.layouts-layouts.ensures } }

@@ -1,5 +1,5 @@
 use Rattle.rc_rlang.specs.Shapes.{rlang_of}
-use Rattle.rc_infer.specs.Turning.{AreGraphs}
+use Rattle.rc_graph.specs.Nodes.{AreGraphs}
 use Rattle.rc_infer.proofs.graphs.graphs.Given as goal
 
 abbrev pub invariant-loop-g : goal.invariant-loop-g

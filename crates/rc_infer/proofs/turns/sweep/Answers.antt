@@ -1,14 +1,13 @@
 use Rattle.rc_rlang.specs.Shapes.{rlang_of}
 use Rattle.rc_edges.specs.Inferred.{family_of}
-use Rattle.rc_infer.proofs.Carrying.{turning_on}
-use Rattle.rc_infer.proofs.Visits.{swept_both, swept_none}
+use Rattle.rc_infer.proofs.Walks.{swept_both, swept_none, turning_by}
 use Rattle.rc_infer.proofs.turns.sweep.Goals as goal
 
 pub loop-turn-init : goal.loop-turn-init
-loop-turn-init c = swept_none (rlang_of c.args.field.now.code.now) (family_of c.args.facts.now) c.requires.turning.searching
+loop-turn-init c = swept_none (rlang_of c.args.field.now.code.now) c.args.field.now.graphs.now (family_of c.args.facts.now) c.requires.turning.all c.requires.turning.covers
 
-pub turn_next-requires : goal.turn_next-requires
-turn_next-requires c = record { turning = turning_on (rlang_of c.args.field.now.code.now) c.args.field.now.graphs.now (family_of c.args.facts.now) (family_of c.loop-turn.facts) c.requires.turning c.loop-turn.invariant }
+pub turn-requires : goal.turn-requires
+turn-requires c = record { turning = turning_by (rlang_of c.args.field.now.code.now) c.args.field.now.graphs.now (family_of c.args.facts.now) (family_of c.loop-turn.facts) c.requires.turning c.loop-turn.invariant.all1 c.loop-turn.invariant.covers }
 
 pub loop-turn-preserved : goal.loop-turn-preserved
-loop-turn-preserved c = swept_both (rlang_of c.args.field.now.code.now) (family_of c.args.facts.now) (family_of c.loop-turn.facts) (family_of c.turn_next.new.facts) c.loop-turn.invariant c.in_ok-more.ensures
+loop-turn-preserved c = swept_both (rlang_of c.args.field.now.code.now) c.args.field.now.graphs.now (family_of c.args.facts.now) (family_of c.loop-turn.facts) (family_of c.turn.new.facts) c.loop-turn.invariant c.in_ok-more.ensures

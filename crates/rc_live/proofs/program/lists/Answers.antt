@@ -34,13 +34,10 @@ told parts code same is listed old new back begin nothing =
     walked (deletes r) all (sum (map routine_points all)) old new few back begin nothing
     ∙ ap (λ p. functions_lists (deletes (rlang_of p)) (map (seen listed) (rlang_of p).functions) 0) same
 
-pub new-requires : goal.new-requires
-new-requires c = subst (λ ss. StructsFit (map struct_of ss)) (sym (c.as_slice.ensures.value ∙ ap (λ p. p.structs.items) c.parts-parts.ensures.parts)) c.parts-parts.ensures.fits.structs
-
 pub functions-requires-clause-narrow : goal.functions-requires-clause-narrow
 functions-requires-clause-narrow c = narrow c.parts-parts.result.now (subst (λ p. IsRlang (rlang_of p)) (sym c.parts-parts.ensures.parts) c.parts-parts.ensures.fits)
 
 pub returns : goal.returns
 returns c =
     c.in_order.ensures ∙ ap (λ (g : Going). map (lowered g.point) (reverse g.lists)) c.walk.view_is
-    ∙ told c.parts-parts.result.now c.args.code.now c.parts-parts.ensures.parts c.parts-parts.ensures.fits c.args.listed _ c.functions.new.walk c.in_ok-functions.ensures refl (ap (map held_of) c.new-2.ensures.items)
+    ∙ told c.parts-parts.result.now c.args.code.now c.parts-parts.ensures.parts c.parts-parts.ensures.fits c.args.listed _ c.functions.new.walk c.in_ok-functions.ensures refl (ap (map held_of) c.new.ensures.items)

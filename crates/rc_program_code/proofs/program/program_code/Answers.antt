@@ -13,9 +13,6 @@ use Rattle.rc_program_code.proofs.Maps.{map_listed}
 use Rattle.rc_program_code.proofs.Functions.{Making, one_listed, one_more, one_fits}
 use Rattle.rc_program_code.proofs.program.program_code.Goals as goal
 
-pub new-requires : goal.new-requires
-new-requires c = subst (λ ss. StructsFit (map struct_of ss)) (sym (c.as_slice.ensures.value ∙ ap (λ p. p.structs.items) c.parts-parts.ensures.parts)) c.parts-parts.ensures.fits.structs
-
 pub loop-routine-init : goal.loop-routine-init
 loop-routine-init c =
     let lists = live_lists (rlang_of c.args.code.now) in

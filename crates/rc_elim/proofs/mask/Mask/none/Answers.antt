@@ -6,9 +6,6 @@ use Rattle.rc_elim.specs.Masks.{no_marks, rows_of}
 use Rattle.rc_elim.proofs.Unmarked.{all_points, nothing_marked}
 use Rattle.rc_elim.proofs.mask.Mask.none.Goals as goal
 
-pub new-requires : goal.new-requires
-new-requires c = subst (λ ss. StructsFit (map struct_of ss)) (sym (c.as_slice.ensures.value ∙ ap (λ p. p.structs.items) c.parts-parts.ensures.parts)) c.parts-parts.ensures.fits.structs
-
 pub returns-clause-points : goal.returns-clause-points
 returns-clause-points c = all_points (rlang_of c.args.code.now) (rows_of c.in_ok-rows.rows.items) (c.in_ok-rows.ensures ∙ ap (λ p. no_marks (rlang_of p)) c.parts-parts.ensures.parts)
 
