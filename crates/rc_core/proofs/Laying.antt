@@ -1,6 +1,6 @@
 -- Structs that are laid out one after another.
 use Rattle.std.proofs.Common.{◌≡◌, ℕ, zero, suc, ◌+◌, ◌<◌, ◌≤◌, refl, sym, ap, ◌∙◌, subst, List, [], ◌∷◌, ◌++◌, map, length, take, drop, get_or, slice_get, replicate, Option, Some, None, arith, length-append, append-nil, take-append-drop, below_more, inl, inr}
-use Rattle.std.specs.Prelude.{flat_map}
+use Rattle.std.specs.Prelude.{flat_map, Result, Ok, Err, OnOk}
 use Rattle.std.proofs.lemmas.Grind.{flat_map-append}
 use Rattle.std.proofs.lemmas.List.{length-map, map-append, map_push, length-take-le, take_more, take_all}
 use Rattle.std.proofs.lemmas.Option.{slice_get_past}
@@ -32,6 +32,17 @@ kinds_found (l ∷ layouts) (s ∷ laid) e (suc k) = let rest : HaveCells layout
 pub copies_kept : (n : ℕ) (layout : Layout) → map held_kind (copies (Some n) layout) ≡ flat_map (λ copy. copy) (replicate n (map held_kind layout))
 copies_kept zero layout = refl
 copies_kept (suc n) layout = map-append held_kind layout (copies (Some n) layout) ∙ ap (λ c. map held_kind layout ++ c) (copies_kept n layout)
+
+-- copies of one cell
+pub same_copies : (one : List Kind) (none : Kind) (n : ℕ) → length one ≡ 1 → replicate n (get_or one 0 none) ≡ flat_map (λ copy. copy) (replicate n one)
+same_copies [] none n long = absurd (omega (arith, long))
+same_copies (k ∷ []) none zero long = refl
+same_copies (k ∷ []) none (suc n) long = ap (λ c. k ∷ c) (same_copies (k ∷ []) none n long)
+same_copies (k ∷ l ∷ ks) none n long = absurd (omega (arith, long))
+
+pub after_ok : {T E P Q : Type 0} (r : Result T E) → (P → Q) → OnOk r P → OnOk r Q
+after_ok (Ok x) f p = f p
+after_ok (Err e) f p = tt
 
 -- where the fields lie that stand behind so many cells
 abbrev pub places_from : List Layout → ℕ → List Field → List FieldPlace

@@ -1,7 +1,7 @@
 // Layouts: the cells of types, and where the fields of structs lie. A cell holds one number, region or
 // pointer, and sizes and places are counted in cells.
 
-ghost use Rattle.std.specs.Prelude.{◌≡◌, ◌++◌, List, Some, map, option_map, slice_get, IfOk, OnOk};
+ghost use Rattle.std.specs.Prelude.{◌≡◌, ◌++◌, List, Some, flat_map, replicate, map, option_map, slice_get, IfOk, OnOk};
 ghost use Rattle.rc_core.specs.Laid.{AreLaidOut, HaveCells, IsLaidOut, held_kind, place_in, place_of};
 ghost use Rattle.rc_core.specs.Layout.{Layout, cells, cells_by, copies, count_in, size};
 ghost use Rattle.rc_core.specs.Programs.{Struct as Fields};
@@ -112,6 +112,27 @@ fn cells_by<'p>(layouts: &'p [StructLayout], ty: &Ty) -> &'p [Kind]
     }
 }
 
+/// Adds so many cells of one kind, all at once.
+fn push_same(kinds: &mut Vec<Kind>, kind: Kind, count: u32) -> Result<(), AllocError>
+    ensures { OnOk result (kinds.new.items ≡ kinds.old.items ++ replicate count kind) }
+{
+    let all = kinds.len().checked_add(count as usize).ok_or(AllocError)?;
+    kinds.resize(all, kind)
+}
+
+/// Adds these cells so many times.
+fn push_copies(kinds: &mut Vec<Kind>, one: &[Kind], count: u32) -> Result<(), AllocError>
+    ensures { OnOk result (kinds.new.items ≡ kinds.old.items ++ flat_map (λ kinds. kinds) (replicate count one.now)) }
+{
+    if one.len() == 1 {
+        return push_same(kinds, one[0], count);
+    }
+    for _ in 0..count {
+        kinds.extend_from_slice(one)?;
+    }
+    Ok(())
+}
+
 /// Adds the cells of a field, of which one value has these: once, or as often as its array is long.
 ///
 /// # Errors
@@ -122,12 +143,7 @@ fn push_field(kinds: &mut Vec<Kind>, one: &[Kind], length: Option<u32>) -> Resul
 {
     match length {
         None => Ok(kinds.extend_from_slice(one)?),
-        Some(count) => {
-            for _ in 0..count {
-                kinds.extend_from_slice(one)?;
-            }
-            Ok(())
-        }
+        Some(count) => push_copies(kinds, one, count),
     }
 }
 

@@ -34,7 +34,7 @@ fn cell_kind(cell: Cell) -> CellKind
 pub(crate) fn layout_of(alloc: Global, cells: &[Cell]) -> Result<Layout, NoMemory>
     ensures { IfOk result (λ layout. kinds_in layout ≡ layout_of cells.now) }
 {
-    let mut kinds = Vec::new(alloc);
+    let mut kinds = Vec::with_capacity(alloc, cells.len())?;
     for cell in cells {
         kinds.push(cell_kind(*cell))?;
     }
@@ -49,7 +49,7 @@ pub(crate) fn layout_of(alloc: Global, cells: &[Cell]) -> Result<Layout, NoMemor
 pub fn layouts_of(alloc: Global, types: &[Items<Cell>]) -> Result<Vec<Layout>, NoMemory>
     ensures { IfOk result (λ layouts. map kinds_in layouts.items ≡ map layout_of types.now) }
 {
-    let mut layouts = Vec::new(alloc);
+    let mut layouts = Vec::with_capacity(alloc, types.len())?;
     for cells in types {
         layouts.push(layout_of(alloc, cells.as_slice())?)?;
     }
