@@ -14,7 +14,7 @@ use Rattle.rc_rlang.specs.RegionFlow.{Effect, called, Edge, Node, going, forking
 use Rattle.rc_annotations.specs.Annotations.{fact_with, renamed, renamed_by}
 use Rattle.rc_annotations.proofs.Derivations.{derivable_more}
 use Rattle.rc_edges.proofs.Renaming.{same_names, own_name}
-use Rattle.rc_flow.specs.Flow.{no_set}
+use Rattle.rc_facts.specs.Flow.{no_set}
 use Rattle.rc_base.specs.declared.outside.NoMemory.{NoMemory}
 use Rattle.rc_graph.specs.declared.node.Effect.{Effect as CodeEffect}
 use Rattle.rc_graph.specs.declared.node.Node.{Node as CodeNode}

@@ -4,7 +4,7 @@ use Rattle.std.specs.Prelude.{MatchBool}
 use Rattle.std.proofs.lemmas.Bool.{and_parts, and_from, eqb-true, eq-eqb}
 use Rattle.rc_facts.specs.declared.fact.Fact.{Fact}
 use Rattle.rc_facts.specs.Facts.{Known, holds}
-use Rattle.rc_flow.specs.Flow.{facts_in, no_set, set_at}
+use Rattle.rc_facts.specs.Flow.{facts_in, no_set, set_at}
 use Rattle.rc_edges.specs.Reading.{Loses}
 
 apart : (p at : ℕ) → nat_eq p at ≡ false → p ≡ at → ⊥

@@ -1,10 +1,9 @@
 // Calls.
-ghost use Rattle.std.specs.Prelude.{◌≡◌, ℕ, slice_get, get_or, Option, Some, length, IfOk};
-ghost use Rattle.rc_rlang.specs.RegionFlow.{Node as AnyNode, called};
-ghost use Rattle.rc_flow.specs.Flow.{no_set};
-ghost use Rattle.rc_graph.specs.Nodes.{effect_of, node_of, nodes_of};
+ghost use Rattle.std.specs.Prelude.{ℕ, Option, IfOk};
+ghost use Rattle.rc_rlang.specs.RegionFlow.{called};
+ghost use Rattle.rc_graph.specs.Nodes.{effect_of, node_of};
 ghost use Rattle.rc_edges.specs.Reading.{Loses};
-ghost use Rattle.rc_edges.specs.Boundaries.{CallGives, CallReady, Callable, CallsGive, NodeGives, NodeReady};
+ghost use Rattle.rc_edges.specs.Boundaries.{CallGives, CallReady, Callable, NodeGives, NodeReady};
 
 use crate::losing::lose;
 use crate::reading::read;

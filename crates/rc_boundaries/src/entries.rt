@@ -2,7 +2,7 @@
 ghost use Rattle.std.specs.Prelude.{◌≡◌, ◌<◌, ◌≤◌, ◌&&◌, suc, false, length, get_or, IfOk};
 ghost use Rattle.rc_facts.specs.Derivable.{Derivable};
 ghost use Rattle.rc_facts.specs.Facts.{holds, is_over, names};
-ghost use Rattle.rc_flow.specs.Flow.{no_set};
+ghost use Rattle.rc_facts.specs.Flow.{no_set};
 ghost use Rattle.rc_edges.specs.Reading.{Loses};
 
 use crate::losing::lose;

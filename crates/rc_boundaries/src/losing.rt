@@ -2,7 +2,7 @@
 ghost use Rattle.std.specs.Prelude.{◌≡◌, ◌<◌, ◌&&◌, ℕ, IsTrue, MatchBool, length, get_or};
 ghost use Rattle.rc_facts.specs.declared.fact.Fact.{Fact};
 ghost use Rattle.rc_facts.specs.Facts.{holds};
-ghost use Rattle.rc_flow.specs.Flow.{facts_in, no_set, set_at};
+ghost use Rattle.rc_facts.specs.Flow.{facts_in, no_set, set_at};
 ghost use Rattle.rc_edges.specs.Reading.{Loses};
 
 use rc_facts::FactSet;

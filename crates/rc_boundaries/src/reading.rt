@@ -1,5 +1,5 @@
 // Sets under other names.
-ghost use Rattle.std.specs.Prelude.{◌≡◌, ◌<◌, ◌≤◌, ◌++◌, ◌&&◌, ◌||◌, ℕ, IsTrue, IfOk, OnOk, length, get_or};
+ghost use Rattle.std.specs.Prelude.{◌≡◌, ◌<◌, ◌≤◌, ◌++◌, ◌&&◌, ◌||◌, IsTrue, IfOk, OnOk, length, get_or};
 ghost use Rattle.std.specs.List.{All, list_any, range_with_len};
 ghost use Rattle.rc_facts.specs.declared.fact.Fact.{Fact as AnyFact};
 ghost use Rattle.rc_facts.specs.Facts.{holds, is_over, same_fact};

@@ -1,14 +1,13 @@
 // Returns.
-ghost use Rattle.std.specs.Prelude.{◌≡◌, ◌<◌, ◌≤◌, ◌++◌, ◌∷◌, ◌||◌, [], ℕ, suc, slice_get, get_or, Some, IfSome, IsTrue, ◌↔◌, length, IfOk};
+ghost use Rattle.std.specs.Prelude.{◌≡◌, ◌<◌, ◌≤◌, ◌++◌, ◌∷◌, ◌||◌, [], suc, get_or, Some, IfSome, IsTrue, ◌↔◌, length, IfOk};
 ghost use Rattle.std.specs.List.{range_with_len};
 ghost use Rattle.rc_facts.specs.declared.fact.Fact.{Fact as AnyFact};
 ghost use Rattle.rc_facts.specs.Facts.{holds};
 ghost use Rattle.rc_facts.specs.Derivable.{Derivable};
-ghost use Rattle.rc_rlang.specs.RegionFlow.{Node as AnyNode};
-ghost use Rattle.rc_flow.specs.Flow.{no_set};
-ghost use Rattle.rc_graph.specs.Nodes.{node_of, nodes_of};
+ghost use Rattle.rc_facts.specs.Flow.{no_set};
+ghost use Rattle.rc_graph.specs.Nodes.{node_of};
 ghost use Rattle.rc_edges.specs.Reading.{Loses};
-ghost use Rattle.rc_edges.specs.Boundaries.{NodeReturns, ReturnGives, ReturnReady, ReturnsGive, given_facts};
+ghost use Rattle.rc_edges.specs.Boundaries.{NodeReturns, ReturnGives, ReturnReady, given_facts};
 
 use crate::losing::lose;
 use crate::reading::{numbers, read};

@@ -12,7 +12,7 @@ use Rattle.rc_facts.specs.Shut.{IsBehind}
 use Rattle.rc_facts.proofs.Table.{after_first}
 use Rattle.rc_rlang.specs.RegionFlow.{absent, called}
 use Rattle.rc_annotations.specs.Annotations.{Annotation}
-use Rattle.rc_flow.specs.Flow.{Facts, IsClosed}
+use Rattle.rc_facts.specs.Flow.{Facts, IsClosed}
 use Rattle.rc_edges.specs.Edges.{all_below, renewed}
 use Rattle.rc_edges.specs.News.{places_of, rows_news}
 use Rattle.rc_edges.proofs.Adding.{news_are}

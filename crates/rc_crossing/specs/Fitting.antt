@@ -4,7 +4,7 @@ use Rattle.std.specs.List.{list_any}
 use Rattle.rc_facts.specs.declared.fact.Fact.{Fact}
 use Rattle.rc_facts.specs.Facts.{Known}
 use Rattle.rc_rlang.specs.RegionFlow.{Effect, nothing, nulled, moved, fixed, beside, made, under, loaded, looked_at, stored, present, absent, called, entered}
-use Rattle.rc_flow.specs.Flow.{Facts, no_set}
+use Rattle.rc_facts.specs.Flow.{Facts, no_set}
 use Rattle.rc_edges.specs.News.{places_of}
 
 -- it lacks one of them

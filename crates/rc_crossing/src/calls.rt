@@ -6,7 +6,7 @@ ghost use Rattle.rc_facts.specs.Derivable.{Derivable};
 ghost use Rattle.rc_facts.specs.Facts.{holds, is_over, names, same_fact};
 ghost use Rattle.rc_facts.specs.Null.{null_news};
 ghost use Rattle.rc_facts.specs.Shut.{together, IsBehind};
-ghost use Rattle.rc_flow.specs.Flow.{Behind, IsClosed};
+ghost use Rattle.rc_facts.specs.Flow.{Behind, IsClosed};
 ghost use Rattle.rc_edges.specs.Edges.{all_below};
 ghost use Rattle.rc_edges.specs.News.{fact_if, row_news, rows_news, places_of};
 ghost use Rattle.rc_crossing.specs.Fitting.{lacks};

@@ -1,10 +1,10 @@
 // What an effect makes of a closed set, of which no fact names the scratch variable.
-ghost use Rattle.std.specs.Prelude.{◌≡◌, ◌<◌, ◌↔◌, ◌∷◌, [], Some, None, IsTrue, OnOk, ℕ, suc, map};
+ghost use Rattle.std.specs.Prelude.{◌≡◌, ◌<◌, ◌↔◌, ◌∷◌, [], Some, IsTrue, OnOk, suc, map};
 ghost use Rattle.rc_facts.specs.declared.fact.Fact.{Fact as AnyFact};
 ghost use Rattle.rc_facts.specs.declared.fact.Fact.TheVariants.{In, NonNull, Up};
 ghost use Rattle.rc_facts.specs.Facts.{holds};
 ghost use Rattle.rc_facts.specs.Shut.{IsBehind};
-ghost use Rattle.rc_flow.specs.Flow.{set_at, Behind, IsClosed};
+ghost use Rattle.rc_facts.specs.Flow.{set_at, Behind, IsClosed};
 ghost use Rattle.rc_rlang.specs.RegionFlow.{assigned};
 ghost use Rattle.rc_graph.specs.Nodes.{effect_of, entry_of};
 ghost use Rattle.rc_edges.specs.Edges.{renewed, pairs_below, EffectBelow};

@@ -8,7 +8,7 @@ use Rattle.rc_facts.specs.Facts.{names, replaced, with_replaced}
 use Rattle.rc_facts.specs.Derivable.{Derivable, stated}
 use Rattle.rc_rlang.specs.RegionFlow.{Effect, assigned, one_of}
 use Rattle.rc_annotations.specs.Annotations.{Facts, Annotation, gained, exit_facts, allowed, allowed_where, fact_with, renamed, renamed_by, is_below, assigning}
-use Rattle.rc_flow.specs.Flow.{Behind}
+use Rattle.rc_facts.specs.Flow.{Behind}
 use Rattle.rc_facts.specs.Shut.{together}
 use Rattle.rc_edges.specs.Edges.{EffectBelow, AreNews, Crossed, renewed, renewed_by}
 use Rattle.rc_edges.specs.EdgeLaws.{AllBelow}

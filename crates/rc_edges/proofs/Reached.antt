@@ -16,7 +16,7 @@ use Rattle.rc_annotations.specs.Annotations.{Facts, Annotation, Consistent, Foll
 use Rattle.rc_annotations.specs.Heights.{temporaries_of}
 use Rattle.rc_annotations.specs.Laws.{Inside}
 use Rattle.rc_annotations.proofs.Greatest.{follows_inside}
-use Rattle.rc_flow.specs.Flow.{Behind}
+use Rattle.rc_facts.specs.Flow.{Behind}
 use Rattle.rc_facts.specs.Shut.{together}
 use Rattle.rc_edges.specs.Edges.{AreNews, EffectBelow, all_below, kept, renewed, spare}
 use Rattle.rc_edges.specs.EdgeLaws.{AllBelow}

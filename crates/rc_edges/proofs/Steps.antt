@@ -17,8 +17,9 @@ use Rattle.rc_annotations.specs.Annotations.{Annotation, Consistent, Facts, fact
 use Rattle.rc_annotations.specs.Laws.{Within}
 use Rattle.rc_annotations.specs.Heights.{temporaries_of}
 use Rattle.rc_annotations.proofs.Derivations.{derivable_more, either_more}
-use Rattle.rc_flow.specs.Flow.{AreShut, Behind, IsClosed, no_set, set_at}
-use Rattle.rc_flow.proofs.Flows.{behind_more, derivable_cut, derivable_replaced}
+use Rattle.rc_facts.specs.Flow.{AreShut, Behind, IsClosed, no_set, set_at}
+use Rattle.rc_facts.proofs.Behind.{behind_more, derivable_replaced}
+use Rattle.rc_facts.proofs.Table.{follows_cut}
 use Rattle.rc_edges.specs.Edges.{Crossed, EffectBelow, all_below, kept, renewed, spare}
 use Rattle.rc_edges.specs.News.{news_of}
 use Rattle.rc_edges.proofs.Adding.{assigned_below, news_are}
@@ -192,7 +193,7 @@ module _ (s : ℕ) (exits : ℕ → Facts) (effect : Effect) (own : EffectBelow 
   crossed_below below = behind_below (assigned effect) (news_of (suc s) exits (renewed s effect)) (assigned_below s effect own) (given_over below)
 
   behind_shut : (x : Option ℕ) (news : List Fact) (given : Facts) → ((p : Fact) → IsTrue (given p) → Behind (suc s) s x news before p) → (fact : Fact) → names s fact ≡ false → Derivable (suc s) given fact → Behind (suc s) s x news before fact
-  behind_shut None news given h fact apart d = (derivable_cut (λ p e. (h p e).0) d, apart)
+  behind_shut None news given h fact apart d = (follows_cut (λ p e. (h p e).0) d, apart)
   behind_shut (Some x) news given h fact apart d = (derivable_replaced x s (omega arith) (λ p e. (h p e).0) d, apart)
 
   pub crossed_shut : (given : Facts) → ((p : Fact) → IsTrue (given p) → Crossed exits s effect before p) → (fact : Fact) → names s fact ≡ false → Derivable (suc s) given fact → Crossed exits s effect before fact

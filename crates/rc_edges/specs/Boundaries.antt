@@ -8,7 +8,7 @@ use Rattle.rc_facts.specs.Facts.{Known, holds, is_over, same_fact}
 use Rattle.rc_facts.specs.Derivable.{Derivable}
 use Rattle.rc_rlang.specs.RegionFlow.{Effect, called, Edge, Node}
 use Rattle.rc_annotations.specs.Annotations.{fact_with, renamed}
-use Rattle.rc_flow.specs.Flow.{Facts, no_set}
+use Rattle.rc_facts.specs.Flow.{Facts, no_set}
 use Rattle.rc_edges.specs.Reading.{read_by}
 
 -- an effect that calls the function gives the fact to its entry, from what is known before

@@ -9,7 +9,7 @@ use Rattle.rc_rlang.specs.RegionCode.{Routine}
 use Rattle.rc_rlang.specs.RegionFlow.{Effect, nothing, nulled, moved, fixed, beside, made, under, loaded, looked_at, stored, present, absent, called, entered, assigned, result_variable}
 use Rattle.rc_annotations.specs.Annotations.{Facts, assigning, gained}
 pub use Rattle.rc_annotations.specs.Annotations.{NodeEdge}
-use Rattle.rc_flow.specs.Flow.{Behind}
+use Rattle.rc_facts.specs.Flow.{Behind}
 use Rattle.rc_edges.specs.News.{news_of}
 
 -- the scratch variable of edges, and how many variables facts are kept over

@@ -9,7 +9,7 @@ use Rattle.rc_rlang.specs.RegionCode.{Routine, Rlang}
 use Rattle.rc_rlang.specs.RegionFlow.{called, Edge, Node, copies, variables, routine_nodes}
 use Rattle.rc_annotations.specs.Annotations.{Annotation, Consistent, exit_facts, returned_facts, fact_with, renamed, is_below, NodeEdge}
 use Rattle.rc_annotations.specs.Laws.{Inside}
-use Rattle.rc_flow.specs.Flow.{set_at}
+use Rattle.rc_facts.specs.Flow.{set_at}
 use Rattle.rc_edges.specs.Edges.{Crossed, spare, kept, EffectBelow}
 use Rattle.rc_edges.specs.EdgeLaws.{AllBelow}
 

@@ -11,7 +11,7 @@ use Rattle.rc_annotations.specs.Heights.{temporaries_of}
 use Rattle.rc_graph.specs.Heads.{EdgeOf}
 use Rattle.rc_graph.specs.Nodes.{AreGraphs, nodes_of}
 use Rattle.rc_graph.specs.declared.graph.Graph.{Graph}
-use Rattle.rc_flow.specs.Flow.{AreShut, no_set, set_at}
+use Rattle.rc_facts.specs.Flow.{AreShut, no_set, set_at}
 use Rattle.rc_edges.specs.Edges.{Crossed, kept, spare}
 use Rattle.rc_edges.specs.Families.{Family, annotation_in}
 use Rattle.rc_edges.specs.Inferred.{GreatestOf, Shaped, family_of}

@@ -10,7 +10,7 @@ use Rattle.rc_rlang.specs.Shapes.{rlang_of}
 use Rattle.rc_annotations.specs.Annotations.{Annotation, Consistent}
 use Rattle.rc_annotations.specs.Laws.{Within}
 use Rattle.rc_annotations.specs.Heights.{temporaries_of}
-use Rattle.rc_flow.specs.Flow.{HaveVariables, no_set}
+use Rattle.rc_facts.specs.Flow.{HaveVariables, no_set}
 use Rattle.rc_edges.specs.Edges.{kept}
 use Rattle.rc_edges.specs.Families.{Family, annotation_in}
 use Rattle.rc_edges.specs.declared.facts.Facts.{Facts}

@@ -4,7 +4,7 @@ use Rattle.std.specs.Prelude.{◌≡◌, ℕ, ◌<◌, ◌&&◌, Bool, IsTrue, �
 use Rattle.rc_facts.specs.declared.fact.Fact.{Fact}
 use Rattle.rc_facts.specs.Facts.{Known, holds, is_over}
 use Rattle.rc_annotations.specs.Annotations.{fact_with}
-use Rattle.rc_flow.specs.Flow.{Facts, facts_in, no_set, set_at}
+use Rattle.rc_facts.specs.Flow.{Facts, facts_in, no_set, set_at}
 
 abbrev pub read_by : List ℕ → Known → Facts
 read_by names known fact = is_over (length names) fact && holds known (fact_with (λ v. get_or names v 0) fact)

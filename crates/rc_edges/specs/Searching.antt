@@ -8,7 +8,7 @@ use Rattle.rc_rlang.specs.RegionFlow.{copies}
 use Rattle.rc_annotations.specs.Annotations.{Annotation, Consistent}
 use Rattle.rc_annotations.specs.Laws.{Inside}
 use Rattle.rc_annotations.specs.Heights.{temporaries_of}
-use Rattle.rc_flow.specs.Flow.{AreShut, set_at}
+use Rattle.rc_facts.specs.Flow.{AreShut, set_at}
 use Rattle.rc_edges.specs.Edges.{kept, spare}
 use Rattle.rc_edges.specs.Families.{Family, InOrder, annotation_in}
 use Rattle.rc_edges.specs.Inferred.{Shaped, only_of}

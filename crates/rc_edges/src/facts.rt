@@ -1,6 +1,6 @@
 // Facts of all functions.
 ghost use Rattle.std.specs.Prelude.{◌≡◌, ◌<◌, [], length, get_or};
-ghost use Rattle.rc_flow.specs.Flow.{no_set};
+ghost use Rattle.rc_facts.specs.Flow.{no_set};
 ghost use Rattle.rc_edges.specs.Inferred.{family_of};
 
 use rc_facts::FactSet;

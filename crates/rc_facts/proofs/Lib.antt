@@ -15,3 +15,4 @@ mod NullAdded
 pub mod RowSteps
 pub mod Follow
 pub mod Moved
+pub mod Behind

@@ -1,5 +1,6 @@
 pub mod Derivable
 pub mod Facts
+pub mod Flow
 pub mod Inside
 pub mod Null
 pub mod Rows

@@ -1,5 +1,5 @@
 // The heads of a function: where ways may meet.
-ghost use Rattle.std.specs.Prelude.{◌≡◌, ◌<◌, ℕ, suc, true, IsTrue, IfOk, length, get_or, slice_get, Some};
+ghost use Rattle.std.specs.Prelude.{◌≡◌, ◌<◌, ℕ, true, IsTrue, IfOk, length, slice_get, Some};
 ghost use Rattle.rc_rlang.specs.RegionFlow.{Edge};
 ghost use Rattle.rc_graph.specs.Heads.{AreHeads, LeadsAlone};
 ghost use Rattle.rc_graph.specs.Heading.{AreBegun, AreMarked, IsMarked, Grew};

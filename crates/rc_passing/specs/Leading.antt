@@ -4,7 +4,7 @@ use Rattle.std.specs.Prelude.{◌≡◌, ◌<◌, ◌↔◌, ℕ, suc, List, Boo
 use Rattle.rc_facts.specs.declared.fact.Fact.{Fact}
 use Rattle.rc_facts.specs.Facts.{Known, holds}
 use Rattle.rc_rlang.specs.RegionFlow.{Edge, Node}
-use Rattle.rc_flow.specs.Flow.{no_set, set_at}
+use Rattle.rc_facts.specs.Flow.{no_set, set_at}
 use Rattle.rc_edges.specs.Edges.{Crossed, EffectBelow}
 use Rattle.rc_crossing.specs.Fitting.{CallFits}
 

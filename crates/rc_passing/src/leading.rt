@@ -1,7 +1,7 @@
 // A working set is led over the edges of a node.
 ghost use Rattle.std.specs.Prelude.{◌≡◌, ◌<◌, suc, IfOk, OnOk};
 ghost use Rattle.rc_facts.specs.Facts.{holds};
-ghost use Rattle.rc_flow.specs.Flow.{IsClosed};
+ghost use Rattle.rc_facts.specs.Flow.{IsClosed};
 ghost use Rattle.rc_graph.specs.Nodes.{effect_of, node_of};
 ghost use Rattle.rc_edges.specs.Reading.{Loses};
 ghost use Rattle.rc_passing.specs.Leading.{EdgeLeads, GoesOnAlone, IsLed, LeadsOn, MayFollow, MayLead, NodeLeads};

@@ -1,7 +1,7 @@
 use Rattle.std.proofs.Common.{◌↔◌, IsTrue, subst}
 use Rattle.rc_facts.specs.Derivable.{Derivable}
 use Rattle.rc_facts.specs.Facts.{holds}
-use Rattle.rc_flow.proofs.Flows.{derived_to}
+use Rattle.rc_facts.proofs.Behind.{derived_to}
 use Rattle.rc_crossing.proofs.calls.derive.Goals as goal
 
 pub returns-clause-facts : goal.returns-clause-facts

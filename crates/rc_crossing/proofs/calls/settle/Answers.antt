@@ -1,6 +1,6 @@
 use Rattle.std.proofs.Common.{◌∙◌, sym}
 use Rattle.rc_facts.specs.Facts.{holds}
-use Rattle.rc_flow.proofs.Flows.{settled_same}
+use Rattle.rc_facts.proofs.Behind.{settled_same}
 use Rattle.rc_crossing.proofs.calls.settle.Goals as goal
 
 pub returns-then-not-lacks-clause-facts : goal.returns-then-not-lacks-clause-facts

@@ -1,7 +1,7 @@
 use Rattle.std.proofs.Common.{rules, ◌≡◌, ◌<◌, ◌∷◌, [], ◌∙◌, List, map, length, ap, subst, arith}
 use Rattle.rc_facts.specs.declared.fact.Fact.TheVariants.{In}
 use Rattle.rc_facts.specs.Facts.{holds}
-use Rattle.rc_flow.proofs.Crossings.{behind_nothing, closed_again}
+use Rattle.rc_facts.proofs.Behind.{behind_nothing, closed_again}
 use Rattle.rc_graph.specs.declared.node.Entry.{Entry}
 use Rattle.rc_graph.specs.Nodes.{entry_of}
 use Rattle.rc_edges.specs.Edges.{pairs_below}

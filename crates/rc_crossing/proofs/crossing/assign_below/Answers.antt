@@ -1,7 +1,7 @@
 use Rattle.std.proofs.Common.{◌∷◌, [], arith}
 use Rattle.rc_facts.specs.Facts.{holds}
 use Rattle.rc_facts.specs.declared.fact.Fact.TheVariants.{NonNull, Up}
-use Rattle.rc_flow.proofs.Crossings.{behind_first, closed_again}
+use Rattle.rc_facts.proofs.Behind.{behind_first, closed_again}
 use Rattle.rc_crossing.proofs.crossing.assign_below.Goals as goal
 
 pub assign_under-requires-clause-shut : goal.assign_under-requires-clause-shut

@@ -1,5 +1,5 @@
 use Rattle.rc_facts.specs.Facts.{holds}
-use Rattle.rc_flow.proofs.Crossings.{behind_nothing}
+use Rattle.rc_facts.proofs.Behind.{behind_nothing}
 use Rattle.rc_crossing.proofs.crossing.cross.Goals as goal
 
 pub returns-in-Nothing-clause-facts : goal.returns-in-Nothing-clause-facts

@@ -1,7 +1,7 @@
 use Rattle.std.proofs.Common.{◌∙◌, sym}
 use Rattle.rc_facts.specs.Facts.{holds}
 use Rattle.rc_facts.specs.declared.fact.Fact.TheVariants.{In}
-use Rattle.rc_flow.proofs.Crossings.{behind_known}
+use Rattle.rc_facts.proofs.Behind.{behind_known}
 use Rattle.rc_crossing.proofs.crossing.link.Goals as goal
 
 pub returns-then-has-clause-facts : goal.returns-then-has-clause-facts

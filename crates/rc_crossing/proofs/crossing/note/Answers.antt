@@ -1,5 +1,5 @@
 use Rattle.rc_facts.specs.Facts.{holds}
-use Rattle.rc_flow.proofs.Crossings.{behind_nothing}
+use Rattle.rc_facts.proofs.Behind.{behind_nothing}
 use Rattle.std.proofs.Common.{arith}
 use Rattle.rc_crossing.proofs.crossing.note.Goals as goal
 
