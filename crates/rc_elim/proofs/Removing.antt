@@ -22,7 +22,7 @@ use Rattle.rc_elim.specs.Marking.{AreMarked}
 use Rattle.rc_elim.specs.Masks.{HasPoints, MarksRemovable}
 use Rattle.rc_rlang.specs.RegionFlow.{Effect, nothing, nulled, moved, fixed, beside, made, under, loaded, looked_at, stored, present, absent, called, entered, Edge, Node, routine_nodes}
 use Rattle.rc_annotations.specs.Annotations.{Annotation, asked, asked_of, asked_by, Proven}
-use Rattle.rc_flow.specs.Flow.{set_at}
+use Rattle.rc_facts.specs.Flow.{set_at}
 use Rattle.rc_edges.specs.Edges.{EffectBelow, NodeEdge, spare, kept}
 use Rattle.rc_elim.specs.Asking.{AsksOver, bits_of}
 use Rattle.rc_elim.specs.Masks.{has_asked, is_proven, marks_in}

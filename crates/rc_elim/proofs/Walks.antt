@@ -21,7 +21,7 @@ use Rattle.rc_graph.specs.declared.graph.Graph.{Graph}
 use Rattle.rc_graph.specs.declared.node.Node.{Node as CodeNode}
 use Rattle.rc_graph.specs.Heads.{EdgeOf}
 use Rattle.rc_graph.specs.Nodes.{IsGraph, node_of, nodes_of}
-use Rattle.rc_flow.specs.Flow.{AreShut, Facts as FactsOf, HaveVariables, IsClosed, no_set, set_at}
+use Rattle.rc_facts.specs.Flow.{AreShut, Facts as FactsOf, HaveVariables, IsClosed, no_set, set_at}
 use Rattle.rc_crossing.specs.Fitting.{CallFits}
 use Rattle.rc_edges.specs.Calls.{CallOf}
 use Rattle.rc_edges.specs.News.{places_of}

@@ -5,7 +5,7 @@ use Rattle.rc_rlang.specs.RegionFlow.{Edge, Effect, Node}
 use Rattle.rc_graph.specs.declared.graph.Graph.{Graph}
 use Rattle.rc_graph.specs.Heads.{AreHeads}
 use Rattle.rc_graph.specs.Nodes.{nodes_of}
-use Rattle.rc_flow.specs.Flow.{AreShut, HaveVariables}
+use Rattle.rc_facts.specs.Flow.{AreShut, HaveVariables}
 use Rattle.rc_crossing.specs.Fitting.{CallFits}
 use Rattle.rc_edges.specs.Edges.{EffectBelow}
 use Rattle.rc_edges.specs.Heads.{Spread}

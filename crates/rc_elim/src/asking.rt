@@ -3,10 +3,10 @@ ghost use Rattle.std.specs.Prelude.{◌≡◌, IfOk, length, get_or, option_map,
 ghost use Rattle.rc_rlang.specs.RegionFlow.{Node as RegionNode};
 ghost use Rattle.rc_annotations.specs.Annotations.{asked, asked_by, asked_of};
 ghost use Rattle.rc_facts.specs.Facts.{holds};
-ghost use Rattle.rc_flow.specs.Flow.{no_set};
+ghost use Rattle.rc_facts.specs.Flow.{no_set};
 ghost use Rattle.rc_graph.specs.Nodes.{effect_of, node_of, nodes_of};
 ghost use Rattle.rc_elim.specs.Masks.{asks, is_proven};
-ghost use Rattle.rc_elim.specs.Asking.{AsksOver, bits_of};
+ghost use Rattle.rc_elim.specs.Asking.{AsksOver, ask_anything, bits_of};
 
 use rc_base::NoMemory;
 use rc_core::ty::Note;
@@ -55,6 +55,20 @@ pub(crate) fn asks(nodes: &[Node], point: usize) -> bool
         None => false,
         Some(node) => asked_by(node).is_some(),
     }
+}
+
+/// Whether the check at one of these nodes asks for a fact.
+pub(crate) fn ask_anything(nodes: &[Node]) -> bool
+    ensures { result ≡ ask_anything (nodes_of nodes.now) }
+{
+    let mut rest = nodes;
+    while let [node, more @ ..] = rest {
+        if asked_by(node).is_some() {
+            return true;
+        }
+        rest = more;
+    }
+    false
 }
 
 /// Whether a set has the fact that a node asks.

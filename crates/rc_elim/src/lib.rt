@@ -2,9 +2,11 @@
 #![tactic(auto)]
 
 mod asking;
+mod deciding;
 mod mask;
 mod removal;
 mod walking;
 
+pub use deciding::needless;
 pub use mask::Mask;
 pub use removal::removable;

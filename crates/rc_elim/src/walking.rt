@@ -1,12 +1,12 @@
 // A walk through a function: what is known before each of its points, where it is kept at heads alone.
-ghost use Rattle.std.specs.Prelude.{◌≡◌, ◌<◌, ℕ, suc, List, IfOk, OnOk, length, get_or, option_map, true, false};
+ghost use Rattle.std.specs.Prelude.{◌≡◌, ◌<◌, ℕ, suc, List, IfOk, OnOk, length, get_or, option_map, replicate, true, false};
 ghost use Rattle.rc_facts.specs.Facts.{Known, holds};
-ghost use Rattle.rc_flow.specs.Flow.{set_at};
+ghost use Rattle.rc_facts.specs.Flow.{set_at};
 ghost use Rattle.rc_graph.specs.Nodes.{effect_of, node_of, nodes_of};
 ghost use Rattle.rc_elim.specs.Asking.{bits_of};
 ghost use Rattle.rc_elim.specs.Walking.{AreAll, Walkable, effect_to};
 
-use crate::asking::is_proven;
+use crate::asking::{ask_anything, is_proven};
 use rc_base::NoMemory;
 use rc_crossing::cross;
 use rc_facts::FactSet;
@@ -78,12 +78,9 @@ fn go_on(way: &Way<'_>, _sets: &[FactSet], work: &mut FactSet, at: usize) -> Res
     cross(way.alloc, work, effect, way.exits, way.graph.result)
 }
 
-/// For each node whether what is known before it has the fact that it asks.
-///
-/// # Errors
-///
-/// Out of memory.
-pub(crate) fn proven(way: &Way<'_>, sets: &[FactSet]) -> Result<Vec<bool>, NoMemory>
+/// For each node whether what is known before it has the fact that it asks, in a walk from the first
+/// node to the last.
+fn walked(way: &Way<'_>, sets: &[FactSet]) -> Result<Vec<bool>, NoMemory>
     requires { Walkable way.now.graph.now way.now.exits.now sets.now }
     ensures { (all : List Known) → AreAll way.now.graph.now way.now.exits.now sets.now all → IfOk result (λ bits. bits.items ≡ bits_of (nodes_of way.now.graph.now.nodes.items) all) }
 {
@@ -96,4 +93,28 @@ pub(crate) fn proven(way: &Way<'_>, sets: &[FactSet]) -> Result<Vec<bool>, NoMem
         go_on(way, sets, &mut work, at)?;
     }
     Ok(bits)
+}
+
+/// So many bits of which none is set.
+fn no_marks(alloc: Global, count: usize) -> Result<Vec<bool>, NoMemory>
+    ensures { IfOk result (λ bits. bits.items ≡ replicate count false) }
+{
+    Ok(Vec::from_elem(alloc, false, count)?)
+}
+
+/// For each node whether what is known before it has the fact that it asks. Nodes that ask for nothing
+/// are not walked through.
+///
+/// # Errors
+///
+/// Out of memory.
+pub(crate) fn proven(way: &Way<'_>, sets: &[FactSet]) -> Result<Vec<bool>, NoMemory>
+    requires { Walkable way.now.graph.now way.now.exits.now sets.now }
+    ensures { (all : List Known) → AreAll way.now.graph.now way.now.exits.now sets.now all → IfOk result (λ bits. bits.items ≡ bits_of (nodes_of way.now.graph.now.nodes.items) all) }
+{
+    let nodes = way.graph.nodes.as_slice();
+    if ask_anything(nodes) {
+        return walked(way, sets);
+    }
+    no_marks(way.alloc, nodes.len())
 }

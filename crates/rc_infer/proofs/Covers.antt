@@ -15,8 +15,8 @@ use Rattle.rc_rlang.specs.RegionFlow.{Effect, nothing, nulled, moved, fixed, bes
 use Rattle.rc_rlang.specs.RegionVariables.{routine_temporaries}
 use Rattle.rc_annotations.specs.Annotations.{Annotation, Consistent}
 use Rattle.rc_annotations.specs.Heights.{temporaries_in, temporaries_of}
-use Rattle.rc_flow.specs.Flow.{no_set, set_at}
-use Rattle.rc_flow.proofs.Flows.{derivable_cut}
+use Rattle.rc_facts.specs.Flow.{no_set, set_at}
+use Rattle.rc_facts.proofs.Table.{follows_cut}
 use Rattle.rc_graph.specs.declared.graph.Graph.{Graph}
 use Rattle.rc_graph.specs.Heads.{EdgeOf}
 use Rattle.rc_graph.specs.Nodes.{AreGraphs, IsGraph, nodes_of, node_of}
@@ -263,7 +263,7 @@ module _ (r : Rlang) (graphs : List Graph) (is : IsRlang r) (own : AreGraphs r (
       where
         again : (p : ℕ) (fact : Fact) → names (spare f (temporaries_of r g)) fact ≡ false → Derivable (kept f (temporaries_of r g)) (holds (get_or l.row p no_set)) fact → came_stays p fact
         again p fact apart d e = (
-          derivable_cut (λ q k. (((l.loses.facts p q).0 k).1 e).0) (subst (λ n. Derivable (suc n) (holds (get_or l.row p no_set)) fact) (sym result_is) d),
+          follows_cut (λ q k. (((l.loses.facts p q).0 k).1 e).0) (subst (λ n. Derivable (suc n) (holds (get_or l.row p no_set)) fact) (sym result_is) d),
           subst (λ n. names n fact ≡ false) (sym result_is) apart,
         )
 

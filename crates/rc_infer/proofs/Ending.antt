@@ -11,7 +11,7 @@ use Rattle.rc_rlang.specs.RegionFlow.{Node, copies, routine_nodes}
 use Rattle.rc_rlang.specs.Shapes.{rlang_of}
 use Rattle.rc_rlang.specs.declared.code.RegionParts.{RegionParts}
 use Rattle.rc_annotations.specs.Heights.{temporaries_in, temporaries_of}
-use Rattle.rc_flow.specs.Flow.{no_set, set_at}
+use Rattle.rc_facts.specs.Flow.{no_set, set_at}
 use Rattle.rc_graph.specs.declared.graph.Graph.{Graph}
 use Rattle.rc_graph.specs.Nodes.{AreGraphs, IsGraph, node_of, nodes_of}
 use Rattle.rc_edges.specs.Boundaries.{NodeReturns}

@@ -2,7 +2,7 @@
 use Rattle.std.proofs.Common.{◌≡◌, ℕ, zero, suc, ◌+◌, ◌<◌, ◌≤◌, Bool, true, false, List, [], ◌∷◌, length, get_or, refl, sym, ap, ◌∙◌, arith, ◌⊎◌, inl, inr}
 use Rattle.std.specs.Prelude.{slice_set}
 use Rattle.rc_facts.specs.Facts.{Known}
-use Rattle.rc_flow.specs.Flow.{no_set}
+use Rattle.rc_facts.specs.Flow.{no_set}
 
 pub side : (a b : ℕ) → (a < b) ⊎ (b ≤ a)
 side a b = grind arith

@@ -9,7 +9,7 @@ use Rattle.rc_facts.specs.Facts.{Known, holds, is_over}
 use Rattle.rc_rlang.specs.IsRlang.{IsRlang}
 use Rattle.rc_rlang.specs.RegionCode.{Routine, Rlang}
 use Rattle.rc_annotations.specs.Heights.{temporaries_in, temporaries_of}
-use Rattle.rc_flow.specs.Flow.{no_set, set_at}
+use Rattle.rc_facts.specs.Flow.{no_set, set_at}
 use Rattle.rc_edges.specs.Edges.{spare}
 use Rattle.rc_edges.specs.Families.{Family, Owned}
 use Rattle.rc_edges.specs.Searching.{Full}

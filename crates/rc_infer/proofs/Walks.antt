@@ -12,7 +12,7 @@ use Rattle.rc_rlang.specs.RegionCode.{Rlang}
 use Rattle.rc_rlang.specs.IsRlang.{IsRlang}
 use Rattle.rc_rlang.specs.RegionFlow.{Edge, Node}
 use Rattle.rc_annotations.specs.Heights.{temporaries_of}
-use Rattle.rc_flow.specs.Flow.{IsClosed, facts_in, no_set, set_at}
+use Rattle.rc_facts.specs.Flow.{IsClosed, facts_in, no_set, set_at}
 use Rattle.rc_graph.specs.declared.graph.Graph.{Graph}
 use Rattle.rc_graph.specs.Heads.{EdgeOf}
 use Rattle.rc_graph.specs.Nodes.{AreGraphs, nodes_of}

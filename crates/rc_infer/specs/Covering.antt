@@ -5,7 +5,7 @@ use Rattle.rc_facts.specs.Facts.{Known}
 use Rattle.rc_rlang.specs.RegionCode.{Rlang}
 use Rattle.rc_rlang.specs.RegionFlow.{Node}
 use Rattle.rc_rlang.specs.IsRlang.{IsRlang}
-use Rattle.rc_flow.specs.Flow.{facts_in, no_set}
+use Rattle.rc_facts.specs.Flow.{facts_in, no_set}
 use Rattle.rc_graph.specs.declared.graph.Graph.{Graph}
 use Rattle.rc_graph.specs.Heads.{AreHeads}
 use Rattle.rc_graph.specs.Nodes.{AreGraphs, nodes_of}

@@ -5,7 +5,7 @@ use Rattle.rc_facts.specs.Facts.{Known, holds, is_over, names}
 use Rattle.rc_rlang.specs.RegionCode.{Routine, Rlang}
 use Rattle.rc_rlang.specs.RegionFlow.{copies, routine_nodes}
 use Rattle.rc_annotations.specs.Heights.{temporaries_of}
-use Rattle.rc_flow.specs.Flow.{no_set}
+use Rattle.rc_facts.specs.Flow.{no_set}
 use Rattle.rc_graph.specs.declared.graph.Graph.{Graph}
 use Rattle.rc_edges.specs.Edges.{spare}
 use Rattle.rc_edges.specs.Families.{Family}

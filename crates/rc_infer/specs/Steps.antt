@@ -4,7 +4,7 @@ use Rattle.rc_facts.specs.declared.fact.Fact.{Fact}
 use Rattle.rc_facts.specs.Derivable.{Derivable}
 use Rattle.rc_facts.specs.Facts.{Known, holds, is_over, names}
 use Rattle.rc_rlang.specs.RegionFlow.{Node}
-use Rattle.rc_flow.specs.Flow.{no_set}
+use Rattle.rc_facts.specs.Flow.{no_set}
 use Rattle.rc_graph.specs.declared.graph.Graph.{Graph}
 use Rattle.rc_edges.specs.Boundaries.{NodeGives, NodeReturns}
 use Rattle.rc_edges.specs.Families.{Family}

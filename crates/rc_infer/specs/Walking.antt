@@ -4,7 +4,7 @@ use Rattle.rc_facts.specs.declared.fact.Fact.{Fact}
 use Rattle.rc_facts.specs.Facts.{Known, holds}
 use Rattle.rc_rlang.specs.RegionCode.{Rlang}
 use Rattle.rc_rlang.specs.RegionFlow.{Edge, Node}
-use Rattle.rc_flow.specs.Flow.{no_set, set_at}
+use Rattle.rc_facts.specs.Flow.{no_set, set_at}
 use Rattle.rc_graph.specs.declared.graph.Graph.{Graph}
 use Rattle.rc_graph.specs.Heads.{EdgeOf}
 use Rattle.rc_graph.specs.Nodes.{nodes_of}

@@ -9,7 +9,11 @@ use rc_rlang::rlang::Rlang;
 use std::alloc::Global;
 
 /// The graph of each function, in their order.
-pub(crate) fn graphs(alloc: Global, code: &Rlang) -> Result<Vec<Graph>, NoMemory>
+///
+/// # Errors
+///
+/// Out of memory.
+pub fn graphs_of(alloc: Global, code: &Rlang) -> Result<Vec<Graph>, NoMemory>
     ensures { IfOk result (λ all. AreGraphs (rlang_of code.now) (length (rlang_of code.now).functions) all.items) }
 {
     let parts = code.parts();

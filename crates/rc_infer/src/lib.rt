@@ -14,4 +14,5 @@ mod turns;
 mod waiting;
 mod walk;
 
-pub use rounds::infer;
+pub use graphs::graphs_of;
+pub use rounds::{infer, infer_over};

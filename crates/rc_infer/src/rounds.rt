@@ -3,16 +3,18 @@ ghost use Rattle.std.specs.Prelude.{length, IfOk, OnOk};
 ghost use Rattle.rc_rlang.specs.Shapes.{rlang_of};
 ghost use Rattle.rc_edges.specs.Heads.{Inferred};
 ghost use Rattle.rc_edges.specs.Inferred.{family_of};
+ghost use Rattle.rc_graph.specs.Nodes.{AreGraphs};
 ghost use Rattle.rc_infer.specs.Covering.{Turning};
 ghost use Rattle.rc_infer.specs.Walking.{Found, Rounded};
 
-use crate::graphs::graphs;
+use crate::graphs::graphs_of;
 use crate::start::full;
 use crate::steps::Place;
 use crate::turns::sweep;
 use crate::walk::{Field, walk};
 use rc_base::NoMemory;
 use rc_edges::Facts;
+use rc_graph::Graph;
 use rc_rlang::rlang::Rlang;
 use std::alloc::Global;
 
@@ -45,16 +47,16 @@ fn search(field: &Field<'_>, facts: &mut Facts) -> Result<(), NoMemory>
     }
 }
 
-/// The greatest consistent facts of region code. Heads have their turns until none waits for one; a
-/// round through all functions that loses nothing shows that the facts are consistent.
+/// The greatest consistent facts of region code, whose graphs these are. Heads have their turns until none
+/// waits for one; a round through all functions that loses nothing shows that the facts are consistent.
 ///
 /// # Errors
 ///
 /// Out of memory.
-pub fn infer(alloc: Global, code: &Rlang) -> Result<Facts, NoMemory>
+pub fn infer_over(alloc: Global, code: &Rlang, graphs: Vec<Graph>) -> Result<Facts, NoMemory>
+    requires { AreGraphs (rlang_of code.now) (length (rlang_of code.now).functions) graphs.items }
     ensures { IfOk result (Inferred code.now) }
 {
-    let graphs = graphs(alloc, code)?;
     let mut facts = full(alloc, code, graphs.as_slice())?;
     let field = Field {
         alloc,
@@ -64,4 +66,16 @@ pub fn infer(alloc: Global, code: &Rlang) -> Result<Facts, NoMemory>
     search(&field, &mut facts)?;
     facts.graphs = graphs;
     Ok(facts)
+}
+
+/// The greatest consistent facts of region code.
+///
+/// # Errors
+///
+/// Out of memory.
+pub fn infer(alloc: Global, code: &Rlang) -> Result<Facts, NoMemory>
+    ensures { IfOk result (Inferred code.now) }
+{
+    let graphs = graphs_of(alloc, code)?;
+    infer_over(alloc, code, graphs)
 }

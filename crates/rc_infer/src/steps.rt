@@ -1,7 +1,7 @@
 // The steps of a walk at one point of a function, of the facts of all functions.
 ghost use Rattle.std.specs.Prelude.{◌≡◌, ◌<◌, ◌≤◌, suc, true, false, [], IfOk, OnOk, length, get_or};
 ghost use Rattle.rc_facts.specs.Facts.{holds};
-ghost use Rattle.rc_flow.specs.Flow.{IsClosed, no_set};
+ghost use Rattle.rc_facts.specs.Flow.{IsClosed, no_set};
 ghost use Rattle.rc_graph.specs.Nodes.{node_of};
 ghost use Rattle.rc_edges.specs.Boundaries.{NodeReady, ReturnReady};
 ghost use Rattle.rc_edges.specs.Inferred.{family_of};

@@ -1,9 +1,8 @@
-use Rattle.std.proofs.Common.{◌≡◌, ◌∙◌, List, Some, length, ap, sym, subst, map}
+use Rattle.std.proofs.Common.{◌≡◌, ◌∙◌, List, Some, length, ap, sym, map}
 use Rattle.std.specs.Prelude.{slice_get, option_map}
 use Rattle.std.proofs.lemmas.Bool.{ltb-true}
 use Rattle.std.proofs.lemmas.Option.{slice_get-get_or}
 use Rattle.rc_core.specs.Shapes.{struct_of}
-use Rattle.rc_core.specs.WellTyped.{StructsFit}
 use Rattle.rc_rlang.specs.RegionFlow.{routine_nodes}
 use Rattle.rc_rlang.specs.Shapes.{rlang_of, routine_in}
 use Rattle.rc_rlang.specs.declared.code.RegionParts.{RegionParts}

@@ -1,6 +1,6 @@
 use Rattle.std.proofs.Common.{rules, ◌≡◌, ◌+◌, ◌↔◌, sym, subst, IsTrue}
 use Rattle.rc_facts.specs.Facts.{holds}
-use Rattle.rc_flow.specs.Flow.{Behind, IsClosed, set_at}
+use Rattle.rc_facts.specs.Flow.{Behind, IsClosed, set_at}
 use Rattle.rc_rlang.specs.RegionFlow.{assigned}
 use Rattle.rc_edges.specs.News.{news_of}
 use Rattle.rc_graph.specs.Nodes.{effect_of}

@@ -1,5 +1,5 @@
 use Rattle.std.proofs.Common.{get_or, sym, subst}
-use Rattle.rc_flow.specs.Flow.{no_set}
+use Rattle.rc_facts.specs.Flow.{no_set}
 use Rattle.rc_edges.specs.Reading.{Loses}
 use Rattle.rc_infer.specs.Steps.{FollowsEntry}
 use Rattle.rc_infer.proofs.Places.{if_ok, row_lost, stands}

@@ -1,6 +1,4 @@
-use Rattle.std.proofs.Common.{◌∙◌, sym, ap, subst, map}
-use Rattle.rc_core.specs.Shapes.{struct_of}
-use Rattle.rc_core.specs.WellTyped.{StructsFit}
+use Rattle.std.proofs.Common.{◌∙◌, ap}
 use Rattle.rc_rlang.specs.Shapes.{rlang_of}
 use Rattle.rc_elim.specs.Masks.{no_marks, rows_of}
 use Rattle.rc_elim.proofs.Unmarked.{all_points, nothing_marked}

@@ -1,11 +1,11 @@
 use Rattle.std.proofs.Common.{◌≡◌, ◌++◌, List, drop, get_or, suc}
 use Rattle.std.specs.Prelude.{true, false}
 use Rattle.rc_facts.specs.Facts.{Known, holds}
-use Rattle.rc_flow.specs.Flow.{set_at}
+use Rattle.rc_facts.specs.Flow.{set_at}
 use Rattle.rc_graph.specs.Nodes.{nodes_of}
 use Rattle.rc_elim.specs.Asking.{bits_of}
 use Rattle.rc_elim.specs.Walking.{AreAll}
-use Rattle.rc_elim.proofs.walking.proven.Given as goal
+use Rattle.rc_elim.proofs.walking.walked.Given as goal
 
 abbrev pub invariant-loop-at : goal.invariant-loop-at
 invariant-loop-at l = record {

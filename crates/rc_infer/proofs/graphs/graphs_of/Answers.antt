@@ -5,7 +5,7 @@ use Rattle.rc_rlang.specs.Shapes.{rlang_of, routine_in}
 use Rattle.rc_graph.specs.Nodes.{AreGraphs}
 use Rattle.rc_infer.proofs.Places.{found}
 use Rattle.rc_infer.proofs.GraphLists.{graphs_none, graphs_more}
-use Rattle.rc_infer.proofs.graphs.graphs.Goals as goal
+use Rattle.rc_infer.proofs.graphs.graphs_of.Goals as goal
 
 pub loop-g-init : goal.loop-g-init
 loop-g-init c = graphs_none (rlang_of c.args.code.now) c.new-all.result.items c.new-all.ensures.items
