@@ -15,8 +15,7 @@ use rc_base::NoMemory;
 use rc_code::Image;
 use rc_core::program::Program;
 use rc_elab::{ElabFault, elaborate};
-use rc_elim::removable;
-use rc_infer::infer;
+use rc_elim::needless;
 use rc_live::live;
 use rc_rlang::rlang::Rlang;
 use std::alloc::Global;
@@ -30,8 +29,7 @@ fn without_needless_checks(alloc: Global, code: &Rlang) -> Result<Image, NoMemor
     ensures { IfOk result (IsWithoutNeedlessChecks (rlang_of code.now)) }
 {
     let lists = live(alloc, code)?;
-    let facts = infer(alloc, code)?;
-    let mask = removable(alloc, code, &facts)?;
+    let mask = needless(alloc, code)?;
     emit(alloc, code, &lists, &mask)
 }
 

@@ -1,2 +1,3 @@
 mod Cells
 pub mod One
+mod Inspecting
