@@ -4,5 +4,3 @@ pub mod Loop
 pub mod Codecs
 pub mod Fields
 pub mod Wholes
-mod Indices
-mod Made

@@ -102,7 +102,7 @@ fn read_global<'b>(
 }
 
 /// The cells of a type, none where there is no such type.
-pub(crate) fn cells_of(types: &[Items<Cell>], type_number: u32) -> &[Cell]
+pub fn cells_of(types: &[Items<Cell>], type_number: u32) -> &[Cell]
     ensures { result.now ≡ cells_at types.now type_number }
 {
     match types.get(type_number as usize) {

@@ -36,7 +36,7 @@ fn read_cells(
 ) -> Result<(Vec<Cell>, &[u8]), Stop>
     ensures { Gives (λ x. (x.0.items, x.1.now)) result (many (cell_at types) count bytes.now) }
 {
-    let mut items = Vec::new(alloc);
+    let mut items = Vec::with_capacity(alloc, bytes.len().min(count as usize))?;
     let mut rest = bytes;
     for _ in 0..count {
         let (item, after) = read_cell(types, rest)?;
@@ -65,7 +65,7 @@ fn read_type_list(
 ) -> Result<(Vec<Items<Cell>>, &[u8]), Stop>
     ensures { Gives (λ x. (x.0.items, x.1.now)) result (many (type_at types) count bytes.now) }
 {
-    let mut items = Vec::new(alloc);
+    let mut items = Vec::with_capacity(alloc, (bytes.len() / 2).min(count as usize))?;
     let mut rest = bytes;
     for _ in 0..count {
         let (item, after) = read_type(alloc, types, rest)?;
@@ -127,7 +127,7 @@ pub fn read_locals(
 ) -> Result<(Vec<Storage>, &[u8]), Stop>
     ensures { Gives (λ x. (x.0.items, x.1.now)) result (many (storage_at types) count bytes.now) }
 {
-    let mut items = Vec::new(alloc);
+    let mut items = Vec::with_capacity(alloc, bytes.len().min(count as usize))?;
     let mut rest = bytes;
     for _ in 0..count {
         let (item, after) = read_local(types, rest)?;

@@ -11,7 +11,8 @@ use crate::fault::ImageFault;
 use crate::functions::read_functions;
 use crate::version::Version;
 use rc_code::{Image, Items, Parts};
-use rc_fields::{Stop, read_globals, read_paths, read_types, read_within};
+use rc_fields::{Stop, read_globals, read_types, read_within};
+use rc_path_rules::read_paths;
 use std::alloc::Global;
 
 /// Reads a letter of the magic.

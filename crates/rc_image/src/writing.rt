@@ -7,7 +7,8 @@ use crate::functions::write_functions;
 use crate::version::Version;
 use rc_base::NoMemory;
 use rc_code::{Image, Parts};
-use rc_fields::{write_globals, write_number, write_paths, write_types};
+use rc_fields::{write_globals, write_number, write_types};
+use rc_path_rules::write_paths;
 use std::alloc::{AllocError, Global};
 
 /// Writes the magic and the version.

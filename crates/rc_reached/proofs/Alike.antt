@@ -77,7 +77,7 @@ each_shift g h (suc n) s d p same =
     let order : s + (d + p) ≡ d + (s + p) = omega arith in
     ap (λ b. b && at_each g n s (s + (d + p))) (same p) ∙ ap (λ b. h p && b) (ap (at_each g n s) order ∙ each_shift g h n s d (s + p) same)
 
-each_from : (g h : ℕ → Bool) (n s : ℕ) → 0 < n → ((k : ℕ) → g (s + k) ≡ h k) → at_each g n s 0 ≡ (g 0 && at_each h (n - 1) s 0)
+pub each_from : (g h : ℕ → Bool) (n s : ℕ) → 0 < n → ((k : ℕ) → g (s + k) ≡ h k) → at_each g n s 0 ≡ (g 0 && at_each h (n - 1) s 0)
 each_from g h n s lt same = each_more g n s 0 lt ∙ ap (λ b. g 0 && b) (each_shift g h (n - 1) s s 0 same)
 
 pub one_further : (c : Cell) (from : List Cell) (n s : ℕ) → 0 < n → at_each (is_there c from) n s 0 ≡ (is_there c from 0 && at_each (is_there c (drop s from)) (n - 1) s 0)
@@ -183,12 +183,16 @@ one_first indices cells p (first ∷ rest) d some is fit =
     let at : slice_get cells p ≡ Some first = ap (slice_get cells) none ∙ sym (slice_get_from p 0 cells) ∙ ap (λ xs. slice_get xs 0) (sym is) in
     ap (λ xs. at_all (is_there first xs) indices 0) is ∙ one_there indices cells p first at fit
 
-pub one_marked : (indices : List Index) (cells : List Cell) (p : ℕ) (words : List ℕ) → IsMaskOf cells p words → AreFit indices (drop p cells) → at_all (marks words) indices p ≡ true → has_one_kind indices (drop p cells) ≡ true
-one_marked indices cells p words mask fit all = by (slice_get cells p) refl
+-- where all cells are as the one at the place, whichever that is
+pub one_everywhere : (indices : List Index) (cells : List Cell) (p : ℕ) → AreFit indices (drop p cells) → ((c : Cell) → slice_get cells p ≡ Some c → at_all (is_there c cells) indices p ≡ true) → has_one_kind indices (drop p cells) ≡ true
+one_everywhere indices cells p fit all = by (slice_get cells p) refl
   where
     by : (o : Option Cell) → slice_get cells p ≡ o → has_one_kind indices (drop p cells) ≡ true
     by None e = let low = reach_low indices cells p fit in absurd (found e low)
       where
         found : slice_get cells p ≡ None → p + span indices < length cells → ⊥
         found none low = let some = slice_get-get_or cells p cell.Region (omega (arith, low)) in cc
-    by (Some c) e = sym (one_by_all indices cells p c e fit) ∙ by_mask c cells words indices p (mask c e) all
+    by (Some c) e = sym (one_by_all indices cells p c e fit) ∙ all c e
+
+pub one_marked : (indices : List Index) (cells : List Cell) (p : ℕ) (words : List ℕ) → IsMaskOf cells p words → AreFit indices (drop p cells) → at_all (marks words) indices p ≡ true → has_one_kind indices (drop p cells) ≡ true
+one_marked indices cells p words mask fit all = one_everywhere indices cells p fit (λ c e. by_mask c cells words indices p (mask c e) all)

@@ -2,4 +2,5 @@ pub mod Rules
 pub mod Along
 pub mod Rows
 pub mod Alike
+pub mod Numbers
 pub mod Narrowing

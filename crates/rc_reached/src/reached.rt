@@ -3,8 +3,10 @@ ghost use Rattle.std.specs.Prelude.{◌≡◌, ◌≤◌, length, drop, IfOk};
 ghost use Rattle.rc_code.specs.Reached.{has_one_kind};
 ghost use Rattle.rc_reached.specs.Walks.{AreFit};
 ghost use Rattle.rc_reached.specs.Masks.{IsMaskOf};
+ghost use Rattle.rc_reached.specs.Numbered.{IsNumbered};
 
 use crate::masks::are_marked;
+use crate::numbered::{Numbered, is_one_numbered};
 use crate::walks::{are_alike, cells_from};
 use rc_code::{Cell, Index};
 use std::alloc::{AllocError, Global};
@@ -53,6 +55,30 @@ pub fn has_one_kind_marked(
 {
     let marked = are_marked(alloc, mask, indices, place)?;
     if marked {
+        return Ok(true);
+    }
+    let is_one = has_one_kind(alloc, indices, cells, place)?;
+    Ok(is_one)
+}
+
+/// Whether all cells that the indices lead to from a place on are as the one there, by a row of numbers.
+/// Where one number is at all these places it looks at no cell; else they are looked at one by one.
+///
+/// # Errors
+///
+/// Out of memory.
+pub fn has_one_kind_numbered(
+    alloc: Global,
+    indices: &[Index],
+    cells: &[Cell],
+    place: usize,
+    row: &Numbered,
+) -> Result<bool, AllocError>
+    requires fit { AreFit indices.now (drop place cells.now) }
+    requires is { IsNumbered cells.now row.now }
+    ensures { IfOk result (λ is_one. is_one ≡ has_one_kind indices.now (drop place cells.now)) }
+{
+    if is_one_numbered(indices, row, place) {
         return Ok(true);
     }
     let is_one = has_one_kind(alloc, indices, cells, place)?;
