@@ -11,7 +11,7 @@ use Rattle.rc_facts.specs.Derivable.{Derivable, stated}
 use Rattle.rc_facts.specs.Facts.{Known, holds, is_over, names, same_fact, replaced, with_replaced}
 use Rattle.rc_facts.proofs.Sets.{same_fact-true}
 use Rattle.rc_facts.specs.Shut.{together}
-use Rattle.rc_flow.specs.Flow.{Facts, Behind}
+use Rattle.rc_facts.specs.Flow.{Facts, Behind}
 use Rattle.rc_annotations.proofs.Derivations.{derivable_cut, derivable_more}
 use Rattle.rc_rlang.specs.RegionFlow.{Effect, nothing, nulled, moved, fixed, beside, made, under, loaded, looked_at, stored, present, absent, called, entered, assigned}
 use Rattle.std.proofs.lemmas.List.Elements.{All-head, All-tail}

@@ -9,7 +9,7 @@ use Rattle.rc_facts.specs.Derivable.{Derivable, stated, in_itself, in_through, u
 use Rattle.rc_facts.specs.Facts.{is_over, names, same_fact, with_replaced, replaced}
 use Rattle.rc_facts.proofs.Closes.{derivable_over}
 use Rattle.rc_facts.specs.Shut.{together}
-use Rattle.rc_flow.specs.Flow.{Facts, Behind}
+use Rattle.rc_facts.specs.Flow.{Facts, Behind}
 use Rattle.rc_annotations.proofs.Derivations.{derivable_cut}
 use Rattle.rc_carrying.proofs.Crossed.{derivable_replaced, replaced_under}
 use Rattle.rc_sealed.specs.Carrying.{speaks}

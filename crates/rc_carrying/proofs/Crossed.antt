@@ -8,7 +8,7 @@ use Rattle.rc_facts.specs.Facts.{same_fact, replaced, with_replaced}
 use Rattle.rc_facts.proofs.Sets.{same_fact-true}
 use Rattle.rc_annotations.specs.Annotations.{fact_with}
 use Rattle.rc_edges.proofs.Renaming.{derivable_under}
-use Rattle.rc_flow.specs.Flow.{Facts}
+use Rattle.rc_facts.specs.Flow.{Facts}
 use Rattle.rc_crossing.specs.Fitting.{lacks}
 use Rattle.rc_carrying.specs.Passing.{listed}
 

@@ -6,7 +6,7 @@ use Rattle.std.proofs.lemmas.Bool.{and_parts, and_from, or_cases, or_left, or_ri
 use Rattle.rc_facts.specs.declared.fact.Fact.{Fact}
 use Rattle.rc_facts.specs.declared.fact.Fact.TheVariants.{In, Up, Trad, NonNull}
 use Rattle.rc_facts.specs.Facts.{is_over, names, same_fact, with_replaced}
-use Rattle.rc_flow.specs.Flow.{Facts, Behind}
+use Rattle.rc_facts.specs.Flow.{Facts, Behind}
 use Rattle.rc_sealed.specs.Carrying.{is_assigned, speaks}
 use Rattle.rc_carrying.specs.Left.{is_own, stay, HasOwn, IsClosed, OwnOver, Left}
 use Rattle.rc_carrying.proofs.Closed.{own_derived, own_replaced, behind_over}

@@ -5,7 +5,7 @@ use Rattle.rc_facts.specs.declared.fact.Fact.{Fact}
 use Rattle.rc_facts.specs.Derivable.{stated}
 use Rattle.rc_facts.specs.Facts.{Known, names}
 use Rattle.rc_facts.specs.Shut.{together}
-use Rattle.rc_flow.specs.Flow.{Facts}
+use Rattle.rc_facts.specs.Flow.{Facts}
 use Rattle.rc_annotations.proofs.Derivations.{derivable_more}
 use Rattle.rc_rlang.specs.RegionFlow.{nothing}
 use Rattle.rc_sealed.specs.Carrying.{speaks}

@@ -7,8 +7,8 @@ use Rattle.rc_facts.specs.Derivable.{Derivable, stated}
 use Rattle.rc_facts.specs.declared.fact.Fact.TheVariants.{In, Up}
 use Rattle.rc_facts.specs.Facts.{Known, is_over, names, same_fact}
 use Rattle.rc_facts.specs.Shut.{together}
-use Rattle.rc_flow.specs.Flow.{Facts, Behind, set_at}
-use Rattle.rc_flow.specs.Flow.{IsClosed as IsShutOn}
+use Rattle.rc_facts.specs.Flow.{Facts, Behind, set_at}
+use Rattle.rc_facts.specs.Flow.{IsClosed as IsShutOn}
 use Rattle.rc_annotations.specs.Annotations.{Annotation}
 use Rattle.rc_annotations.proofs.Derivations.{derivable_cut, derivable_more}
 use Rattle.rc_rlang.specs.RegionFlow.{Effect, assigned}

@@ -9,7 +9,7 @@ use Rattle.rc_facts.specs.Facts.{Known, holds, is_over, names, same_fact}
 use Rattle.rc_facts.specs.declared.fact.Fact.TheVariants.{In, Up, Trad, NonNull}
 use Rattle.rc_facts.proofs.Closes.{derivable_over}
 use Rattle.rc_facts.proofs.Sets.{same_fact-true}
-use Rattle.rc_flow.specs.Flow.{Facts, set_at}
+use Rattle.rc_facts.specs.Flow.{Facts, set_at}
 use Rattle.rc_annotations.proofs.Derivations.{derivable_cut, derivable_more}
 use Rattle.rc_rlang.specs.RegionFlow.{Effect, assigned}
 use Rattle.rc_annotations.specs.Annotations.{Annotation, exit_facts}

@@ -3,7 +3,7 @@ use Rattle.std.specs.Prelude.{◌<◌, ℕ, Bool, IsTrue, List, Option, IfSome, 
 use Rattle.std.specs.List.{All}
 use Rattle.rc_facts.specs.declared.fact.Fact.{Fact}
 use Rattle.rc_facts.specs.Facts.{Known, holds, is_over}
-use Rattle.rc_flow.specs.Flow.{Facts}
+use Rattle.rc_facts.specs.Flow.{Facts}
 use Rattle.rc_rlang.specs.RegionFlow.{assigned}
 use Rattle.rc_annotations.specs.Annotations.{Annotation, exit_facts}
 use Rattle.rc_edges.specs.Edges.{AreNews, EffectBelow, renewed}

@@ -4,7 +4,7 @@ use Rattle.rc_facts.specs.declared.fact.Fact.{Fact}
 use Rattle.rc_facts.specs.declared.fact.Fact.TheVariants.{In, Up, Trad, NonNull}
 use Rattle.rc_facts.specs.Facts.{is_over, names}
 use Rattle.rc_facts.specs.Derivable.{Derivable}
-use Rattle.rc_flow.specs.Flow.{Facts, Behind}
+use Rattle.rc_facts.specs.Flow.{Facts, Behind}
 use Rattle.rc_sealed.specs.Carrying.{is_assigned, speaks}
 
 -- a variable is in its own region, and above itself

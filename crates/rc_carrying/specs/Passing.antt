@@ -5,7 +5,7 @@ use Rattle.rc_facts.specs.declared.fact.Fact.{Fact}
 use Rattle.rc_facts.specs.Facts.{Known, is_over, same_fact}
 use Rattle.rc_rlang.specs.RegionFlow.{Effect, assigned}
 use Rattle.rc_annotations.specs.Annotations.{Annotation}
-use Rattle.rc_flow.specs.Flow.{Facts, set_at}
+use Rattle.rc_facts.specs.Flow.{Facts, set_at}
 use Rattle.rc_edges.specs.Edges.{EffectBelow, renewed}
 use Rattle.rc_edges.specs.News.{news_of}
 use Rattle.rc_graph.specs.Nodes.{effect_of}

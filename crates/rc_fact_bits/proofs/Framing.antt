@@ -4,7 +4,7 @@ use Rattle.std.specs.List.{list_any, AllByRecursion as Every}
 use Rattle.std.proofs.lemmas.Bool.{cases_lt, cases_eq, lt-ltb}
 use Rattle.rc_facts.specs.declared.fact.Fact.{Fact}
 use Rattle.rc_facts.specs.Facts.{Known, holds, is_over}
-use Rattle.rc_flow.specs.Flow.{no_set, set_at}
+use Rattle.rc_facts.specs.Flow.{no_set, set_at}
 use Rattle.rc_claims.specs.declared.proofs.Frame.{Frame}
 use Rattle.rc_claims.specs.Counts.{trues, one_if}
 use Rattle.rc_claims.specs.Bits.{claims, BitsFit}

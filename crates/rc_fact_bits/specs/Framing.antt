@@ -3,7 +3,7 @@ use Rattle.std.specs.Prelude.{◌≡◌, ℕ, ◌<◌, Bool, false, ◌&&◌, na
 use Rattle.std.specs.List.{list_any, AllByRecursion as Every}
 use Rattle.rc_facts.specs.declared.fact.Fact.{Fact}
 use Rattle.rc_facts.specs.Facts.{Known, is_over}
-use Rattle.rc_flow.specs.Flow.{set_at}
+use Rattle.rc_facts.specs.Flow.{set_at}
 use Rattle.rc_claims.specs.declared.proofs.Frame.{Frame}
 use Rattle.rc_claims.specs.Counts.{trues}
 use Rattle.rc_claims.specs.Bits.{claims, BitsFit}

@@ -1,7 +1,7 @@
 // Sets of facts as frames.
 ghost use Rattle.std.specs.Prelude.{◌≡◌, ◌<◌, ◌≤◌, ◌++◌, ◌∷◌, ◌^◌, [], ℕ, false, length, get_or, IfOk, OnOk};
 ghost use Rattle.rc_facts.specs.Facts.{holds};
-ghost use Rattle.rc_flow.specs.Flow.{no_set};
+ghost use Rattle.rc_facts.specs.Flow.{no_set};
 ghost use Rattle.rc_claims.specs.declared.proofs.Frame.{Frame as AnyFrame};
 ghost use Rattle.rc_claims.specs.Counts.{trues};
 ghost use Rattle.rc_fact_bits.specs.Framing.{AreFramesOf, IsFrameOf};

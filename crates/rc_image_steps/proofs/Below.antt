@@ -3,7 +3,7 @@ use Rattle.std.proofs.Common.{◌≡◌, ◌∙◌, ℕ, zero, suc, ◌+◌, ◌
 use Rattle.std.specs.Prelude.{IfSome}
 use Rattle.std.proofs.lemmas.List.{length-map}
 use Rattle.rc_facts.specs.Facts.{Known}
-use Rattle.rc_flow.specs.Flow.{no_set}
+use Rattle.rc_facts.specs.Flow.{no_set}
 use Rattle.rc_edges.specs.Edges.{all_below, EffectBelow}
 use Rattle.rc_edges.specs.News.{places_of}
 use Rattle.rc_rlang.specs.RegionFlow.{Effect}

@@ -1,6 +1,6 @@
 -- A working set that is started anew.
-use Rattle.std.proofs.Common.{◌≡◌, ◌∙◌, ℕ, suc, ◌≤◌, Bool, true, false, not, ◌&&◌, ◌||◌, nat_eq, nat_lt, IsTrue, ◌↔◌, refl, sym, ap, inl, inr, arith}
-use Rattle.std.proofs.lemmas.Bool.{and_parts, and_from, ltb-true, lt-ltb, eqb-true}
+use Rattle.std.proofs.Common.{◌≡◌, ◌∙◌, ℕ, suc, ◌≤◌, Bool, true, false, not, ◌&&◌, ◌||◌, nat_eq, nat_lt, IsTrue, ◌↔◌, refl, sym, ap, subst, inl, inr, arith}
+use Rattle.std.proofs.lemmas.Bool.{and_parts, and_from, or_left, or_right, ltb-true, lt-ltb, eqb-true}
 use Rattle.rc_facts.specs.declared.fact.Fact.{Fact}
 use Rattle.rc_facts.specs.declared.fact.Fact.TheVariants.{In, Up, Trad, NonNull}
 use Rattle.rc_facts.specs.Derivable.{Derivable}
@@ -8,7 +8,7 @@ use Rattle.rc_facts.specs.Facts.{Known, holds, is_over, names}
 use Rattle.rc_facts.proofs.Closes.{derivable_over}
 use Rattle.rc_annotations.specs.Annotations.{Facts}
 use Rattle.rc_annotations.proofs.Derivations.{derivable_more, derivable_cut}
-use Rattle.rc_flow.specs.Flow.{set_at}
+use Rattle.rc_facts.specs.Flow.{set_at}
 use Rattle.rc_code.specs.Running.{Reading, function_at}
 use Rattle.rc_claims.specs.Counts.{place}
 use Rattle.rc_sealed.specs.ImageVariables.{scratch, variables}
@@ -17,6 +17,8 @@ use Rattle.rc_carrying.specs.Left.{is_own, IsReady}
 use Rattle.rc_carrying.proofs.Closed.{isolated, Spoken}
 use Rattle.rc_carrying.proofs.Carried.{every_of}
 use Rattle.rc_prove.specs.Sets.{Sets, AreFrames}
+use Rattle.rc_prove.specs.Starting.{IsFull}
+use Rattle.rc_target_sets.specs.Shut.{IsShut}
 
 -- ---- facts on fewer variables
 
@@ -76,6 +78,36 @@ anew_ready n s given set e over is = record {
     by : (p : Fact) → names s p ≡ true → Spoken (λ u. not (nat_eq u s)) p → IsTrue (is_own p)
     by p named (inl own) = own
     by p named (inr apart) = absurd (clash (names s p) named (unnamed s p apart))
+
+-- a set that is ready is shut
+pub ready_shut : (set : Known) (n s : ℕ) → set.variables ≡ n → IsReady n s (holds set) → IsShut set
+ready_shut set n s e r = record {
+  over = λ fact is. subst (λ m. IsTrue (is_over m fact)) (sym e) (r.closed.over fact is);
+  shut = λ fact d. or_left (holds set fact) (is_own fact) (r.closed.closed fact (subst (λ m. Derivable m (holds set) fact) e d));
+}
+
+-- a set of all facts on some variables is shut
+pub full_shut : (count variables : ℕ) (set : Known) → count ≤ variables → IsFull count variables set → IsShut set
+full_shut count variables set le f = record {
+  over = λ fact is. subst (λ m. IsTrue (is_over m fact)) (sym f.wide) (over_more count variables le fact (sym (f.facts fact) ∙ is));
+  shut = λ fact d. by fact (isolated (λ u. nat_lt u count) (λ q is. inr (speaks_of q (sym (f.facts q) ∙ is))) d);
+}
+  where
+    speaks_of : (p : Fact) → IsTrue (is_over count p) → IsTrue (speaks (λ u. nat_lt u count) p)
+    speaks_of (In x y) e = e
+    speaks_of (Up x y) e = e
+    speaks_of (Trad x) e = e
+    speaks_of (NonNull x) e = e
+
+    over_of : (p : Fact) → IsTrue (speaks (λ u. nat_lt u count) p) → IsTrue (is_over count p)
+    over_of (In x y) e = e
+    over_of (Up x y) e = e
+    over_of (Trad x) e = e
+    over_of (NonNull x) e = e
+
+    by : (p : Fact) → Spoken (λ u. nat_lt u count) p → IsTrue (holds set p || is_own p)
+    by p (inl own) = or_right (holds set p) (is_own p) own
+    by p (inr apart) = or_left (holds set p) (is_own p) (f.facts p ∙ over_of p apart)
 
 pub held : (set : Known) (p : Fact) → holds set p ≡ among set.facts p
 unfolding holds

@@ -6,7 +6,7 @@ use Rattle.rc_facts.specs.declared.fact.Fact.TheVariants.{In, Up, Trad, NonNull}
 use Rattle.rc_facts.specs.Facts.{is_over}
 use Rattle.rc_annotations.specs.Annotations.{Annotation}
 use Rattle.rc_annotations.specs.Laws.{Inside}
-use Rattle.rc_flow.specs.Flow.{set_at}
+use Rattle.rc_facts.specs.Flow.{set_at}
 use Rattle.rc_code.specs.declared.image.Function.{Function}
 use Rattle.rc_code.specs.declared.image.Parts.{Parts}
 use Rattle.rc_code.specs.Running.{Reading, reading_of, function_at, no_function}
@@ -15,7 +15,7 @@ use Rattle.rc_sealed.specs.Carrying.{is_target}
 use Rattle.rc_greatest_proofs.specs.Admitted.{IsAdmitted}
 use Rattle.rc_greatest_proofs.specs.Marks.{ProvedBare}
 use Rattle.rc_greatest_proofs.proofs.Bare.{bare_back}
-use Rattle.rc_prove.specs.declared.route.Route.{Route}
+use Rattle.rc_prove_parts.specs.declared.route.Route.{Route}
 use Rattle.rc_prove.specs.declared.start.Counts.{Counts}
 use Rattle.rc_prove.specs.Sets.{rank, framed}
 use Rattle.rc_prove.specs.Family.{Family, claimed, ProveAll, Found}

@@ -9,7 +9,7 @@ use Rattle.rc_facts.specs.Facts.{Known, is_over, same_fact}
 use Rattle.rc_facts.proofs.Sets.{same_fact-true}
 use Rattle.rc_annotations.specs.Annotations.{Facts, Annotation, some_pair}
 use Rattle.rc_annotations.proofs.Derivations.{derivable_more, derivable_cut, either_more}
-use Rattle.rc_flow.specs.Flow.{no_set, set_at}
+use Rattle.rc_facts.specs.Flow.{no_set, set_at}
 use Rattle.rc_edges.specs.Reading.{Loses}
 use Rattle.rc_edges.proofs.Renaming.{same_self}
 use Rattle.rc_code.specs.declared.image.Function.{Function}
@@ -19,8 +19,8 @@ use Rattle.rc_sealed.specs.ImageVariables.{scratch, variables, result_variable}
 use Rattle.rc_sealed.specs.Carrying.{among, is_target, entry_pairs, either, Follows, Begins}
 use Rattle.rc_carrying.specs.Left.{IsReady}
 use Rattle.rc_carrying.proofs.Carried.{every_of}
-use Rattle.rc_prove.specs.declared.spot.Spot.{Spot}
-use Rattle.rc_prove.specs.declared.spot.Place.{Place}
+use Rattle.rc_prove_parts.specs.declared.spot.Spot.{Spot}
+use Rattle.rc_prove_parts.specs.declared.spot.Place.{Place}
 use Rattle.rc_prove.specs.Sets.{Sets, rank, IsIn, Claims, ProveFunction, AreFrames, Lowers}
 use Rattle.rc_prove.specs.Passing.{Passing, before_at, Reached}
 use Rattle.rc_prove.specs.Lowering.{Looks}

@@ -10,7 +10,7 @@ use Rattle.rc_facts.proofs.Sets.{same_fact-true}
 use Rattle.rc_rlang.specs.RegionFlow.{Effect}
 use Rattle.rc_annotations.specs.Annotations.{Facts, Annotation, exit_facts}
 use Rattle.rc_annotations.proofs.Derivations.{derivable_cut}
-use Rattle.rc_flow.specs.Flow.{set_at}
+use Rattle.rc_facts.specs.Flow.{set_at}
 use Rattle.rc_edges.specs.Edges.{AreNews, EffectBelow, renewed}
 use Rattle.rc_edges.specs.News.{news_of}
 use Rattle.rc_edges.proofs.Adding.{news_are}

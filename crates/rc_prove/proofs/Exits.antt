@@ -11,7 +11,7 @@ use Rattle.rc_edges.proofs.Renaming.{same_names}
 use Rattle.rc_edges.proofs.Steps.{over_below}
 use Rattle.rc_boundaries.proofs.Lost.{loses_as}
 use Rattle.rc_boundaries.proofs.Handing.{exit_long}
-use Rattle.rc_prove.specs.declared.spot.Place.{Place}
+use Rattle.rc_prove_parts.specs.declared.spot.Place.{Place}
 use Rattle.rc_prove.specs.Visiting.{ExitGives}
 
 exit_name : (copies result v : ℕ) → v < suc copies → get_or (range_with_len 0 copies ++ result ∷ []) v 0 ≡ renamed copies result v

@@ -12,11 +12,11 @@ use Rattle.rc_facts.specs.declared.fact.Fact.{Fact}
 use Rattle.rc_facts.specs.Facts.{Known}
 use Rattle.rc_annotations.specs.Annotations.{Annotation}
 use Rattle.rc_annotations.specs.Laws.{Inside}
-use Rattle.rc_flow.specs.Flow.{facts_in, no_set, set_at}
+use Rattle.rc_facts.specs.Flow.{facts_in, no_set, set_at}
 use Rattle.rc_code.specs.Running.{Reading, function_at}
 use Rattle.rc_greatest_proofs.specs.Marks.{ProvedBare}
-use Rattle.rc_prove.specs.declared.route.Route.{Route}
-use Rattle.rc_prove.specs.declared.spot.Place.{Place}
+use Rattle.rc_prove_parts.specs.declared.route.Route.{Route}
+use Rattle.rc_prove_parts.specs.declared.spot.Place.{Place}
 use Rattle.rc_prove.specs.Sets.{Sets, framed, IsIn, Claims, ProveFunction, Shrinks, FewerFacts}
 use Rattle.rc_prove.specs.Visiting.{IsFrame, SameShape}
 use Rattle.rc_prove.specs.Lowering.{Looks, LooksAhead, Lessens, Lowered}

@@ -5,7 +5,7 @@ use Rattle.std.proofs.lemmas.List.Folds.{list_any-append}
 use Rattle.rc_facts.specs.declared.fact.Fact.{Fact}
 use Rattle.rc_facts.specs.declared.fact.Fact.TheVariants.{In, Up, Trad, NonNull}
 use Rattle.rc_facts.specs.Facts.{same_fact}
-use Rattle.rc_flow.specs.Flow.{Facts}
+use Rattle.rc_facts.specs.Flow.{Facts}
 use Rattle.rc_boundaries.specs.Every.{facts_with, pairs_with}
 use Rattle.rc_boundaries.proofs.Every.{row_more, every_more}
 

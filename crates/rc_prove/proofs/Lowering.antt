@@ -6,7 +6,7 @@ use Rattle.rc_facts.specs.declared.fact.Fact.{Fact}
 use Rattle.rc_facts.specs.Facts.{Known}
 use Rattle.rc_annotations.specs.Annotations.{Facts, Annotation}
 use Rattle.rc_annotations.specs.Laws.{Inside}
-use Rattle.rc_flow.specs.Flow.{facts_in, set_at}
+use Rattle.rc_facts.specs.Flow.{facts_in, set_at}
 use Rattle.rc_edges.specs.Reading.{Loses}
 use Rattle.rc_code.specs.declared.image.Function.{Function}
 use Rattle.rc_code.specs.Running.{Reading, function_at}

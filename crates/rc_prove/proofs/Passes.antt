@@ -5,7 +5,7 @@ use Rattle.rc_facts.specs.Derivable.{Derivable}
 use Rattle.rc_facts.specs.Facts.{Known, holds, is_over}
 use Rattle.rc_rlang.specs.RegionFlow.{Effect}
 use Rattle.rc_annotations.specs.Annotations.{Annotation, fact_with, renamed}
-use Rattle.rc_flow.specs.Flow.{set_at}
+use Rattle.rc_facts.specs.Flow.{set_at}
 use Rattle.rc_edges.specs.Edges.{EffectBelow}
 use Rattle.rc_edges.specs.Reading.{Loses}
 use Rattle.rc_edges.specs.Boundaries.{CallGives}
@@ -20,8 +20,8 @@ use Rattle.rc_sealed.specs.Carrying.{effect_at, lowest, is_target}
 use Rattle.rc_sealed.specs.Proved.{Way}
 use Rattle.rc_carrying.specs.Passing.{CarriesOver}
 use Rattle.rc_greatest_proofs.specs.Marks.{ProvedBare}
-use Rattle.rc_prove.specs.declared.spot.Spot.{Spot}
-use Rattle.rc_prove.specs.declared.spot.Place.{Place}
+use Rattle.rc_prove_parts.specs.declared.spot.Spot.{Spot}
+use Rattle.rc_prove_parts.specs.declared.spot.Place.{Place}
 use Rattle.rc_prove.specs.Sets.{Sets, rank, IsIn, Claims}
 use Rattle.rc_prove.specs.Passing.{Passing, before_at, behind_at, Reached}
 use Rattle.rc_prove.specs.Visiting.{SpotIs, Visited, ExitGives, FrameGives}

@@ -7,7 +7,7 @@ use Rattle.rc_facts.specs.Facts.{Known, holds, is_over}
 use Rattle.rc_rlang.specs.RegionFlow.{called, moved, loaded, looked_at}
 use Rattle.rc_annotations.specs.Annotations.{Facts, Annotation, fact_with, renamed}
 use Rattle.rc_annotations.proofs.Derivations.{derivable_cut}
-use Rattle.rc_flow.specs.Flow.{no_set, set_at}
+use Rattle.rc_facts.specs.Flow.{no_set, set_at}
 use Rattle.rc_edges.specs.Reading.{Loses}
 use Rattle.rc_edges.specs.Boundaries.{CallGives}
 use Rattle.rc_code.specs.declared.opcode.Typed.TheVariants as typed

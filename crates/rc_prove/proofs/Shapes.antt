@@ -3,13 +3,13 @@ use Rattle.std.proofs.Common.{◌≡◌, ◌∙◌, ℕ, suc, Bool, IsTrue, List
 use Rattle.rc_facts.specs.declared.fact.Fact.{Fact}
 use Rattle.rc_facts.specs.Facts.{Known, holds}
 use Rattle.rc_rlang.specs.RegionFlow.{Effect, nothing, nulled, moved, fixed, beside, made, under, loaded, looked_at, stored, present, absent, called, entered}
-use Rattle.rc_flow.specs.Flow.{facts_in, no_set, set_at}
+use Rattle.rc_facts.specs.Flow.{facts_in, no_set, set_at}
 use Rattle.rc_graph.specs.Nodes.{effect_of}
 use Rattle.rc_crossing.specs.Fitting.{CallFits}
 use Rattle.rc_carrying.specs.Left.{IsReady}
 use Rattle.rc_carrying.proofs.Ready.{left_ready}
-use Rattle.rc_prove.specs.declared.spot.Spot.{Spot}
-use Rattle.rc_prove.specs.declared.spot.Place.{Place}
+use Rattle.rc_prove_parts.specs.declared.spot.Spot.{Spot}
+use Rattle.rc_prove_parts.specs.declared.spot.Place.{Place}
 use Rattle.rc_prove.specs.Sets.{Sets, size, Shrinks, FewerFacts}
 use Rattle.rc_prove.specs.Visiting.{IsFrame, SpotFits, PlaceFits, SameShape, Visited}
 use Rattle.rc_prove.proofs.Anew.{anew_ready}

@@ -4,8 +4,8 @@ use Rattle.std.specs.Prelude.{slice_get}
 use Rattle.std.proofs.lemmas.List.{length-drop, length-take-le}
 use Rattle.rc_code.specs.Running.{Reading, function_at}
 use Rattle.rc_sealed.specs.Carrying.{is_target}
-use Rattle.rc_prove.specs.declared.spot.Spot.{Spot}
-use Rattle.rc_prove.specs.declared.spot.Place.{Place}
+use Rattle.rc_prove_parts.specs.declared.spot.Spot.{Spot}
+use Rattle.rc_prove_parts.specs.declared.spot.Place.{Place}
 use Rattle.rc_prove.specs.Sets.{Sets, rank}
 use Rattle.rc_prove.specs.Visiting.{SpotIs, AreSpots, AreSpotsFrom}
 use Rattle.rc_prove.specs.Lowering.{Looks, LooksAhead, LooksFrom, LeadsBehind}

@@ -6,13 +6,13 @@ use Rattle.rc_facts.specs.Derivable.{Derivable, stated}
 use Rattle.rc_facts.specs.Facts.{Known, holds}
 use Rattle.rc_annotations.specs.Annotations.{Facts, Annotation}
 use Rattle.rc_annotations.proofs.Derivations.{derivable_cut}
-use Rattle.rc_flow.specs.Flow.{set_at}
+use Rattle.rc_facts.specs.Flow.{set_at}
 use Rattle.rc_code.specs.declared.image.Function.{Function}
 use Rattle.rc_code.specs.Running.{Reading, function_at}
 use Rattle.rc_sealed.specs.ImageVariables.{variables}
 use Rattle.rc_sealed.specs.Carrying.{is_target, either, Begins, Carried, Before}
-use Rattle.rc_prove.specs.declared.spot.Spot.{Spot}
-use Rattle.rc_prove.specs.declared.spot.Place.{Place}
+use Rattle.rc_prove_parts.specs.declared.spot.Spot.{Spot}
+use Rattle.rc_prove_parts.specs.declared.spot.Place.{Place}
 use Rattle.rc_prove.specs.Sets.{Sets, rank, IsIn}
 use Rattle.rc_prove.specs.Passing.{before_at, Reached}
 use Rattle.rc_prove.specs.Visiting.{WentThrough}

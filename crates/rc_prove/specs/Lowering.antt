@@ -3,13 +3,13 @@ use Rattle.std.specs.Prelude.{◌≡◌, ℕ, ◌<◌, Bool, true, false, IsTrue
 use Rattle.rc_facts.specs.declared.fact.Fact.{Fact}
 use Rattle.rc_facts.specs.Facts.{is_over}
 use Rattle.rc_annotations.specs.Annotations.{Annotation}
-use Rattle.rc_flow.specs.Flow.{set_at}
+use Rattle.rc_facts.specs.Flow.{set_at}
 use Rattle.rc_code.specs.Running.{Reading, function_at}
 use Rattle.rc_claims.specs.Counts.{copies}
 use Rattle.rc_sealed.specs.Carrying.{is_target}
 use Rattle.rc_greatest_proofs.specs.Marks.{ProvedBare}
-use Rattle.rc_prove.specs.declared.spot.Spot.{Spot}
-use Rattle.rc_prove.specs.declared.spot.Place.{Place}
+use Rattle.rc_prove_parts.specs.declared.spot.Spot.{Spot}
+use Rattle.rc_prove_parts.specs.declared.spot.Place.{Place}
 use Rattle.rc_prove.specs.Sets.{Sets, rank, Claims, AreFrames, Lowers, Shrinks, FewerFacts}
 use Rattle.rc_prove.specs.Visiting.{AreSpots, AreSpotsFrom, SameShape}
 

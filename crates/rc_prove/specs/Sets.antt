@@ -5,7 +5,7 @@ use Rattle.rc_facts.specs.declared.fact.Fact.{Fact}
 use Rattle.rc_facts.specs.Facts.{Known, is_over}
 use Rattle.rc_annotations.specs.Annotations.{Facts, Annotation}
 use Rattle.rc_annotations.specs.Laws.{Within}
-use Rattle.rc_flow.specs.Flow.{facts_in, set_at}
+use Rattle.rc_facts.specs.Flow.{facts_in, set_at}
 use Rattle.rc_code.specs.declared.image.Function.{Function}
 use Rattle.rc_code.specs.Running.{Reading, function_at}
 use Rattle.rc_claims.specs.Counts.{copies, place, one_if}

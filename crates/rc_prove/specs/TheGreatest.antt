@@ -9,7 +9,7 @@ use Rattle.rc_claims.specs.Counts.{copies, exit_count, frame_count}
 use Rattle.rc_sealed.specs.Carrying.{is_target}
 use Rattle.rc_greatest_proofs.specs.Admitted.{IsAdmitted}
 use Rattle.rc_greatest_proofs.specs.Marks.{ProvedBare}
-use Rattle.rc_prove.specs.declared.route.Route.{Route}
+use Rattle.rc_prove_parts.specs.declared.route.Route.{Route}
 use Rattle.rc_prove.specs.declared.start.Counts.{Counts}
 use Rattle.rc_prove.specs.Sets.{rank}
 use Rattle.rc_prove.specs.Family.{Family, claimed, IsRoute}

@@ -4,7 +4,7 @@ use Rattle.rc_facts.specs.declared.fact.Fact.{Fact}
 use Rattle.rc_facts.specs.Derivable.{Derivable}
 use Rattle.rc_facts.specs.Facts.{Known, holds, is_over}
 use Rattle.rc_annotations.specs.Annotations.{fact_with, renamed}
-use Rattle.rc_flow.specs.Flow.{no_set, set_at}
+use Rattle.rc_facts.specs.Flow.{no_set, set_at}
 use Rattle.rc_edges.specs.Edges.{EffectBelow}
 use Rattle.rc_edges.specs.Reading.{Loses}
 use Rattle.rc_edges.specs.Boundaries.{CallGives, CallReady}
@@ -16,8 +16,8 @@ use Rattle.rc_claims.specs.Counts.{copies, place}
 use Rattle.rc_sealed.specs.ImageVariables.{result_variable}
 use Rattle.rc_sealed.specs.Carrying.{effect_at, lowest, reach}
 use Rattle.rc_carrying.specs.Passing.{CarriesOver}
-use Rattle.rc_prove.specs.declared.spot.Spot.{Spot}
-use Rattle.rc_prove.specs.declared.spot.Place.{Place}
+use Rattle.rc_prove_parts.specs.declared.spot.Spot.{Spot}
+use Rattle.rc_prove_parts.specs.declared.spot.Place.{Place}
 use Rattle.rc_prove.specs.Sets.{Sets, Shrinks, FewerFacts}
 use Rattle.rc_prove.specs.Spots.{returns, LeadsFrom}
 use Rattle.rc_prove.specs.Passing.{Reached}

@@ -3,20 +3,21 @@ ghost use Rattle.std.specs.Prelude.{◌≡◌, length, IfOk, OnOk};
 ghost use Rattle.std.specs.List.{All};
 ghost use Rattle.rc_code.specs.declared.image.Parts.{Parts};
 ghost use Rattle.rc_code.specs.Running.{reading_of};
-ghost use Rattle.rc_prove.specs.declared.route.Route.{Route as AnyRoute};
+ghost use Rattle.rc_prove_parts.specs.declared.route.Route.{Route as AnyRoute};
 ghost use Rattle.rc_prove.specs.declared.start.Counts.{Counts as AnyCounts};
 ghost use Rattle.rc_prove.specs.Family.{family_of, Family, Found, IsRoute, RouteFits};
 ghost use Rattle.rc_prove.specs.Starting.{AreShaped, CountsFit, IsBegun};
 ghost use Rattle.rc_prove.specs.TheGreatest.{AreGreatest, AreRoutes};
 
+use crate::released::released;
 use crate::rounds::search;
-use crate::route::Route;
-use crate::start::{Claims, Counts, full};
+use crate::start::{Claims, Counts, Sets, full};
 use rc_base::NoMemory;
+use rc_prove_parts::Route;
 use std::alloc::Global;
 
 /// Lowers sets until they prove all functions, but for the checks.
-fn lower_all(alloc: Global, routes: &[Route], claims: &mut Claims) -> Result<(), NoMemory>
+fn lower_all(alloc: Global, routes: &[Route], claims: &mut Sets) -> Result<(), NoMemory>
     requires { All (λ (route : AnyRoute). RouteFits route (family_of claims.old.entries.items claims.old.exits.items claims.old.frames.items)) routes.now }
     ensures { OnOk result (Found routes.now (family_of claims.old.entries.items claims.old.exits.items claims.old.frames.items) (family_of claims.new.entries.items claims.new.exits.items claims.new.frames.items)) }
 {
@@ -46,5 +47,6 @@ pub fn greatest(alloc: Global, routes: &[Route], counts: &[Counts]) -> Result<Cl
 {
     let mut claims = full(alloc, counts)?;
     lower_all(alloc, routes, &mut claims)?;
-    Ok(claims)
+    let done = released(alloc, claims)?;
+    Ok(done)
 }

@@ -6,30 +6,23 @@
 //! where the search begins, and `TheGreatest` what it finds.
 //!
 //! Rounds over all functions prove the answer: in the last one no set loses a fact. Before them, parts of
-//! functions are gone over from a list, each from the entry or a target to the next target. A part comes
-//! back into the list when a set that it reads lost a fact, so that few rounds are left. No proof rests on
-//! the list being complete.
+//! functions are gone over as the agenda of rc_prove_parts has them, so that few rounds are left. No proof
+//! rests on the agenda being complete.
 #![tactic(auto)]
 
-mod agenda;
 mod answer;
 mod losing;
-mod losses;
 mod lower;
-mod map;
 mod meeting;
 mod parts;
 mod reading;
+mod released;
 mod rounds;
-mod route;
 mod settling;
-mod spot;
 mod start;
 mod visit;
 
 pub use answer::greatest;
 pub use lower::begin;
 pub use meeting::restart;
-pub use route::Route;
-pub use spot::{Place, Spot};
 pub use start::{Claims, Counts};

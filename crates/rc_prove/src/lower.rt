@@ -5,18 +5,18 @@ ghost use Rattle.rc_facts.specs.declared.fact.Fact.{Fact as AnyFact};
 ghost use Rattle.rc_facts.specs.Derivable.{Derivable};
 ghost use Rattle.rc_facts.specs.Facts.{holds, is_over};
 ghost use Rattle.rc_annotations.specs.Annotations.{some_pair};
-ghost use Rattle.rc_flow.specs.Flow.{no_set, set_at};
+ghost use Rattle.rc_facts.specs.Flow.{no_set, set_at};
 ghost use Rattle.rc_sealed.specs.Carrying.{entry_pairs};
 ghost use Rattle.rc_prove.specs.Visiting.{sets_of, IsFrame, PlaceFits, SpotFits};
 ghost use Rattle.rc_prove.specs.Lowering.{Lessens, LooksFrom, Lowered};
 
-use crate::losses::{Losses, with_first};
-use crate::meeting::{meet, restart};
+use crate::meeting::{meet, resume};
 use crate::reading::{numbers, read};
-use crate::spot::{Place, Spot};
 use crate::visit::pass;
 use rc_base::NoMemory;
 use rc_facts::{Fact, FactSet};
+use rc_prove_parts::{Losses, Place, Spot, with_first};
+use rc_target_sets::TargetSet;
 use std::alloc::Global;
 
 /// Adds that each hidden copy and the local of its parameter are in each other's region.
@@ -75,7 +75,7 @@ pub(crate) fn lower(
     first: Option<u32>,
     entries: &mut [FactSet],
     exits: &mut [FactSet],
-    frames: &mut [FactSet],
+    frames: &mut [TargetSet],
 ) -> Result<Losses, NoMemory>
     requires place { PlaceFits place (sets_of entries.old exits.old frames.old) }
     requires spots { All (SpotFits place (sets_of entries.old exits.old frames.old)) spots.now }
@@ -88,7 +88,7 @@ pub(crate) fn lower(
 {
     let mut work = begin(alloc, place, &entries[place.function])?;
     let lost = meet(frames, first, &work);
-    restart(&mut work, frames, first);
+    resume(&mut work, frames, first);
     let more = pass(alloc, place, spots, entries, exits, frames, &mut work)?;
     let lost_some = lost | more.lost;
     let sets = with_first(more.sets, first, lost)?;
@@ -106,7 +106,7 @@ pub(crate) fn lower_from(
     target: u32,
     entries: &mut [FactSet],
     exits: &mut [FactSet],
-    frames: &mut [FactSet],
+    frames: &mut [TargetSet],
 ) -> Result<Losses, NoMemory>
     requires place { PlaceFits place (sets_of entries.old exits.old frames.old) }
     requires spots { All (SpotFits place (sets_of entries.old exits.old frames.old)) spots.now }
@@ -114,6 +114,6 @@ pub(crate) fn lower_from(
     ensures { IfOk result (λ losses. Lessens place (λ image. LooksFrom image place spots.now target (sets_of entries.old exits.old frames.old)) (sets_of entries.old exits.old frames.old) (sets_of entries.new exits.new frames.new) losses.lost) }
 {
     let mut work = FactSet::empty(alloc, place.result + 2)?;
-    restart(&mut work, frames, Some(target));
+    resume(&mut work, frames, Some(target));
     pass(alloc, place, spots, entries, exits, frames, &mut work)
 }

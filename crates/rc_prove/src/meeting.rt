@@ -5,18 +5,20 @@ ghost use Rattle.rc_facts.specs.declared.fact.Fact.{Fact};
 ghost use Rattle.rc_facts.specs.Derivable.{Derivable};
 ghost use Rattle.rc_facts.specs.Facts.{holds};
 ghost use Rattle.rc_rlang.specs.RegionFlow.{called};
-ghost use Rattle.rc_flow.specs.Flow.{no_set, set_at};
+ghost use Rattle.rc_facts.specs.Flow.{no_set, set_at};
 ghost use Rattle.rc_graph.specs.Nodes.{effect_of};
 ghost use Rattle.rc_edges.specs.Reading.{Loses};
 ghost use Rattle.rc_edges.specs.Boundaries.{Callable, CallGives, CallReady};
 ghost use Rattle.rc_prove.specs.Visiting.{ExitGives, FrameGives};
+ghost use Rattle.rc_target_sets.specs.Shut.{IsShut};
 
-use crate::losing::lose;
+use crate::losing::{lose, lose_target};
 use crate::reading::{numbers, read};
-use crate::spot::Place;
 use rc_base::NoMemory;
 use rc_facts::FactSet;
 use rc_graph::Effect;
+use rc_prove_parts::Place;
+use rc_target_sets::TargetSet;
 use std::alloc::Global;
 
 /// Keeps at the entry of a function what a call of it gives.
@@ -105,13 +107,14 @@ pub(crate) fn give_exit(
 }
 
 /// Keeps of a frame what the working set has, if one is named.
-pub(crate) fn meet(frames: &mut [FactSet], at: Option<u32>, work: &FactSet) -> bool
-    requires { IfSome at (λ r. (r < length frames.old) × ((get_or frames.old r no_set).variables ≡ work.now.variables)) }
+pub(crate) fn meet(frames: &mut [TargetSet], at: Option<u32>, work: &FactSet) -> bool
+    requires there { IfSome at (λ r. (r < length frames.old) × ((get_or frames.old r no_set).variables ≡ work.now.variables)) }
+    requires shut { IsShut work.now }
     ensures { Loses result frames.old frames.new (FrameGives at work.now) }
 {
     match at {
         None => false,
-        Some(number) => lose(frames, number as usize, work),
+        Some(number) => lose_target(frames, number as usize, work),
     }
 }
 
@@ -125,5 +128,17 @@ pub fn restart(work: &mut FactSet, frames: &[FactSet], at: Option<u32>)
     if let Some(number) = at {
         work.copy(&frames[number as usize]);
         work.close();
+    }
+}
+
+/// Takes what follows from the set of a target, if one is named.
+pub(crate) fn resume(work: &mut FactSet, frames: &[TargetSet], at: Option<u32>)
+    requires { IfSome at (λ r. (r < length frames.now) × ((get_or frames.now r no_set).variables ≡ work.old.variables)) }
+    ensures variables { work.new.variables ≡ work.old.variables }
+    ensures kept { at ≡ None → work.new ≡ work.old }
+    ensures whole { (r : ℕ) → at ≡ Some r → (fact : Fact) → IsTrue (holds work.new fact) ↔ Derivable work.old.variables (set_at frames.now r) fact }
+{
+    if let Some(number) = at {
+        frames[number as usize].give(work);
     }
 }

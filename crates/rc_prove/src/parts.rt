@@ -1,50 +1,14 @@
-// The parts of the way through a function: each from the entry or a target to the next target.
+// Parts of functions are gone over.
 ghost use Rattle.std.specs.Prelude.{◌≡◌, ◌≤◌, length, IfOk, Some};
 ghost use Rattle.rc_prove.specs.Family.{family_of, LessenedAt, RouteFits};
 ghost use Rattle.rc_prove.specs.Lowering.{LeadsBehind};
 
-use crate::losses::{Losses, no_losses};
 use crate::lower::{lower, lower_from};
-use crate::route::Route;
-use crate::spot::Spot;
 use rc_base::NoMemory;
 use rc_facts::FactSet;
+use rc_prove_parts::{Losses, Route, Start, end_of, entry_end, no_losses};
+use rc_target_sets::TargetSet;
 use std::alloc::Global;
-
-/// Where a part begins.
-#[derive(Clone, Copy)]
-pub(crate) enum Start {
-    /// At the entry. It ends there if the first instruction is a target.
-    Entry,
-    /// At the first instruction, which is a target.
-    First,
-    /// At the target that stands behind an instruction.
-    Behind(usize),
-}
-
-/// Where the part ends that begins at an instruction.
-fn end_of(spots: &[Spot], from: usize) -> usize
-    requires { from ≤ length spots.now }
-    ensures after { from ≤ result }
-    ensures inside { result ≤ length spots.now }
-{
-    for at in from..spots.len() {
-        if spots[at].next.is_some() {
-            return at + 1;
-        }
-    }
-    spots.len()
-}
-
-/// Where the part at the entry ends.
-fn entry_end(route: &Route) -> usize
-    ensures { result ≤ length route.now.spots.items }
-{
-    match route.first {
-        None => end_of(route.spots.as_slice(), 0),
-        Some(_target) => 0,
-    }
-}
 
 /// Goes over the part at the entry.
 fn lower_first(
@@ -52,7 +16,7 @@ fn lower_first(
     route: &Route,
     entries: &mut [FactSet],
     exits: &mut [FactSet],
-    frames: &mut [Vec<FactSet>],
+    frames: &mut [Vec<TargetSet>],
 ) -> Result<Losses, NoMemory>
     requires { RouteFits route.now (family_of entries.old exits.old frames.old) }
     ensures { IfOk result (λ losses. LessenedAt route.now (family_of entries.old exits.old frames.old) (family_of entries.new exits.new frames.new) losses.lost) }
@@ -78,7 +42,7 @@ fn lower_at_first(
     target: u32,
     entries: &mut [FactSet],
     exits: &mut [FactSet],
-    frames: &mut [Vec<FactSet>],
+    frames: &mut [Vec<TargetSet>],
 ) -> Result<Losses, NoMemory>
     requires fits { RouteFits route.now (family_of entries.old exits.old frames.old) }
     requires first { route.now.first ≡ Some target }
@@ -106,7 +70,7 @@ fn lower_behind(
     target: u32,
     entries: &mut [FactSet],
     exits: &mut [FactSet],
-    frames: &mut [Vec<FactSet>],
+    frames: &mut [Vec<TargetSet>],
 ) -> Result<Losses, NoMemory>
     requires fits { RouteFits route.now (family_of entries.old exits.old frames.old) }
     requires leads { LeadsBehind route.now.spots.items at target }
@@ -133,7 +97,7 @@ fn lower_target(
     route: &Route,
     entries: &mut [FactSet],
     exits: &mut [FactSet],
-    frames: &mut [Vec<FactSet>],
+    frames: &mut [Vec<TargetSet>],
 ) -> Result<Losses, NoMemory>
     requires { RouteFits route.now (family_of entries.old exits.old frames.old) }
     ensures { IfOk result (λ losses. LessenedAt route.now (family_of entries.old exits.old frames.old) (family_of entries.new exits.new frames.new) losses.lost) }
@@ -151,7 +115,7 @@ fn lower_next(
     at: usize,
     entries: &mut [FactSet],
     exits: &mut [FactSet],
-    frames: &mut [Vec<FactSet>],
+    frames: &mut [Vec<TargetSet>],
 ) -> Result<Losses, NoMemory>
     requires { RouteFits route.now (family_of entries.old exits.old frames.old) }
     ensures { IfOk result (λ losses. LessenedAt route.now (family_of entries.old exits.old frames.old) (family_of entries.new exits.new frames.new) losses.lost) }
@@ -159,7 +123,7 @@ fn lower_next(
     let Some(spot) = route.spots.as_slice().get(at) else {
         return Ok(no_losses(alloc));
     };
-    let Some(target) = spot.next else {
+    let Some(target) = spot.next.set() else {
         return Ok(no_losses(alloc));
     };
     lower_behind(alloc, route, at, target, entries, exits, frames)
@@ -172,7 +136,7 @@ pub(crate) fn lower_part(
     start: Start,
     entries: &mut [FactSet],
     exits: &mut [FactSet],
-    frames: &mut [Vec<FactSet>],
+    frames: &mut [Vec<TargetSet>],
 ) -> Result<Losses, NoMemory>
     requires { RouteFits route.now (family_of entries.old exits.old frames.old) }
     ensures { IfOk result (λ losses. LessenedAt route.now (family_of entries.old exits.old frames.old) (family_of entries.new exits.new frames.new) losses.lost) }

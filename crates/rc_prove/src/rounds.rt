@@ -1,14 +1,15 @@
 // Rounds over functions, until no set loses a fact.
 ghost use Rattle.std.specs.Prelude.{◌≡◌, length, IfOk, OnOk, map};
 ghost use Rattle.std.specs.List.{All};
-ghost use Rattle.rc_prove.specs.declared.route.Route.{Route as AnyRoute};
+ghost use Rattle.rc_prove_parts.specs.declared.route.Route.{Route as AnyRoute};
 ghost use Rattle.rc_prove.specs.Family.{family_of, Found, LoweredAt, RouteFits, Rounded};
 
 use crate::lower::lower;
-use crate::route::Route;
 use crate::settling::settle;
 use rc_base::NoMemory;
 use rc_facts::FactSet;
+use rc_prove_parts::Route;
+use rc_target_sets::TargetSet;
 use std::alloc::Global;
 
 /// Goes over a function, and says whether a set lost a fact.
@@ -17,7 +18,7 @@ fn lower_at(
     route: &Route,
     entries: &mut [FactSet],
     exits: &mut [FactSet],
-    frames: &mut [Vec<FactSet>],
+    frames: &mut [Vec<TargetSet>],
 ) -> Result<bool, NoMemory>
     requires { RouteFits route.now (family_of entries.old exits.old frames.old) }
     ensures { IfOk result (LoweredAt route.now (family_of entries.old exits.old frames.old) (family_of entries.new exits.new frames.new)) }
@@ -41,7 +42,7 @@ fn round(
     routes: &[Route],
     entries: &mut [FactSet],
     exits: &mut [FactSet],
-    frames: &mut [Vec<FactSet>],
+    frames: &mut [Vec<TargetSet>],
 ) -> Result<bool, NoMemory>
     requires { All (λ (route : AnyRoute). RouteFits route (family_of entries.old exits.old frames.old)) routes.now }
     ensures { IfOk result (Rounded routes.now (length routes.now) (family_of entries.old exits.old frames.old) (family_of entries.new exits.new frames.new)) }
@@ -62,7 +63,7 @@ pub(crate) fn search(
     routes: &[Route],
     entries: &mut [FactSet],
     exits: &mut [FactSet],
-    frames: &mut [Vec<FactSet>],
+    frames: &mut [Vec<TargetSet>],
 ) -> Result<(), NoMemory>
     requires { All (λ (route : AnyRoute). RouteFits route (family_of entries.old exits.old frames.old)) routes.now }
     ensures { OnOk result (Found routes.now (family_of entries.old exits.old frames.old) (family_of entries.new exits.new frames.new)) }

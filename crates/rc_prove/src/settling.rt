@@ -1,16 +1,16 @@
 // Parts of functions are gone over until no set that they read loses a fact.
 ghost use Rattle.std.specs.Prelude.{length, IfOk, OnOk};
 ghost use Rattle.std.specs.List.{All};
-ghost use Rattle.rc_prove.specs.declared.route.Route.{Route as AnyRoute};
+ghost use Rattle.rc_prove_parts.specs.declared.route.Route.{Route as AnyRoute};
 ghost use Rattle.rc_prove.specs.Family.{family_of, Lessened, Rounded, RouteFits};
 
-use crate::agenda::{Agenda, all_parts, next_of, put_losses};
-use crate::losses::{Losses, no_losses};
-use crate::map::{Map, Part, map_of};
 use crate::parts::lower_part;
-use crate::route::Route;
 use rc_base::NoMemory;
 use rc_facts::FactSet;
+use rc_prove_parts::{
+    Agenda, Losses, Map, Part, Route, all_parts, map_of, next_of, no_losses, put_losses,
+};
+use rc_target_sets::TargetSet;
 use std::alloc::Global;
 
 /// Goes over a part of a function, if it is there.
@@ -20,7 +20,7 @@ fn lower_in(
     part: Part,
     entries: &mut [FactSet],
     exits: &mut [FactSet],
-    frames: &mut [Vec<FactSet>],
+    frames: &mut [Vec<TargetSet>],
 ) -> Result<Losses, NoMemory>
     requires { All (λ (route : AnyRoute). RouteFits route (family_of entries.old exits.old frames.old)) routes.now }
     ensures { IfOk result (λ losses. Rounded routes.now 0 (family_of entries.old exits.old frames.old) (family_of entries.new exits.new frames.new) losses.lost) }
@@ -47,7 +47,7 @@ fn go_on(
     agenda: &mut Agenda,
     entries: &mut [FactSet],
     exits: &mut [FactSet],
-    frames: &mut [Vec<FactSet>],
+    frames: &mut [Vec<TargetSet>],
 ) -> Result<bool, NoMemory>
     requires { All (λ (route : AnyRoute). RouteFits route (family_of entries.old exits.old frames.old)) routes.now }
     ensures { IfOk result (Rounded routes.now 0 (family_of entries.old exits.old frames.old) (family_of entries.new exits.new frames.new)) }
@@ -70,7 +70,7 @@ pub(crate) fn settle(
     routes: &[Route],
     entries: &mut [FactSet],
     exits: &mut [FactSet],
-    frames: &mut [Vec<FactSet>],
+    frames: &mut [Vec<TargetSet>],
 ) -> Result<(), NoMemory>
     requires { All (λ (route : AnyRoute). RouteFits route (family_of entries.old exits.old frames.old)) routes.now }
     ensures { OnOk result (Lessened routes.now (family_of entries.old exits.old frames.old) (family_of entries.new exits.new frames.new)) }

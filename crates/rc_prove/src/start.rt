@@ -9,6 +9,7 @@ ghost use Rattle.rc_prove.specs.Starting.{AreFull, CountsFit, IsBegun, IsFull, P
 
 use rc_base::NoMemory;
 use rc_facts::FactSet;
+use rc_target_sets::TargetSet;
 use std::alloc::Global;
 
 /// How many variables the facts of a function's sets speak of.
@@ -35,6 +36,14 @@ pub struct Claims {
     pub frames: Vec<Vec<FactSet>>,
 }
 
+/// The same, as a search has them.
+#[derive(Drop)]
+pub(crate) struct Sets {
+    pub(crate) entries: Vec<FactSet>,
+    pub(crate) exits: Vec<FactSet>,
+    pub(crate) frames: Vec<Vec<TargetSet>>,
+}
+
 /// Drops the facts that name a variable behind the first `count` of them, from the last one down.
 fn forget_behind(set: &mut FactSet, count: u32, variables: u32)
     requires room { count ≤ variables }
@@ -58,20 +67,20 @@ fn all_over(alloc: Global, count: u32, variables: u32) -> Result<FactSet, NoMemo
 }
 
 /// As many such sets.
-fn frames_of(alloc: Global, counts: Counts) -> Result<Vec<FactSet>, NoMemory>
+fn frames_of(alloc: Global, counts: Counts) -> Result<Vec<TargetSet>, NoMemory>
     requires { CountsFit counts }
     ensures { IfOk result (λ all. AreFull counts.locals counts.variables counts.targets all.items) }
 {
     let mut all = Vec::with_capacity(alloc, counts.targets)?;
     for _target in 0..counts.targets {
         let set = all_over(alloc, counts.locals, counts.variables)?;
-        all.push(set)?;
+        all.push(TargetSet::new(set))?;
     }
     Ok(all)
 }
 
 /// Puts a function's sets behind the others.
-fn push_full(alloc: Global, claims: &mut Claims, counts: Counts) -> Result<(), NoMemory>
+fn push_full(alloc: Global, claims: &mut Sets, counts: Counts) -> Result<(), NoMemory>
     requires { CountsFit counts }
     ensures { OnOk result (Pushed counts (family_of claims.old.entries.items claims.old.exits.items claims.old.frames.items) (family_of claims.new.entries.items claims.new.exits.items claims.new.frames.items)) }
 {
@@ -85,11 +94,11 @@ fn push_full(alloc: Global, claims: &mut Claims, counts: Counts) -> Result<(), N
 }
 
 /// All facts that the sets of the functions may have.
-pub(crate) fn full(alloc: Global, counts: &[Counts]) -> Result<Claims, NoMemory>
+pub(crate) fn full(alloc: Global, counts: &[Counts]) -> Result<Sets, NoMemory>
     requires { All (λ (c : AnyCounts). CountsFit c) counts.now }
     ensures { IfOk result (λ claims. IsBegun counts.now (length counts.now) (family_of claims.entries.items claims.exits.items claims.frames.items)) }
 {
-    let mut claims = Claims {
+    let mut claims = Sets {
         entries: Vec::with_capacity(alloc, counts.len())?,
         exits: Vec::with_capacity(alloc, counts.len())?,
         frames: Vec::with_capacity(alloc, counts.len())?,

@@ -5,12 +5,12 @@ ghost use Rattle.rc_facts.specs.Facts.{holds};
 ghost use Rattle.rc_carrying.specs.Left.{IsReady};
 ghost use Rattle.rc_prove.specs.Visiting.{sets_of, PlaceFits, SpotFits, Visited, WentThrough};
 
-use crate::losses::{Losses, note};
-use crate::meeting::{give_call, give_exit, meet, restart};
-use crate::spot::{Place, Spot};
+use crate::meeting::{give_call, give_exit, meet, resume};
 use rc_base::NoMemory;
 use rc_carrying::carry;
 use rc_facts::FactSet;
+use rc_prove_parts::{Losses, Place, Spot, note};
+use rc_target_sets::TargetSet;
 use std::alloc::Global;
 
 /// Carries the working set over an instruction, and keeps of the other sets what it gives them. Says
@@ -21,7 +21,7 @@ fn visit(
     spot: &Spot,
     entries: &mut [FactSet],
     exits: &mut [FactSet],
-    frames: &mut [FactSet],
+    frames: &mut [TargetSet],
     work: &mut FactSet,
 ) -> Result<bool, NoMemory>
     requires place { PlaceFits place (sets_of entries.old exits.old frames.old) }
@@ -38,13 +38,16 @@ fn visit(
         &spot.effect,
         exits,
         place.result + 1,
-        spot.low,
-        spot.top,
+        spot.low as u32,
+        spot.top as u32,
     )?;
     let left = give_exit(alloc, place, spot.returns, work, exits)?;
-    let led = meet(frames, spot.jumped, work);
-    let fell = meet(frames, spot.fallen, work);
-    restart(work, frames, spot.next);
+    let jumped = spot.jumped.set();
+    let fallen = spot.fallen.set();
+    let next = spot.next.set();
+    let led = meet(frames, jumped, work);
+    let fell = meet(frames, fallen, work);
+    resume(work, frames, next);
     Ok(called | (left | (led | fell)))
 }
 
@@ -55,7 +58,7 @@ pub(crate) fn pass(
     spots: &[Spot],
     entries: &mut [FactSet],
     exits: &mut [FactSet],
-    frames: &mut [FactSet],
+    frames: &mut [TargetSet],
     work: &mut FactSet,
 ) -> Result<Losses, NoMemory>
     requires place { PlaceFits place (sets_of entries.old exits.old frames.old) }

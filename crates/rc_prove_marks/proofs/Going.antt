@@ -14,7 +14,7 @@ use Rattle.rc_facts.specs.Facts.{Known, holds, is_over}
 use Rattle.rc_rlang.specs.RegionFlow.{Effect, nothing, nulled, moved, fixed, beside, made, under, loaded, looked_at, stored, present, absent, called, entered}
 use Rattle.rc_annotations.specs.Annotations.{Annotation, asked_of, exit_facts, some_pair}
 use Rattle.rc_annotations.proofs.Derivations.{derivable_cut}
-use Rattle.rc_flow.specs.Flow.{no_set, set_at}
+use Rattle.rc_facts.specs.Flow.{no_set, set_at}
 use Rattle.rc_edges.specs.Edges.{EffectBelow, AreNews, renewed}
 use Rattle.rc_edges.specs.Reading.{Loses}
 use Rattle.rc_edges.specs.News.{news_of}
@@ -32,8 +32,8 @@ use Rattle.rc_carrying.specs.Passing.{CarriesOver}
 use Rattle.rc_carrying.specs.Closing.{Has}
 use Rattle.rc_carrying.proofs.Carried.{left_carried}
 use Rattle.rc_carrying.proofs.Ready.{left_ready}
-use Rattle.rc_prove.specs.declared.route.Route.{Route}
-use Rattle.rc_prove.specs.declared.spot.Spot.{Spot}
+use Rattle.rc_prove_parts.specs.declared.route.Route.{Route}
+use Rattle.rc_prove_parts.specs.declared.spot.Spot.{Spot}
 use Rattle.rc_prove.specs.Sets.{Sets, rank, Claims}
 use Rattle.rc_prove.specs.Visiting.{SpotIs, SpotFits}
 use Rattle.rc_prove.specs.Passing.{Reached}

@@ -9,8 +9,8 @@ use Rattle.rc_sealed.specs.ImageVariables.{variables}
 use Rattle.rc_sealed.specs.Carrying.{Before}
 use Rattle.rc_carrying.specs.Left.{IsReady}
 use Rattle.rc_carrying.specs.Closing.{Has}
-use Rattle.rc_prove.specs.declared.spot.Spot.{Spot}
-use Rattle.rc_prove.specs.declared.route.Route.{Route}
+use Rattle.rc_prove_parts.specs.declared.spot.Spot.{Spot}
+use Rattle.rc_prove_parts.specs.declared.route.Route.{Route}
 use Rattle.rc_prove.specs.Family.{Family, claimed, IsRoute}
 use Rattle.rc_prove_marks.specs.Checked.{IsChecked}
 

@@ -9,7 +9,7 @@ ghost use Rattle.rc_prove_marks.specs.Going.{asks, has_it};
 use rc_core::ty::Note;
 use rc_facts::{Fact, FactSet};
 use rc_graph::Effect;
-use rc_prove::Spot;
+use rc_prove_parts::Spot;
 
 /// The fact that the check of a store asks, where its cell has an annotation.
 fn asked(note: Note, value: u32, holder: u32) -> Option<Fact>

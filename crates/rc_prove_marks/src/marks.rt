@@ -12,7 +12,8 @@ use crate::asking::{proves, some_asks};
 use rc_base::NoMemory;
 use rc_carrying::carry;
 use rc_facts::FactSet;
-use rc_prove::{Claims, Route, begin, restart};
+use rc_prove::{Claims, begin, restart};
+use rc_prove_parts::Route;
 use std::alloc::Global;
 
 /// The set of what follows before the first instruction.
@@ -52,10 +53,11 @@ fn go_on(
         &spot.effect,
         claims.exits.as_slice(),
         place.result + 1,
-        spot.low,
-        spot.top,
+        spot.low as u32,
+        spot.top as u32,
     )?;
-    restart(work, claims.frames[place.function].as_slice(), spot.next);
+    let next = spot.next.set();
+    restart(work, claims.frames[place.function].as_slice(), next);
     Ok(proved)
 }
 

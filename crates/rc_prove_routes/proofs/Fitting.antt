@@ -4,7 +4,7 @@ use Rattle.std.specs.List.{All}
 use Rattle.std.proofs.lemmas.List.{length-map}
 use Rattle.rc_facts.specs.declared.fact.Fact.{Fact}
 use Rattle.rc_facts.specs.Facts.{Known, holds, is_over}
-use Rattle.rc_flow.specs.Flow.{no_set, set_at}
+use Rattle.rc_facts.specs.Flow.{no_set, set_at}
 use Rattle.rc_edges.specs.Edges.{all_below, EffectBelow}
 use Rattle.rc_edges.specs.Boundaries.{Callable, CallReady}
 use Rattle.rc_crossing.specs.Fitting.{CallFits}
@@ -28,8 +28,8 @@ use Rattle.rc_image_steps.proofs.Below.{arguments_long, call_fits, effect_below}
 use Rattle.rc_image_steps.proofs.Facts.{below_at, over_more}
 use Rattle.rc_image_steps.proofs.Places.{height_fits, is_fine, low_reaches, lowest_below, reach_fits}
 use Rattle.rc_image_steps.proofs.Stepping.{call_room}
-use Rattle.rc_prove.specs.declared.spot.Spot.{Spot}
-use Rattle.rc_prove.specs.declared.route.Route.{Route}
+use Rattle.rc_prove_parts.specs.declared.spot.Spot.{Spot}
+use Rattle.rc_prove_parts.specs.declared.route.Route.{Route}
 use Rattle.rc_prove.specs.declared.start.Counts.{Counts}
 use Rattle.rc_prove.specs.Sets.{rank}
 use Rattle.rc_prove.specs.Visiting.{IsFrame, SpotFits, SpotIs}

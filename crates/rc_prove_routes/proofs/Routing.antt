@@ -7,8 +7,8 @@ use Rattle.rc_code.specs.Running.{Reading, reading_of, function_at, no_function}
 use Rattle.rc_code.specs.Soundness.{Sound}
 use Rattle.rc_sealed.specs.Carrying.{is_target}
 use Rattle.rc_sealed.specs.Faults.{NoneIsWide}
-use Rattle.rc_prove.specs.declared.spot.Spot.{Spot}
-use Rattle.rc_prove.specs.declared.route.Route.{Route}
+use Rattle.rc_prove_parts.specs.declared.spot.Spot.{Spot}
+use Rattle.rc_prove_parts.specs.declared.route.Route.{Route}
 use Rattle.rc_prove.specs.declared.start.Counts.{Counts}
 use Rattle.rc_prove.specs.Visiting.{SpotIs}
 use Rattle.rc_prove.specs.Family.{Family, IsRoute, RouteFits}

@@ -4,8 +4,8 @@ use Rattle.rc_code.specs.declared.image.Parts.{Parts}
 use Rattle.rc_code.specs.Running.{Reading, reading_of, function_at}
 use Rattle.rc_sealed.specs.ImageVariables.{variables}
 use Rattle.rc_sealed.specs.Carrying.{is_target}
-use Rattle.rc_prove.specs.declared.spot.Spot.{Spot}
-use Rattle.rc_prove.specs.declared.route.Route.{Route}
+use Rattle.rc_prove_parts.specs.declared.spot.Spot.{Spot}
+use Rattle.rc_prove_parts.specs.declared.route.Route.{Route}
 use Rattle.rc_prove.specs.declared.start.Counts.{Counts}
 use Rattle.rc_prove.specs.Sets.{rank}
 use Rattle.rc_prove.specs.Visiting.{AreSpots, SpotIs}

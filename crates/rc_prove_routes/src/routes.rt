@@ -5,7 +5,7 @@ ghost use Rattle.rc_code.specs.Image.{FieldsFit};
 ghost use Rattle.rc_code.specs.Soundness.{Sound};
 ghost use Rattle.rc_sealed.specs.Faults.{IsWide, NoneIsWide};
 ghost use Rattle.rc_image_steps.specs.Sites.{image_of};
-ghost use Rattle.rc_prove.specs.declared.route.Route.{Route as AnyRoute};
+ghost use Rattle.rc_prove_parts.specs.declared.route.Route.{Route as AnyRoute};
 ghost use Rattle.rc_prove.specs.declared.start.Counts.{Counts as AnyCounts};
 ghost use Rattle.rc_prove.specs.Family.{Family, RouteFits};
 ghost use Rattle.rc_prove.specs.Starting.{CountsFit, IsBegun};
@@ -23,7 +23,8 @@ use rc_code::Parts;
 use rc_image_counts::function_of;
 use rc_image_shapes::shape_of;
 use rc_image_steps::Site;
-use rc_prove::{Counts, Place, Route};
+use rc_prove::Counts;
+use rc_prove_parts::{Place, Route};
 use rc_prove_ways::ranks_of;
 use std::alloc::Global;
 

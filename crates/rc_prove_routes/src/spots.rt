@@ -14,7 +14,7 @@ use rc_base::NoMemory;
 use rc_code::{Instruction, Simple};
 use rc_image_counts::{function_of, instruction_of};
 use rc_image_steps::{View, next_height, view_at};
-use rc_prove::Spot;
+use rc_prove_parts::{Lead, Spot};
 use rc_prove_ways::leads_at;
 
 fn simple_returns(simple: Simple) -> bool
@@ -36,6 +36,14 @@ fn returns(instruction: &Instruction) -> bool
     }
 }
 
+/// A variable of a function that isn't wide, as one byte.
+fn narrow(variable: u32) -> u8
+    requires { variable < 256 }
+    ensures { result ≡ variable }
+{
+    variable as u8
+}
+
 /// What a pass has to know of an instruction, before which so many operands stand.
 fn spot_at(walk: &Walk<'_>, at: u32, height: usize) -> Result<Spot, NoMemory>
     requires walk { IsWalk walk.now }
@@ -44,16 +52,21 @@ fn spot_at(walk: &Walk<'_>, at: u32, height: usize) -> Result<Spot, NoMemory>
     ensures { IfOk result (λ spot. SpotIs (image_of walk.now.site) walk.now.site.number at spot) }
 {
     let instruction = instruction_of(function_of(walk.site.parts, walk.site.number), at as usize);
-    let View { effect, span } = view_at(walk.alloc, &walk.site, at, height)?;
     let leads = leads_at(instruction, at as usize, walk.targets, walk.ranks);
+    let jumped = Lead::new(leads.jumped)?;
+    let fallen = Lead::new(leads.fallen)?;
+    let next = Lead::new(leads.next)?;
+    let View { effect, span } = view_at(walk.alloc, &walk.site, at, height)?;
+    let low = narrow(span.low);
+    let top = narrow(span.top);
     Ok(Spot {
         effect,
-        low: span.low,
-        top: span.top,
+        jumped,
+        fallen,
+        next,
+        low,
+        top,
         returns: returns(instruction),
-        jumped: leads.jumped,
-        fallen: leads.fallen,
-        next: leads.next,
     })
 }
 

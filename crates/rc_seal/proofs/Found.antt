@@ -14,7 +14,7 @@ use Rattle.rc_claims.specs.Claims.{known_at, ProofsFit}
 use Rattle.rc_sealed.specs.Carrying.{is_target}
 use Rattle.rc_sealed.specs.Claimed.{annotation_of}
 use Rattle.rc_greatest_proofs.specs.Marks.{ProvedBare}
-use Rattle.rc_prove.specs.declared.route.Route.{Route}
+use Rattle.rc_prove_parts.specs.declared.route.Route.{Route}
 use Rattle.rc_prove.specs.declared.start.Counts.{Counts}
 use Rattle.rc_prove.specs.Family.{Family, claimed, IsRoute}
 use Rattle.rc_prove.specs.TheGreatest.{AreRoutes, AreGreatest}

@@ -1,7 +1,7 @@
 -- An image with other marks is the same but for these.
-use Rattle.std.proofs.Common.{◌≡◌, ◌∙◌, ℕ, zero, suc, ◌+◌, ◌<◌, Bool, true, false, List, [], ◌∷◌, ◌++◌, length, map, drop, take, get_or, refl, sym, ap, arith}
+use Rattle.std.proofs.Common.{◌≡◌, ◌∙◌, ℕ, zero, suc, ◌+◌, ◌<◌, Bool, true, false, List, [], ◌∷◌, ◌++◌, length, map, drop, take, get_or, set, refl, sym, ap, arith, append_assoc}
 use Rattle.std.specs.List.{AllByRecursion as Every}
-use Rattle.std.proofs.lemmas.List.{length-take-le, take_more}
+use Rattle.std.proofs.lemmas.List.{length-take-le, take_more, drop_more, get_or_at, set_at}
 use Rattle.rc_code.specs.declared.opcode.Simple.TheVariants as simple
 use Rattle.rc_code.specs.declared.instruction.Instruction.{Instruction}
 use Rattle.rc_code.specs.declared.instruction.Instruction.TheVariants as instruction
@@ -119,6 +119,28 @@ functions_fit types marks (f ∷ fs) all = (function_fits types (get_or marks 0 
 functions_long : (marks : List (List Bool)) (fs : List Function) → length (marked_functions marks fs) ≡ length fs
 functions_long marks [] = refl
 functions_long marks (f ∷ fs) = ap suc (functions_long (drop 1 marks) fs)
+
+-- ---- loops that mark one after another
+
+pub code_over : (marks : List Bool) (before now : List Instruction) (at : ℕ) (i : Instruction) → at < length before → now ≡ marked_code marks (take at before) ++ drop at before → i ≡ get_or now at i → set now at (marked_instruction (get_or marks at false) i) ≡ marked_code marks (take (at + 1) before) ++ drop (at + 1) before
+code_over marks before now at i lt is read =
+    let front = marked_code marks (take at before) in
+    let mark = marked_instruction (get_or marks at false) i in
+    let long : length front ≡ at = code_long marks (take at before) ∙ length-take-le at before (omega (arith, lt)) in
+    let parts : now ≡ front ++ get_or before at i ∷ drop (at + 1) before = is ∙ ap (λ l. front ++ l) (drop_more before at i lt) in
+    let there : i ≡ get_or before at i = read ∙ ap (λ l. get_or l at i) parts ∙ get_or_at front _ _ i at long in
+    ap (λ l. set l at mark) parts ∙ set_at front _ _ mark at long ∙ sym (append_assoc front (mark ∷ []) _)
+    ∙ ap (λ l. l ++ drop (at + 1) before) (sym (code_next marks before at i lt there))
+
+pub functions_over : (marks : List (List Bool)) (before now : List Function) (g : ℕ) (f : Function) → g < length before → now ≡ marked_functions marks (take g before) ++ drop g before → f ≡ get_or now g f → set now g (marked_function (get_or marks g []) f) ≡ marked_functions marks (take (g + 1) before) ++ drop (g + 1) before
+functions_over marks before now g f lt is read =
+    let front = marked_functions marks (take g before) in
+    let mark = marked_function (get_or marks g []) f in
+    let long : length front ≡ g = functions_long marks (take g before) ∙ length-take-le g before (omega (arith, lt)) in
+    let parts : now ≡ front ++ get_or before g f ∷ drop (g + 1) before = is ∙ ap (λ l. front ++ l) (drop_more before g f lt) in
+    let there : f ≡ get_or before g f = read ∙ ap (λ l. get_or l g f) parts ∙ get_or_at front _ _ f g long in
+    ap (λ l. set l g mark) parts ∙ set_at front _ _ mark g long ∙ sym (append_assoc front (mark ∷ []) _)
+    ∙ ap (λ l. l ++ drop (g + 1) before) (sym (functions_next marks before g f lt there))
 
 -- ---- the image
 

@@ -2,7 +2,7 @@
 use Rattle.std.specs.Prelude.{◌≡◌, ◌<◌, ℕ, nat_eq, List, [], length, get_or, slice_get, Some}
 use Rattle.std.specs.List.{All, AllByRecursion as Every, list_any}
 use Rattle.rc_facts.specs.declared.fact.Fact.{Fact}
-use Rattle.rc_flow.specs.Flow.{set_at}
+use Rattle.rc_facts.specs.Flow.{set_at}
 use Rattle.rc_code.specs.declared.image.Parts.{Parts}
 use Rattle.rc_code.specs.Image.{FieldsFit}
 use Rattle.rc_code.specs.Running.{reading_of, function_at}

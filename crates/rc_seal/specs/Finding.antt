@@ -14,7 +14,7 @@ use Rattle.rc_sealed.specs.Faults.{NoneIsWide}
 use Rattle.rc_sealed.specs.Pinned.{Pinned}
 use Rattle.rc_greatest_proofs.specs.Admitted.{IsAdmitted}
 use Rattle.rc_greatest_proofs.specs.Marks.{ProvedBare}
-use Rattle.rc_prove.specs.declared.route.Route.{Route}
+use Rattle.rc_prove_parts.specs.declared.route.Route.{Route}
 use Rattle.rc_prove.specs.Family.{Family, claimed, IsRoute}
 use Rattle.rc_prove_marks.specs.Checked.{TellsChecked}
 

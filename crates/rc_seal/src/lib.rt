@@ -8,7 +8,6 @@
 #![tactic(auto)]
 
 mod claims;
-mod copying;
 mod finding;
 mod marking;
 mod numbers;

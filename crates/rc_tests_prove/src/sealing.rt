@@ -85,8 +85,8 @@ fn is_written(alloc: Global, image: &Image, proofs: &Proofs, bytes: &[u8]) -> bo
 }
 
 /// Whether a sound image is sealed as these bytes.
-fn is_proved_as(alloc: Global, image: &Image, bytes: &[u8]) -> bool
-    requires { Sound image.now }
+fn is_proved_as(alloc: Global, image: Image, bytes: &[u8]) -> bool
+    requires { Sound image }
 {
     match prove(alloc, image) {
         Ok((sealed, proofs)) => is_written(alloc, &sealed, &proofs, bytes),
@@ -100,14 +100,14 @@ fn is_sealed_as(alloc: Global, bytes: &[u8], wanted: &[u8]) -> bool {
         Err(_) => false,
         Ok((image, _)) => match sound(alloc, &image) {
             Err(_) => false,
-            Ok(()) => is_proved_as(alloc, &image, wanted),
+            Ok(()) => is_proved_as(alloc, image, wanted),
         },
     }
 }
 
 /// Whether this is told of a sound image.
-fn is_told(alloc: Global, image: &Image, wanted: ProofFault) -> bool
-    requires { Sound image.now }
+fn is_told(alloc: Global, image: Image, wanted: ProofFault) -> bool
+    requires { Sound image }
 {
     match prove(alloc, image) {
         Ok(_) => false,
@@ -121,7 +121,7 @@ fn is_refused(alloc: Global, bytes: &[u8], wanted: ProofFault) -> bool {
         Err(_) => false,
         Ok((image, _)) => match sound(alloc, &image) {
             Err(_) => false,
-            Ok(()) => is_told(alloc, &image, wanted),
+            Ok(()) => is_told(alloc, image, wanted),
         },
     }
 }

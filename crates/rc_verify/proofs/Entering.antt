@@ -9,7 +9,7 @@ use Rattle.rc_facts.specs.declared.fact.Fact.TheVariants.{In, Up, Trad, NonNull}
 use Rattle.rc_facts.specs.Derivable.{Derivable, stated}
 use Rattle.rc_facts.specs.Facts.{Known, holds, is_over, same_fact}
 use Rattle.rc_facts.proofs.Sets.{same_fact-true}
-use Rattle.rc_flow.specs.Flow.{Facts}
+use Rattle.rc_facts.specs.Flow.{Facts}
 use Rattle.rc_annotations.specs.Annotations.{Annotation, some_pair}
 use Rattle.rc_annotations.proofs.Derivations.{derivable_cut, derivable_more}
 use Rattle.rc_edges.proofs.Downward.{over_more}

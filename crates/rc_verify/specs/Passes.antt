@@ -3,7 +3,7 @@ use Rattle.std.specs.Prelude.{◌≡◌, ◌<◌, ◌↔◌, ℕ, Bool, false, I
 use Rattle.rc_facts.specs.declared.fact.Fact.{Fact}
 use Rattle.rc_facts.specs.Derivable.{Derivable}
 use Rattle.rc_facts.specs.Facts.{Known, holds}
-use Rattle.rc_flow.specs.Flow.{no_set, set_at}
+use Rattle.rc_facts.specs.Flow.{no_set, set_at}
 use Rattle.rc_annotations.specs.Annotations.{Annotation}
 use Rattle.rc_code.specs.declared.image.Function.{Function}
 use Rattle.rc_code.specs.declared.image.Parts.{Parts}

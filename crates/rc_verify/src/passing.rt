@@ -4,7 +4,7 @@ ghost use Rattle.std.specs.List.{All};
 ghost use Rattle.rc_facts.specs.declared.fact.Fact.{Fact as AnyFact};
 ghost use Rattle.rc_facts.specs.Facts.{holds, is_over};
 ghost use Rattle.rc_facts.specs.Derivable.{Derivable};
-ghost use Rattle.rc_flow.specs.Flow.{set_at};
+ghost use Rattle.rc_facts.specs.Flow.{set_at};
 ghost use Rattle.rc_claims.specs.Claims.{ProofsFit};
 ghost use Rattle.rc_sealed.specs.ImageVariables.{scratch, variables};
 ghost use Rattle.rc_sealed.specs.Carrying.{height as height_at};

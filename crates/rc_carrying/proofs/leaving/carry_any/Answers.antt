@@ -1,7 +1,7 @@
 use Rattle.std.proofs.Common.{◌<◌, ◌∙◌, ◌↔◌, IsTrue, Option, ℕ, sym, subst, arith}
 use Rattle.rc_facts.specs.declared.fact.Fact.{Fact}
 use Rattle.rc_facts.specs.Facts.{holds, is_over}
-use Rattle.rc_flow.specs.Flow.{Behind, set_at}
+use Rattle.rc_facts.specs.Flow.{Behind, set_at}
 use Rattle.rc_rlang.specs.RegionFlow.{assigned}
 use Rattle.rc_graph.specs.Nodes.{effect_of}
 use Rattle.rc_edges.specs.Edges.{renewed}

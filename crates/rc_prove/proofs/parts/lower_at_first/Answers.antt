@@ -2,7 +2,7 @@ use Rattle.std.proofs.Common.{◌<◌, ◌≤◌, List, [], length, get_or, take
 use Rattle.std.proofs.lemmas.List.{length-map, get_or-map}
 use Rattle.rc_facts.specs.Facts.{Known}
 use Rattle.rc_code.specs.Running.{Reading}
-use Rattle.rc_prove.specs.declared.spot.Spot.{Spot}
+use Rattle.rc_prove_parts.specs.declared.spot.Spot.{Spot}
 use Rattle.rc_prove.specs.Visiting.{sets_of}
 use Rattle.rc_prove.specs.Lowering.{Lessens, LooksFrom}
 use Rattle.rc_prove.specs.Family.{items_of, family_of, LessenedAt}

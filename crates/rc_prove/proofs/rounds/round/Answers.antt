@@ -1,6 +1,6 @@
 use Rattle.std.proofs.Common.{◌∙◌, get_or, Some, sym, ap, subst, arith}
 use Rattle.std.proofs.lemmas.Option.{slice_get-get_or}
-use Rattle.rc_prove.specs.declared.route.Route.{Route}
+use Rattle.rc_prove_parts.specs.declared.route.Route.{Route}
 use Rattle.rc_prove.specs.Family.{family_of, RouteFits, Rounded}
 use Rattle.rc_prove.proofs.Families.{fits_later, rounded_none, rounded_more}
 use Rattle.rc_prove.proofs.rounds.round.Goals as goal

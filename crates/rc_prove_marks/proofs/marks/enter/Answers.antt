@@ -3,7 +3,7 @@ use Rattle.std.proofs.lemmas.List.{length-map, get_or-map}
 use Rattle.rc_facts.specs.Derivable.{Derivable}
 use Rattle.rc_facts.specs.Facts.{Known, holds}
 use Rattle.rc_annotations.specs.Annotations.{some_pair}
-use Rattle.rc_flow.specs.Flow.{no_set, set_at}
+use Rattle.rc_facts.specs.Flow.{no_set, set_at}
 use Rattle.rc_boundaries.proofs.Handing.{set_there}
 use Rattle.rc_sealed.specs.Carrying.{entry_pairs}
 use Rattle.rc_prove.specs.Family.{family_of, items_of}

@@ -5,7 +5,7 @@ use Rattle.std.proofs.lemmas.List.{length-map, get_or-map}
 use Rattle.std.proofs.lemmas.List.Elements.{All-get_or}
 use Rattle.rc_facts.specs.Derivable.{Derivable}
 use Rattle.rc_facts.specs.Facts.{Known, holds}
-use Rattle.rc_flow.specs.Flow.{set_at}
+use Rattle.rc_facts.specs.Flow.{set_at}
 use Rattle.rc_graph.specs.Nodes.{effect_of}
 use Rattle.rc_carrying.specs.Passing.{CarriesOver}
 use Rattle.rc_prove.specs.Family.{items_of, family_of, sets_at}
@@ -45,9 +45,9 @@ returns c =
     (subst (λ (xs : List Known). CarriesOver before.variables (route.place.result + 1) xs (effect_of spot.effect) spot.low spot.top (holds before) (holds mid)) c.as_slice.ensures.value c.in_ok-carry.ensures.facts)) in
     record {
       next = goes_to route m c.requires.fits c.args.at spot there fit before mid after c.requires.here c.carry.ensures.variables c.restart.ensures.variables carries (record {
-        kept = c.restart.ensures.kept;
+        kept = λ e. c.restart.ensures.kept (c.set-next.ensures ∙ e);
         whole = λ r e fact. subst (λ (fs : List Known). IsTrue (holds after fact) ↔ Derivable n (set_at fs r) fact) frames
-            (subst (λ k. IsTrue (holds after fact) ↔ Derivable k (set_at c.as_slice-2.result.now r) fact) (c.carry.ensures.variables ∙ wide) (c.restart.ensures.whole r e fact));
+            (subst (λ k. IsTrue (holds after fact) ↔ Derivable k (set_at c.as_slice-2.result.now r) fact) (c.carry.ensures.variables ∙ wide) (c.restart.ensures.whole r (c.set-next.ensures ∙ e) fact));
       });
       tells = tells_checked route m c.args.at spot there before c.requires.here c.proves-proved.result c.proves-proved.ensures;
     }

@@ -1,6 +1,6 @@
 use Rattle.std.proofs.Common.{List, length, map, sym, subst}
 use Rattle.std.specs.List.{All}
-use Rattle.rc_prove.specs.declared.route.Route.{Route}
+use Rattle.rc_prove_parts.specs.declared.route.Route.{Route}
 use Rattle.rc_prove.specs.declared.start.Counts.{Counts}
 use Rattle.rc_prove.specs.Family.{family_of, RouteFits}
 use Rattle.rc_prove.specs.Starting.{IsBegun}

@@ -7,9 +7,9 @@ use Rattle.rc_seal.proofs.marking.marked.Goals as goal
 pub new-requires : goal.new-requires
 new-requires c =
     let marks = map bits_of c.args.marks.now in
-    subst FieldsFit (ap (with_marks marks) (sym c.parts.ensures.parts) ∙ sym c.in_ok-parts.ensures) (marked_fits marks c.args.image.now c.parts.ensures.fit)
+    subst FieldsFit (sym (c.marked_parts.ensures ∙ ap (with_marks marks) c.into_parts.ensures.parts)) (marked_fits marks c.args.image c.into_parts.ensures.fit)
 
 pub returns : goal.returns
 returns c =
     let marks = map bits_of c.args.marks.now in
-    subst (IsMarked marks c.args.image.now) (ap (with_marks marks) (sym c.parts.ensures.parts) ∙ sym c.in_ok-parts.ensures ∙ sym c.new.ensures) (is_marked marks c.args.image.now)
+    subst (IsMarked marks c.args.image) (sym (c.new.ensures ∙ c.marked_parts.ensures ∙ ap (with_marks marks) c.into_parts.ensures.parts)) (is_marked marks c.args.image)

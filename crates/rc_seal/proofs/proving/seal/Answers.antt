@@ -7,8 +7,8 @@ use Rattle.rc_seal.proofs.proving.seal.Goals as goal
 
 pub returns : goal.returns
 returns c =
-    let parts = c.args.image.now in
+    let parts = c.args.image in
     let marks = map bits_of c.in_ok-found.found.marks.items in
     let found = subst (λ (p : Parts). AreFound p c.in_ok-found.found.proofs marks) c.parts.ensures.parts c.in_ok-found.ensures in
-    sealed_as parts c.in_ok-sealed.sealed c.in_ok-found.found.proofs marks c.requires.free found
-    (subst (λ (all : List (Vec Bool Global)). IsMarked (map bits_of all) parts c.in_ok-sealed.sealed) c.as_slice.ensures.value c.in_ok-sealed.ensures)
+    sealed_as parts c.marked-sealed.result c.in_ok-found.found.proofs marks c.requires.free found
+    (subst (λ (all : List (Vec Bool Global)). IsMarked (map bits_of all) parts c.marked-sealed.result) c.as_slice.ensures.value c.marked-sealed.ensures)

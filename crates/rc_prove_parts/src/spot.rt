@@ -1,5 +1,6 @@
 // What a pass has to know of an instruction.
 
+use crate::lead::Lead;
 use rc_graph::Effect;
 
 /// What a pass has to know of an instruction.
@@ -7,18 +8,18 @@ use rc_graph::Effect;
 pub struct Spot {
     /// What it does to the variables.
     pub effect: Effect,
+    /// The set of the target that it names and goes to, by its number among those of the function.
+    pub jumped: Lead,
+    /// The set of the next instruction, if that is a target and the run may go on there.
+    pub fallen: Lead,
+    /// The set of the next instruction, if that is a target.
+    pub next: Lead,
     /// Nothing stays known of the variables from here ..
-    pub low: u32,
+    pub low: u8,
     /// .. to below this one, but of the assigned one.
-    pub top: u32,
+    pub top: u8,
     /// Whether the function ends there.
     pub returns: bool,
-    /// The set of the target that it names and goes to, by its number among those of the function.
-    pub jumped: Option<u32>,
-    /// The set of the next instruction, if that is a target and the run may go on there.
-    pub fallen: Option<u32>,
-    /// The set of the next instruction, if that is a target.
-    pub next: Option<u32>,
 }
 
 /// A function, and the numbers of its variables.

@@ -9,7 +9,7 @@ use std::alloc::Global;
 
 /// A set that an instruction gives facts to.
 #[derive(Clone, Copy)]
-pub(crate) enum Loss {
+pub enum Loss {
     /// That of the entry of a function.
     Entry(usize),
     /// That of the exit of the function that is gone over.
@@ -20,13 +20,15 @@ pub(crate) enum Loss {
 
 /// Whether sets lost facts, and which may have.
 #[derive(Drop)]
-pub(crate) struct Losses {
+pub struct Losses {
+    /// Whether one did.
     pub lost: bool,
+    /// Those that may have.
     pub sets: Vec<Loss>,
 }
 
 /// No set lost a fact.
-pub(crate) fn no_losses(alloc: Global) -> Losses
+pub fn no_losses(alloc: Global) -> Losses
     ensures { result.lost ≡ false }
 {
     Losses {
@@ -44,7 +46,7 @@ fn note_target(sets: &mut Vec<Loss>, target: Option<u32>) -> Result<(), NoMemory
 }
 
 /// With the set of the first instruction noted, if that is a target and its set lost a fact.
-pub(crate) fn with_first(
+pub fn with_first(
     mut sets: Vec<Loss>,
     first: Option<u32>,
     lost: bool,
@@ -56,15 +58,15 @@ pub(crate) fn with_first(
 }
 
 /// Notes the sets that an instruction gives facts to, if one of them lost a fact.
-pub(crate) fn note(sets: &mut Vec<Loss>, spot: &Spot, lost: bool) -> Result<(), NoMemory> {
+pub fn note(sets: &mut Vec<Loss>, spot: &Spot, lost: bool) -> Result<(), NoMemory> {
     if !lost {
         return Ok(());
     }
     if spot.returns {
         sets.push(Loss::Exit)?;
     }
-    note_target(sets, spot.jumped)?;
-    note_target(sets, spot.fallen)?;
+    note_target(sets, spot.jumped.set())?;
+    note_target(sets, spot.fallen.set())?;
     let Effect::Called {
         result: _,
         function,

@@ -1,23 +1,15 @@
 // Which parts of the ways through functions depend on which sets.
 
-use crate::parts::Start;
+use crate::part::{Part, Start};
 use crate::route::Route;
 use crate::spot::Spot;
 use rc_base::NoMemory;
 use rc_graph::Effect;
 use std::alloc::Global;
 
-/// A part of the way through a function.
-#[derive(Clone, Copy)]
-pub(crate) struct Part {
-    pub route: usize,
-    pub function: usize,
-    pub start: Start,
-}
-
 /// The parts that read sets of a function, by their numbers.
 #[derive(Drop)]
-pub(crate) struct Readers {
+pub struct Readers {
     /// The one that begins at the entry.
     pub entry: Option<usize>,
     /// Those that begin at the targets.
@@ -28,8 +20,10 @@ pub(crate) struct Readers {
 
 /// All parts, and those that read the sets of each function.
 #[derive(Drop)]
-pub(crate) struct Map {
+pub struct Map {
+    /// The parts, in the order of the functions.
     pub parts: Vec<Part>,
+    /// The readers of each function.
     pub functions: Vec<Readers>,
 }
 
@@ -83,7 +77,7 @@ fn add_call(map: &mut Map, spot: &Spot, part: usize) -> Result<(), NoMemory> {
 
 /// The part behind an instruction of a part: another one, if a target stands there.
 fn next_part(map: &mut Map, spot: &Spot, part: usize, other: Part) -> Result<usize, NoMemory> {
-    if spot.next.is_none() {
+    if spot.next.set().is_none() {
         return Ok(part);
     }
     let number = add_part(map, other)?;
@@ -142,7 +136,7 @@ fn add_route(map: &mut Map, number: usize, route: &Route) -> Result<(), NoMemory
 }
 
 /// The parts of all functions, in their order.
-pub(crate) fn map_of(alloc: Global, routes: &[Route], functions: usize) -> Result<Map, NoMemory> {
+pub fn map_of(alloc: Global, routes: &[Route], functions: usize) -> Result<Map, NoMemory> {
     let mut map = empty_map(alloc, functions)?;
     for number in 0..routes.len() {
         add_route(&mut map, number, &routes[number])?;

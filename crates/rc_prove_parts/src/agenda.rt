@@ -2,7 +2,8 @@
 ghost use Rattle.std.specs.Prelude.{◌<◌, ◌+◌, OnSome, length};
 
 use crate::losses::{Loss, Losses};
-use crate::map::{Map, Part};
+use crate::map::Map;
+use crate::part::Part;
 use rc_base::NoMemory;
 use std::alloc::Global;
 use std::collections::VecDeque;
@@ -11,7 +12,7 @@ use std::collections::VecDeque;
 /// all that it waits for is gone over before it. But those of a function that is gone over come before
 /// all others: a loop is gone over until it loses nothing, and only then what stands behind it.
 #[derive(Drop)]
-pub(crate) struct Agenda {
+pub struct Agenda {
     /// Those of the function that is gone over.
     pub near: VecDeque<usize>,
     /// All others.
@@ -21,7 +22,7 @@ pub(crate) struct Agenda {
 }
 
 /// All of so many parts, in their order.
-pub(crate) fn all_parts(alloc: Global, parts: usize) -> Result<Agenda, NoMemory> {
+pub fn all_parts(alloc: Global, parts: usize) -> Result<Agenda, NoMemory> {
     let mut list = VecDeque::new(alloc);
     let mut waits = Vec::new(alloc);
     for part in 0..parts {
@@ -46,7 +47,7 @@ fn take(agenda: &mut Agenda) -> Option<usize>
 }
 
 /// Takes out the next one.
-pub(crate) fn next_of(agenda: &mut Agenda, map: &Map) -> Option<Part>
+pub fn next_of(agenda: &mut Agenda, map: &Map) -> Option<Part>
     ensures { OnSome result (length agenda.new.near.items + length agenda.new.list.items < length agenda.old.near.items + length agenda.old.list.items) }
 {
     let Some(number) = take(agenda) else {
@@ -124,7 +125,7 @@ fn put_readers(agenda: &mut Agenda, map: &Map, function: usize, set: Loss) -> Re
 }
 
 /// Puts in the parts that read the sets that lost facts when a part of a function was gone over.
-pub(crate) fn put_losses(
+pub fn put_losses(
     agenda: &mut Agenda,
     map: &Map,
     function: usize,
