@@ -29,14 +29,9 @@ fn not_sealed(reason: NotRun) -> Result<Done, Fault>
 
 /// Stores an image whose code keeps the rules under this name, with the greatest proofs of it and with a
 /// mark at each store whose check they prove; or refuses it.
-fn seal_sound<F: Shelf>(
-    alloc: Global,
-    image: &Image,
-    to: &str,
-    files: &mut F,
-) -> Result<Done, Fault>
-    requires { Sound image.now }
-    ensures { Sealed image.now to.now (F.state files.old) (F.state files.new) result }
+fn seal_sound<F: Shelf>(alloc: Global, image: Image, to: &str, files: &mut F) -> Result<Done, Fault>
+    requires { Sound image }
+    ensures { Sealed image to.now (F.state files.old) (F.state files.new) result }
 {
     match prove(alloc, image) {
         Ok((sealed, proofs)) => store_sealed(alloc, &sealed, &proofs, to, files),
@@ -45,10 +40,10 @@ fn seal_sound<F: Shelf>(
 }
 
 /// Stores an image so, or refuses it, also for a rule that its code breaks.
-fn seal<F: Shelf>(alloc: Global, image: &Image, to: &str, files: &mut F) -> Result<Done, Fault>
-    ensures { Sealed image.now to.now (F.state files.old) (F.state files.new) result }
+fn seal<F: Shelf>(alloc: Global, image: Image, to: &str, files: &mut F) -> Result<Done, Fault>
+    ensures { Sealed image to.now (F.state files.old) (F.state files.new) result }
 {
-    match sound_code(alloc, image) {
+    match sound_code(alloc, &image) {
         Ok(()) => seal_sound(alloc, image, to, files),
         Err(reason) => not_sealed(reason),
     }
@@ -65,7 +60,7 @@ pub fn seal_image<F: Shelf>(
     ensures { (request : Option Request) (input : SourceState) (out err : SinkState) (heap : KeptStore) → SealsOf request from.now to.now → Performs request (outside (F.state files.old) input out err heap) (outside (F.state files.new) input out err heap) result }
 {
     match load_image(alloc, from, files) {
-        Ok(carried) => seal(alloc, &carried.image, to, files),
+        Ok(carried) => seal(alloc, carried.image, to, files),
         Err(NoImage::Refused(refusal)) => Ok(Done::ImageRefused(refusal)),
         Err(NoImage::Failed(fault)) => Err(fault),
     }
